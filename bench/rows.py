@@ -185,6 +185,28 @@ class Run:
                 since = None
         return lengths
 
+    def trusts(self, observer, subject):
+        """How often the observer noted that it trusts the subject again, on layer 1."""
+        notes = [it["notes"].split() for it in self.entries if int(it["receiver"]) == observer]
+        return sum(it.count(f"trust:1:{subject}") for it in notes)
+
+    def slowest(self, sender, receiver):
+        """The longest delay of a link."""
+        own = [it for it in self.file.get("links", []) if [it["from"], it["to"]] == [sender, receiver]]
+        return (own or [self.file["link"]])[0]["max"]
+
+    def bound(self, observer, subject):
+        """How many ticks after its crash, at most, the subject is suspected to the end on layer 1; None where that isn't
+        before the horizon."""
+        its, crash = self.file["detector"], self.crashes[subject]
+        if its.get("kind") == "freshness":
+            tick = (max(crash - 1, 0) // its["eta"] + 1) * its["eta"] + its["delta"]
+        else:
+            last = (crash - 1) // its["period"] * its["period"] + self.slowest(subject, observer) if crash else 0
+            grown = its["timeout"] + its.get("grow", 1) * self.trusts(observer, subject)
+            tick = math.ceil((last + grown) / its["check"]) * its["check"]
+        return max(tick - crash, 0) if tick < self.horizon else None
+
     def values(self, section, layer, observer, subject):
         return {row["measure"]: row["value"] for row in self.rows if row["section"] == section
                 and [int(row["layer"]), int(row["observer"]), int(row["subject"])] == [layer, observer, subject]}
@@ -202,6 +224,12 @@ def rank(percent, values, infinite):
 
 def most(values):
     return max(values, default=None)
+
+
+def detection_bound(done):
+    """The greatest of the bounds on layer 1 of all crashes that were to be detected; none where one has none."""
+    bounds = [run.bound(q, p) for run in done for q, p in run.pairs(1) if run.is_correct(q) and not run.is_correct(p)]
+    return None if None in bounds else most(bounds)
 
 
 def detections(done, layer):
@@ -283,6 +311,7 @@ def row_of(runs, layer):
     row["mistake_recurrence"] = row["pair_ticks"] // row["mistakes"] if row["mistakes"] else None
     row["mistaken_ppm"] = 1000000 * row["mistake_ticks"] // row["pair_ticks"] if row["pair_ticks"] else None
     row |= detections(done, layer) | decisions(done)
+    row["detection_bound"] = detection_bound(done) if layer == 1 else None
     for name in VERDICTS:
         row[name] = sum(run.values("verdict", layer, 0, 0)[name] not in ("no", "none") for run in done)
     row["mistake_run"] = first(runs, lambda run: layer in run.layers and mistakes_of(run, layer) > 0)

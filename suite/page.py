@@ -331,14 +331,6 @@ def expected(row, network):
     return mean, math.sqrt(variance)
 
 
-def detection_bound(row, network):
-    """The longest detection of who crashes after its first letter, where no time-out grew."""
-    period, bound = int(row["period"]), int(row["bound"])
-    if row["detector"] == "freshness":
-        return period + bound - 1
-    return bound + network.slowest[1] + time_outs(network, period, 0, "full")["check"] - 2
-
-
 def theory_lines(frontiers, found):
     """Of each row in which all watch all what the closed forms say, and how far it is off."""
     yield ["row", "mistakes_expected", "standard_error", "mistakes", "errors_off", "detection_bound", "detection_max",
@@ -347,7 +339,7 @@ def theory_lines(frontiers, found):
         network, forms, median = found[row["network"]], ["", "", row["mistakes"], ""], ""
         if row["watch"] != "all" or network.laid:
             continue
-        period, bound = int(row["period"]), detection_bound(row, network)
+        period = int(row["period"])
         if row["detector"] == "freshness":
             # the next heartbeat would have been sent at the next multiple of the period
             sure = sorted(-it % period + int(row["bound"]) for it in crash_ticks(row, network))
@@ -356,8 +348,9 @@ def theory_lines(frontiers, found):
             mean, error = expected(row, network)
             off = f"{(int(row['mistakes']) - mean) / error:.2f}" if error > 0 else ""
             forms = [f"{mean:.4g}" if mean < 1000 else f"{mean:.0f}", f"{error:.3g}", row["mistakes"], off]
-        longest = row["detection_max"]
-        above = int(longest) - bound if longest else ""
+        # rows of an older program have no bound
+        longest, bound = row["detection_max"], row.get("detection_bound", "")
+        above = int(longest) - int(bound) if longest and bound else ""
         yield [row["row"], *forms, bound, longest, above, median, row["detection_p50"]]
 
 
@@ -373,7 +366,8 @@ def theory_table(lines):
         mine = mine if detector == "freshness" else [it for it in mine if "-" not in it["row"]]
         off = [abs(float(it["errors_off"])) for it in mine if it["errors_off"] and float(it["mistakes_expected"]) >= 10]
         within = " | ".join(str(sum(it <= errors for it in off)) for errors in (1, 2, 3))
-        yield f"{words} | {len(off)} | {within} | {min(above)} to {max(above)}"
+        least_most = f"{min(above)} to {max(above)}" if above else ""
+        yield f"{words} | {len(off)} | {within} | {least_most}"
 
 
 def theory_curve(network, letters, least, most):

@@ -66,7 +66,7 @@ WARNING = "fdstudy: at each point every run has the same outages of the scenario
 FRONTIERS = (
     "layer,runs,limited,entries,sent,lost,pair_ticks,mistakes,mistake_ticks,mistake_recurrence,mistaken_ppm,"
     "mistakes_squared_sum,runs_with_mistakes,duration_p99,duration_max,detections,undetected,at_once,detection_sum,"
-    "detection_p50,detection_p90,detection_p99,detection_max").split(",")
+    "detection_p50,detection_p90,detection_p99,detection_max,detection_bound").split(",")
 CONSENSUS = (
     "layer,runs,limited,entries,sent,lost,mistakes,to_decide,decided,all_decided,last_decision_p50,last_decision_p90,"
     "last_decision_p99,last_decision_max,rounds_p50,rounds_p99,rounds_max,disagreements,disagreement_run").split(",")

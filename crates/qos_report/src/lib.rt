@@ -22,6 +22,6 @@ pub use bench::bench_windows;
 pub use process_api::PrintChoice;
 pub use reporting::{
     Detection, Durations, FuseOutlet, MemoryOutlet, Meter, Outlet, PairMeasures, RunDurations,
-    RunFindings, StreamOutlet, Summary, bench_list, measure_list, measures, put_all, write_report,
-    write_trace,
+    RunFindings, StreamOutlet, Summary, Trusts, bench_list, measure_list, measures, put_all,
+    write_report, write_trace,
 };

@@ -17,8 +17,8 @@ use scenario_record::Scenario;
 use std::alloc::Global;
 
 /// Runs a scenario by one global event list and tells all that is measured of it: what the report tells, with no text
-/// formed, how long each mistake was that ended, and how often each process was trusted again. No entry is held: each is
-/// measured as it comes.
+/// formed, how long each mistake was that ended, and how often each process was trusted again. No entry is held: each
+/// is measured as it comes.
 ///
 /// The machines are those of processes 1 to n, in this order, each in its opening state. They are consumed.
 ///

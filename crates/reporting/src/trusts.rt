@@ -25,7 +25,8 @@ fn count(counts: &mut [u32], n: usize, observer: Pid, subject: Pid)
 fn note(counts: &mut [u32], n: usize, observer: Pid, note: &Note)
     requires square { length counts.old ≡ n * n }
     ensures { (of : (q p : ℕ) → ℕ) → AreCounts n of counts.old
-        → AreCounts n (λ q p. of q p + (if observer == q then (if is_trust p note.now then 1 else 0) else 0)) counts.new }
+        → AreCounts n (λ q p. of q p + (if observer == q then (if is_trust p note.now then 1 else 0) else 0))
+        counts.new }
 {
     if let Note::Trust { layer: 1, who } = *note {
         count(counts, n, observer, who);
@@ -44,8 +45,8 @@ fn note_all(counts: &mut [u32], n: usize, observer: Pid, notes: &[Note])
     }
 }
 
-/// How often each process noted of each other one that it trusts it again, on layer 1, fed with the entries of a trace as
-/// they come. Counts stay at the greatest number, should they reach it.
+/// How often each process noted of each other one that it trusts it again, on layer 1, fed with the entries of a trace
+/// as they come. Counts stay at the greatest number, should they reach it.
 ///
 /// All its room is made as it opens.
 #[derive(Drop)]

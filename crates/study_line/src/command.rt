@@ -126,6 +126,7 @@ other columns tell of the runs of the row that have the layer, and are empty whe
   detection_p90             the 90th percentile of the same [ticks]
   detection_p99             the 99th percentile of the same [ticks]
   detection_max             the longest of those that came [ticks]
+  detection_bound           no detection on layer 1 can take longer; none where one may be missing [ticks]
   strong_completeness       runs in which from some tick on all correct processes suspect all crashed ones [runs]
   weak_completeness         runs in which from some tick on each crashed process is suspected by a correct one [runs]
   strong_accuracy           runs in which nobody is suspected before its crash [runs]

@@ -1,5 +1,9 @@
 -- Sums over two lists, one after the other.
-use Rattle.sweep.proofs.Words.{◌≡◌, ℕ, ◌+◌, ◌^◌, ◌<◌, ◌≤◌, Bool, cond, List, ◌++◌, length, length-append, sum, sym, ap, ◌∙◌, arith, count_by, filter_map, sum_by, filter_map-append, sum_by-append, count_by-le-length, Outcome, PairMeasures, plus, plus_few, pairs_plus, decisions_plus, traces_plus, ArePairSums, AreDecisionSums, AreTraceSums, ArePairsWithin, AreDecisionsWithin, AreTracesWithin, Finished, has_decided, decision_tick, greater, greatest, DecisionSums, PairSums, TraceSums}
+use Rattle.sweep.proofs.Words.{◌≡◌, ℕ, ◌+◌, ◌^◌, ◌<◌, ◌≤◌, Bool, cond, ◌||◌, list_any-append, Option, List, ◌++◌, length, length-append, sum, sym, ap, ◌∙◌, arith, count_by, filter_map, sum_by, filter_map-append, sum_by-append, count_by-le-length, Outcome, PairMeasures, plus, plus_few, pairs_plus, decisions_plus, traces_plus, ArePairSums, AreDecisionSums, AreTraceSums, ArePairsWithin, AreDecisionsWithin, AreTracesWithin, Finished, has_decided, decision_tick, greater, greatest, DecisionSums, PairSums, TraceSums}
+use Rattle.std.specs.Prelude.{is_none}
+use Rattle.sweep.specs.Columns.{AreBounds}
+use Rattle.sweep.specs.Inside.Adding.{bounds_plus}
+use Rattle.sweep.specs.declared.columns.DetectionBounds.{DetectionBounds}
 use Rattle.sweep.proofs.Greatest.{greatest_both}
 
 pub added : {X : Type 0} (f : X → ℕ) (xs ys : List X) (a b A B : ℕ) → A + B < 2 ^ 128 → a ≡ sum_by f xs → b ≡ sum_by f ys → a ≤ A → b ≤ B → plus a b ≡ sum_by f (xs ++ ys)
@@ -40,3 +44,11 @@ module _ (xs ys : List Outcome) (a b : DecisionSums) (A B : ℕ) (room : A + B <
         ∙ sym (greatest_both (filter_map decision_tick xs) (filter_map decision_tick ys))
         ∙ ap greatest (sym (filter_map-append decision_tick xs ys));
   }
+
+pub bounds_added : (xs ys : List (Option ℕ)) (a b : DetectionBounds) → AreBounds xs a → AreBounds ys b → AreBounds (xs ++ ys) (bounds_plus a b)
+bounds_added xs ys a b s t =
+    let own : Option ℕ → Option ℕ = λ bound. bound in
+    record {
+      highest = (λ i. greater (s.highest i) (t.highest i)) ∙ sym (greatest_both (filter_map own xs) (filter_map own ys)) ∙ ap greatest (sym (filter_map-append own xs ys));
+      late = (λ i. s.late i || t.late i) ∙ sym (list_any-append is_none xs ys);
+    }

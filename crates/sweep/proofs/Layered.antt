@@ -1,6 +1,10 @@
 -- The runs that have a layer, and what is added up of them.
-use Rattle.sweep.proofs.Words.{◌≡◌, ℕ, ◌+◌, ◌*◌, ◌^◌, ◌<◌, ◌≤◌, Bool, true, false, cond, is_some, Option, Some, None, List, [], ◌∷◌, ◌++◌, length, sym, ap, ◌∙◌, refl, subst, arith, nat_lt, ◌||◌, ◌==◌, length-append, cons_option, count_by, filter_map, flat_map, list_any, lt-ltb, flat_map-append, filter-append, filter_map-append, count_by-le-length, length-filter, Record, layer_plus, has_layer, on_layer, finished_of, finish_of, done_on, all_pairs, all_durations, all_detections, last_decisions, top_rounds, is_limited, AreDoneSums, AreRunCounts, AreVerdictCounts, ArePairSums, AreDecisionSums, most_runs, most_of, IsLayerWithin, Finished, counted_pairs, pair_ticks, mistakes, durations, detections, run_outcomes, deciding, last_decision, top_round, Trial, AreFitting, Group, LayerSums}
-use Rattle.sweep.proofs.Added.{added, counted, traces_added, pairs_added, decisions_added}
+use Rattle.sweep.proofs.Words.{All, ◌≡◌, ℕ, ◌+◌, ◌*◌, ◌^◌, ◌<◌, ◌≤◌, Bool, true, false, cond, is_some, Option, Some, None, List, [], ◌∷◌, ◌++◌, length, sym, ap, ◌∙◌, refl, subst, arith, nat_lt, ◌||◌, ◌==◌, length-append, cons_option, count_by, filter_map, flat_map, list_any, lt-ltb, flat_map-append, filter-append, filter_map-append, count_by-le-length, length-filter, Record, layer_plus, has_layer, on_layer, finished_of, finish_of, done_on, all_pairs, all_durations, all_detections, last_decisions, top_rounds, is_limited, AreDoneSums, AreRunCounts, AreVerdictCounts, ArePairSums, AreDecisionSums, most_runs, most_of, IsLayerWithin, Finished, counted_pairs, pair_ticks, mistakes, durations, detections, run_outcomes, deciding, last_decision, top_round, Trial, AreFitting, Group, LayerSums}
+use Rattle.std.proofs.lemmas.List.Elements.{All-append}
+use Rattle.reporting.specs.Grounds.{HasGrounds}
+use Rattle.sweep.specs.Columns.{AreBounds}
+use Rattle.sweep.specs.OneRun.{bounds}
+use Rattle.sweep.proofs.Added.{added, bounds_added, counted, traces_added, pairs_added, decisions_added}
 
 -- ---- layers
 
@@ -116,6 +120,8 @@ module _ (group : Group) (layer : ℕ) (xs ys : List Trial) (a b : LayerSums) (f
             (pairs_added (all_pairs group layer rs) (all_pairs group layer qs) a.pairs b.pairs A B (omega arith) p.within.pairs q.within.pairs d.pairs e.pairs);
         mistakes_squared_sum = added (λ r. mistakes group layer r * mistakes group layer r) rs qs a.mistakes_squared_sum b.mistakes_squared_sum A B (omega arith) d.mistakes_squared_sum e.mistakes_squared_sum p.within.mistakes_squared_sum q.within.mistakes_squared_sum;
         verdicts = verdicts_added;
+        bounds = subst (λ bs. AreBounds bs (layer_plus a b).bounds) (sym (flat_map-append (bounds group layer) rs qs))
+            (bounds_added (flat_map (bounds group layer) rs) (flat_map (bounds group layer) qs) a.bounds b.bounds d.bounds e.bounds);
         decisions = subst (λ os. AreDecisionSums os (layer_plus a b).decisions) (sym (flat_map-append deciding rs qs))
             (decisions_added (flat_map deciding rs) (flat_map deciding qs) a.decisions b.decisions A B (omega arith) p.within.decisions q.within.decisions d.decisions e.decisions);
         counts = counts_added;
@@ -134,6 +140,8 @@ module _ (group : Group) (layer : ℕ) (xs ys : List Trial) (a b : LayerSums) (f
               ∙ ap (count_by (λ t. is_limited t.result)) (sym (on_both layer xs ys));
           done = subst (λ rs. AreDoneSums group layer rs (layer_plus a b)) (sym (done_both layer xs ys)) done_added;
         };
+        grounds = subst (All (λ r. HasGrounds r.scenario r.trace)) (sym (done_both layer xs ys))
+            (All-append (λ r. HasGrounds r.scenario r.trace) (done_on layer xs) (done_on layer ys) p.grounds q.grounds);
         few_runs = omega (arith, long, few);
         within = subst (λ m. IsLayerWithin m (layer_plus a b)) (omega (arith, long)) within_both;
         few_detected = omega (arith, p.few_detected, q.few_detected, ap length (detections_both group layer xs ys), length-append (all_detections group layer xs) (all_detections group layer ys), long);

@@ -8,6 +8,7 @@ pub mod Lines
 pub mod Single
 pub mod Lasted
 pub mod Parts
+pub mod Bounding
 mod Reading
 mod Numbered
 mod Units

@@ -1,6 +1,8 @@
 -- What a row tells is told by the runs alone.
 use Rattle.sweep.proofs.Words.{rules, ◌≡◌, ℕ, ◌*◌, ◌≤◌, ◌++◌, List, [], ◌∷◌, Option, None, Some, is_some, cond, refl, sym, ap, ◌∙◌, subst, arith, AllZip, flat_map, list_any, Outcome, PairMeasures, over, all_detections, last_decisions, IsDistribution, AreTraceSums, ArePairSums, AreDecisionSums, AreVerdictCounts, AreRunCounts, AreLayerSums, AreFirstRuns, AreColumns, Finished, IsPercentile, Trial, Text, layer_text, AreRowsFor, AreRowsOfGroup, Group, DecisionSums, FirstRuns, LayerSums, PairSums, RunCounts, TraceSums}
 use Rattle.sweep.specs.declared.columns.Columns.{Columns}
+use Rattle.sweep.specs.Columns.{AreBounds}
+use Rattle.sweep.specs.declared.columns.DetectionBounds.{DetectionBounds}
 use Rattle.sweep.specs.declared.columns.Distribution.{Distribution}
 use Rattle.sweep.specs.declared.columns.VerdictCounts.{VerdictCounts}
 
@@ -28,6 +30,9 @@ one_trace_sums runs s t a b = search rules
 one_pair_sums : (pairs : List PairMeasures) (s t : PairSums) → ArePairSums pairs s → ArePairSums pairs t → s ≡ t
 one_pair_sums pairs s t a b = search rules
 
+one_bounds : (all : List (Option ℕ)) (s t : DetectionBounds) → AreBounds all s → AreBounds all t → s ≡ t
+one_bounds all s t a b = search rules
+
 one_decision_sums : (outcomes : List Outcome) (s t : DecisionSums) → AreDecisionSums outcomes s → AreDecisionSums outcomes t
     → s ≡ t
 one_decision_sums outcomes s t a b = search rules
@@ -49,6 +54,7 @@ module _ (group : Group) (layer : ℕ) where
     pairs = one_pair_sums _ s.pairs t.pairs a.done.pairs b.done.pairs i;
     mistakes_squared_sum = (a.done.mistakes_squared_sum ∙ sym b.done.mistakes_squared_sum) i;
     verdicts = one_verdict_counts layer _ s.verdicts t.verdicts a.done.verdicts b.done.verdicts i;
+    bounds = one_bounds _ s.bounds t.bounds a.done.bounds b.done.bounds i;
     decisions = one_decision_sums _ s.decisions t.decisions a.done.decisions b.done.decisions i;
     counts = one_run_counts _ s.counts t.counts a.done.counts b.done.counts i;
   }

@@ -8,7 +8,12 @@ use Rattle.reporting.specs.Distances.{count_below}
 use Rattle.reporting.specs.Measures.{layer_measures, pair_measures, starts}
 use Rattle.reporting.proofs.Layers.{one_layer, two_layers}
 use Rattle.reporting.specs.declared.summary.Summary.{Summary}
+use Rattle.reporting.specs.Grounds.{HasGrounds}
+use Rattle.std.proofs.lemmas.List.Elements.{All-cons, All-nil}
+use Rattle.sweep.specs.Columns.{AreBounds}
 use Rattle.sweep.specs.Inside.OwnSums.{AreOwnSums}
+use Rattle.sweep.specs.OneRun.{bounds}
+use Rattle.sweep.specs.declared.columns.DetectionBounds.{DetectionBounds}
 use Rattle.sweep.proofs.Lasted.{each_measure}
 use Rattle.sweep.proofs.Layered.{few_mapped}
 
@@ -94,7 +99,7 @@ module _ (group : Group) (S : Record) (trace : List EntryRecord) (ranges : IsInR
       → sum_by f (counted_of group layer S (layer_measures S trace layer)) ≤ most_mistakes 1
   few_each f each =
       let all = layer_measures S trace layer in
-      let low : All (λ m. f m ≤ 10000000) all = each_measure S trace layer (λ m. f m ≤ 10000000) (λ q p _ _ _ _. each q p) in
+      let low : All (λ m. f m ≤ 10000000) all = each_measure S trace layer (λ m. f m ≤ 10000000) (λ q p _ _ _ _ _. each q p) in
       let sum : sum_by f (counted_of group layer S all) ≤ length (counted_of group layer S all) * 10000000 =
       sum_by-le f 10000000 (counted_of group layer S all) (All-filter counts (λ m. f m ≤ 10000000) all low) in
       omega (arith, sum, few_counted)
@@ -142,7 +147,8 @@ module _ (group : Group) (layer : ℕ) (S : Record) (trace : List EntryRecord) (
 
   module _ (summary : Summary) (v : Verdicts) (pairs counted : List PairMeasures) (sums : LayerSums)
       (found : AreLayerFindings layer S trace summary v pairs) (is : counted ≡ counted_of group layer S pairs)
-      (decisions : DecisionSums) (own : AreOwnSums S summary v counted (deciding_of S summary.outcomes.items) decisions sums)
+      (its : DetectionBounds) (kept : AreBounds (bounds group layer one) its)
+      (decisions : DecisionSums) (own : AreOwnSums S summary v counted its (deciding_of S summary.outcomes.items) decisions sums)
       (decided : AreDecisionSums (deciding_of S summary.outcomes.items) decisions)
       (d : AreDecisionsWithin (length (deciding_of S summary.outcomes.items) * 2 ^ 64) decisions) where
     counted_is : counted ≡ counted_pairs group layer one
@@ -195,6 +201,7 @@ module _ (group : Group) (layer : ℕ) (S : Record) (trace : List EntryRecord) (
       pairs = subst (λ ms. ArePairSums ms sums.pairs) (counted_is ∙ sym (append-nil (counted_pairs group layer one))) own.pairs;
       mistakes_squared_sum = squared_is ∙ ap (λ m. m * m) mistakes_is ∙ sym (zero-add (mistakes group layer one * mistakes group layer one));
       verdicts = verdicts_one;
+      bounds = rw own.bounds (subst (λ bs. AreBounds bs its) (sym (append-nil (bounds group layer one))) kept);
       decisions = rw own.decisions (subst (λ os. AreDecisionSums os decisions) (deciding_is ∙ sym (append-nil (deciding one))) decided);
       counts = counts_one;
     }
@@ -238,6 +245,7 @@ module _ (group : Group) (layer : ℕ) (S : Record) (trace : List EntryRecord) (
         limited = own.limited ∙ ap (count_by (λ (t : Trial). is_limited t.result)) (sym on_one);
         done = subst (λ rs. AreDoneSums group layer rs sums) (sym done_one) done_alone;
       };
+      grounds = subst (All (λ r. HasGrounds r.scenario r.trace)) (sym done_one) (All-cons (λ r. HasGrounds r.scenario r.trace) one [] found.grounds (All-nil (λ r. HasGrounds r.scenario r.trace)));
       few_runs = omega arith;
       within = within_one;
       few_detected = omega (arith, ap length detections_one, few_mapped (λ (m : PairMeasures). detection_time m.detection) (counted_pairs group layer one), ap length counted_is, few);

@@ -1,6 +1,7 @@
 -- The columns of a row from the layer on.
 use Rattle.std.specs.Prelude.{ℕ, ◌+◌, ◌-◌, ◌*◌, ◌==◌, Bool, nat_le, nat_lt, if◌then◌else◌, Option, None, Some, List, [], ◌∷◌, map, codes}
 use Rattle.std.specs.List.{position, range_with_len}
+use Rattle.sweep.specs.Columns.{detection_bound}
 use Rattle.sweep.specs.declared.column_table.Told.{Told}
 use Rattle.sweep.specs.declared.column_table.Told.TheVariants.{All, Count, Sum, IfAny}
 use Rattle.sweep.specs.declared.columns.Columns.{Columns}
@@ -56,6 +57,7 @@ columns =
     ∷ (codes "detection_p90", λ layer c. IfAny c.detections.p90)
     ∷ (codes "detection_p99", λ layer c. IfAny c.detections.p99)
     ∷ (codes "detection_max", λ layer c. IfAny c.detections.greatest)
+    ∷ (codes "detection_bound", λ layer c. IfAny (detection_bound c.sums.bounds))
     ∷ (codes "strong_completeness", λ layer c. Count c.sums.verdicts.strong_completeness)
     ∷ (codes "weak_completeness", λ layer c. Count c.sums.verdicts.weak_completeness)
     ∷ (codes "strong_accuracy", λ layer c. Count c.sums.verdicts.strong_accuracy)

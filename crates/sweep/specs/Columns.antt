@@ -1,5 +1,5 @@
 -- What a row tells of a point's runs on a layer: sums, counts, percentiles and maxima over all of them.
-use Rattle.std.specs.Prelude.{◌≡◌, ℕ, ◌+◌, ◌*◌, ◌/◌, ◌==◌, Bool, true, false, if◌then◌else◌, is_some, Option, None, Some, List, [], ◌∷◌, length}
+use Rattle.std.specs.Prelude.{◌≡◌, ℕ, ◌+◌, ◌*◌, ◌/◌, ◌≤◌, ◌==◌, Bool, true, false, if◌then◌else◌, is_none, is_some, Option, None, Some, List, [], ◌∷◌, length}
 use Rattle.std.specs.List.{count_by, filter, filter_map, flat_map, list_any, sum, sum_by}
 use Rattle.judges.specs.Verdicts.{verdicts}
 use Rattle.judges.specs.declared.outcomes.Outcome.{Outcome}
@@ -7,11 +7,12 @@ use Rattle.judges.specs.declared.verdicts.Verdicts.{Verdicts}
 use Rattle.reporting.specs.Measures.{layers}
 use Rattle.reporting.specs.declared.pair_measures.PairMeasures.{PairMeasures}
 use Rattle.scenario_record.specs.Record.{Record}
-use Rattle.sweep.specs.OneRun.{Finished, detection_ticks, is_undetected, is_at_once, counted_pairs, pair_ticks, mistakes, has_mistake, durations, detections, has_decided, decision_tick, run_outcomes, deciding, do_disagree, do_all_decide, is_undecided, last_decision, top_round}
+use Rattle.sweep.specs.OneRun.{Finished, detection_ticks, is_undetected, is_at_once, counted_pairs, pair_ticks, mistakes, has_mistake, durations, detections, bounds, has_decided, decision_tick, run_outcomes, deciding, do_disagree, do_all_decide, is_undecided, last_decision, top_round}
 use Rattle.sweep.specs.Percentile.{greatest, IsPercentile}
 use Rattle.sweep.specs.Results.{RunResult, finished, limited, Trial}
 use Rattle.sweep.specs.declared.columns.Columns.{Columns}
 use Rattle.sweep.specs.declared.columns.DecisionSums.{DecisionSums}
+use Rattle.sweep.specs.declared.columns.DetectionBounds.{DetectionBounds}
 use Rattle.sweep.specs.declared.columns.Distribution.{Distribution}
 use Rattle.sweep.specs.declared.columns.FirstRuns.{FirstRuns}
 use Rattle.sweep.specs.declared.columns.LayerSums.{LayerSums}
@@ -86,6 +87,15 @@ pub record ArePairSums (pairs : List PairMeasures) (s : PairSums) : Type 0 where
   pub at_once : s.at_once ≡ count_by (λ m. is_at_once m.detection) pairs
   pub detection_sum : s.detection_sum ≡ sum_by (λ m. detection_ticks m.detection) pairs
 
+-- the greatest of the bounds of detections, and whether one is missing
+pub record AreBounds (all : List (Option ℕ)) (b : DetectionBounds) : Type 0 where
+  pub highest : b.greatest ≡ greatest (filter_map (λ bound. bound) all)
+  pub late : b.is_late ≡ list_any is_none all
+
+-- the greatest of them, where none is missing
+abbrev pub detection_bound : DetectionBounds → Option ℕ
+detection_bound b = if b.is_late then None else b.greatest
+
 -- of the outcomes of the processes that are to decide
 pub record AreDecisionSums (all : List Outcome) (s : DecisionSums) : Type 0 where
   pub to_decide : s.to_decide ≡ length all
@@ -118,6 +128,11 @@ module _ (layer : ℕ) where
   abbrev pub does : (Finished → Bool) → Trial → Bool
   does passes t = list_any passes (done_on layer (t ∷ []))
 
+-- what no run breaks: where there is a bound, each crash that was to be detected was, and none later than by the bound
+abbrev pub KeepsBound : Columns → Type 0
+KeepsBound c = (bound : ℕ) → detection_bound c.sums.bounds ≡ Some bound
+    → (c.sums.pairs.undetected ≡ 0) × (longest : ℕ) × (c.detections.greatest ≡ Some longest) × (longest ≤ bound)
+
 module _ (group : Group) (layer : ℕ) where
   -- in how many runs something is so
   pub record AreRunCounts (runs : List Finished) (s : RunCounts) : Type 0 where
@@ -138,6 +153,7 @@ module _ (group : Group) (layer : ℕ) where
     pub mistakes_squared_sum : s.mistakes_squared_sum
         ≡ sum_by (λ r. mistakes group layer r * mistakes group layer r) runs
     pub verdicts : AreVerdictCounts layer runs s.verdicts
+    pub bounds : AreBounds (flat_map (bounds group layer) runs) s.bounds
     pub decisions : AreDecisionSums (flat_map deciding runs) s.decisions
     pub counts : AreRunCounts runs s.counts
 
@@ -176,3 +192,4 @@ module _ (group : Group) (layer : ℕ) where
       pub last_decisions : IsDistribution (last_decisions layer trials) c.sums.counts.undecided c.last_decisions
       pub rounds : IsDistribution (top_rounds layer trials) 0 c.rounds
       pub first_runs : AreFirstRuns c.first_runs
+      pub kept : layer ≡ 1 → KeepsBound c

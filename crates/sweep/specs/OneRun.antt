@@ -1,22 +1,21 @@
 -- What one run that is done tells on a layer.
-use Rattle.std.specs.Prelude.{ℕ, ◌==◌, ◌&&◌, Bool, true, false, not, if◌then◌else◌, nat_lt, is_some, Option, None, Some, List, length}
+use Rattle.std.specs.Prelude.{ℕ, ◌-◌, ◌==◌, ◌&&◌, Bool, true, false, not, if◌then◌else◌, nat_lt, is_some, Option, None, Some, List, [], length, map}
 use Rattle.std.specs.List.{filter, filter_map, flat_map, list_all, list_any, sum_by}
-use Rattle.judges.specs.Crashes.{is_correct, end_of}
+use Rattle.detector_bounds.specs.Detected.{detected_by, trusts}
+use Rattle.detector_bounds.specs.Watched.{watch_of}
+use Rattle.judges.specs.Crashes.{crash_tick, is_correct, end_of}
 use Rattle.judges.specs.Outcomes.{outcomes}
 use Rattle.judges.specs.declared.outcomes.Answer.{Answer}
 use Rattle.judges.specs.declared.outcomes.Answer.TheVariants as answer
 use Rattle.judges.specs.declared.outcomes.Outcome.{Outcome}
 use Rattle.process_api.specs.EntryRecord.{EntryRecord}
 use Rattle.process_api.specs.Watching.{is_watched}
-use Rattle.process_api.specs.declared.numbers.DetectorNumbers.{DetectorNumbers}
-use Rattle.process_api.specs.declared.numbers.DetectorNumbers.TheVariants.{Timeout, Freshness}
-use Rattle.process_api.specs.declared.numbers.Watch.{Watch}
 use Rattle.reporting.specs.Measures.{layer_measures, pair_durations}
 use Rattle.reporting.specs.declared.pair_measures.Detection.{Detection}
 use Rattle.reporting.specs.declared.pair_measures.Detection.TheVariants.{Na, NoTick, At}
 use Rattle.reporting.specs.declared.pair_measures.PairMeasures.{PairMeasures}
 use Rattle.scenario_record.specs.Numbers.{is_idle}
-use Rattle.scenario_record.specs.Record.{Record}
+use Rattle.scenario_record.specs.Record.{Record, link}
 use Rattle.sweep.specs.Groups.{is_in}
 use Rattle.sweep.specs.Percentile.{greatest}
 use Rattle.sweep.specs.declared.group.Group.{Group}
@@ -27,11 +26,6 @@ pub record Finished : Type 0 where
   pub trace : List EntryRecord
 
 -- ---- its pairs
-
--- whom a detector watches
-abbrev pub watch_of : DetectorNumbers → Watch
-watch_of (Timeout numbers) = numbers.watch
-watch_of (Freshness numbers) = numbers.watch
 
 -- whether the pair of observer q and subject p counts: it is of the group, and on layer 1 q's detector watches p
 abbrev pub counts_on : Group → (layer : ℕ) → Record → (q p : ℕ) → Bool
@@ -68,6 +62,30 @@ detection_ticks (At ticks) = ticks
 abbrev pub times_of : List PairMeasures → List ℕ
 times_of pairs = filter_map (λ m. detection_time m.detection) pairs
 
+-- a crash was to be detected
+abbrev pub is_to_detect : Detection → Bool
+is_to_detect Na = false
+is_to_detect NoTick = true
+is_to_detect (At ticks) = true
+
+-- how many ticks after the crash of p, at most, q suspects it to the end on layer 1, where it trusted it again so
+-- often: from this tick on it does, in whatever run. None where the tick isn't before the horizon
+abbrev pub bound_after : Record → (trusts q p : ℕ) → Option ℕ
+bound_after S trusts q p =
+    if nat_lt (detected_by S.detector (link S p q) trusts (crash_tick S p)) S.horizon
+    then Some (detected_by S.detector (link S p q) trusts (crash_tick S p) - crash_tick S p)
+    else None
+
+-- of each crash that was to be detected
+abbrev pub bounds_of : Record → (trusts : (q p : ℕ) → ℕ) → List PairMeasures → List (Option ℕ)
+bounds_of S trusts pairs =
+    map (λ m. bound_after S (trusts m.observer m.subject) m.observer m.subject)
+    (filter (λ m. is_to_detect m.detection) pairs)
+
+-- of those on a layer: the bounds are known on layer 1 alone
+abbrev pub bounds_on : (layer : ℕ) → Record → (trusts : (q p : ℕ) → ℕ) → List PairMeasures → List (Option ℕ)
+bounds_on layer S trusts pairs = if layer == 1 then bounds_of S trusts pairs else []
+
 module _ (group : Group) (layer : ℕ) (r : Finished) where
   -- the measures of the pairs that count
   abbrev pub counted_pairs : List PairMeasures
@@ -85,6 +103,10 @@ module _ (group : Group) (layer : ℕ) (r : Finished) where
 
   abbrev pub detections : List ℕ
   detections = times_of counted_pairs
+
+  -- the bounds of these detections, and of those that didn't come, with the trusts of the run
+  abbrev pub bounds : List (Option ℕ)
+  bounds = bounds_on layer r.scenario (trusts r.trace) counted_pairs
 
   -- how long each mistake was that ended
   abbrev pub durations : List ℕ

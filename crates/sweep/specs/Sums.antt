@@ -1,18 +1,21 @@
 -- What it is that runs were added up.
 use Rattle.std.specs.Prelude.{◌≡◌, ℕ, ◌+◌, ◌*◌, ◌^◌, ◌<◌, ◌≤◌, List, [], ◌∷◌, ◌++◌, length, true}
-use Rattle.std.specs.List.{AllZip, cons_option}
+use Rattle.std.specs.List.{All, AllZip, cons_option}
 use Rattle.judges.specs.Verdicts.{verdicts}
 use Rattle.judges.specs.declared.verdicts.Verdicts.{Verdicts}
 use Rattle.process_api.specs.EntryRecord.{EntryRecord}
 use Rattle.reporting.specs.Durations.{AreDurations}
+use Rattle.reporting.specs.Grounds.{HasGrounds}
 use Rattle.reporting.specs.Measures.{layer_measures}
 use Rattle.reporting.specs.Summary.{IsSummary}
+use Rattle.reporting.specs.Trusts.{AreTrusts}
 use Rattle.reporting.specs.declared.durations.Durations.{Durations}
 use Rattle.reporting.specs.declared.pair_measures.PairMeasures.{PairMeasures}
 use Rattle.reporting.specs.declared.summary.Summary.{Summary}
+use Rattle.reporting.specs.declared.trusts.Trusts.{Trusts}
 use Rattle.scenario_record.specs.Ranges.{IsInRange}
 use Rattle.scenario_record.specs.Record.{Record}
-use Rattle.sweep.specs.Columns.{has_layer, AreLayerSums, AreFirstRuns, all_durations, all_detections, is_limited, last_decisions, top_rounds}
+use Rattle.sweep.specs.Columns.{done_on, has_layer, AreLayerSums, AreFirstRuns, all_durations, all_detections, is_limited, last_decisions, top_rounds}
 use Rattle.sweep.specs.Counted.{AreCounted}
 use Rattle.sweep.specs.Fitting.{IsLayerWithin, most_runs, most_of, most_pairs, most_mistakes}
 use Rattle.sweep.specs.Results.{Trial, done_run}
@@ -36,10 +39,12 @@ pub record AreLayerFindings (layer : ℕ) (S : Record) (trace : List EntryRecord
   pub lost_high : summary.lost ≤ length trace * 2 ^ 32
   pub judged : found ≡ verdicts S trace layer
   pub measured : pairs ≡ layer_measures S trace layer
+  pub grounds : HasGrounds S trace
 
 module _ (group : Group) (layer : ℕ) (trials : List Trial) where
   pub record AreFitting (s : LayerSums) : Type 0 where
     pub sums : AreLayerSums group layer trials s
+    pub grounds : All (λ r. HasGrounds r.scenario r.trace) (done_on layer trials)
     pub few_runs : length trials ≤ most_runs
     pub within : IsLayerWithin (most_of (length trials)) s
     pub few_detected : length (all_detections group layer trials) ≤ most_pairs (length trials)
@@ -93,9 +98,10 @@ AreUnitSums groups first trials s = AllZip (λ group sums. AreSums group first t
 
 -- of a run that is done these are the numbers on a layer, if the rest was found of its trace
 abbrev pub AreOfFindings : Group → (layer : ℕ) → Record → Summary → Verdicts → List PairMeasures → Durations
-    → LayerNumbers → Type 0
-AreOfFindings group layer S summary found pairs lasted n = (trace : List EntryRecord) → has_layer layer S ≡ true
+    → Trusts → LayerNumbers → Type 0
+AreOfFindings group layer S summary found pairs lasted trusts n = (trace : List EntryRecord) → has_layer layer S ≡ true
     → AreLayerFindings layer S trace summary found pairs → AreDurations S layer trace lasted
+    → AreTrusts S.processes trace trusts
     → AreLayerNumbers group layer (done_run S trace ∷ []) n
 
 -- what was counted of any runs, as long as they aren't too many, is then counted of them and of one more

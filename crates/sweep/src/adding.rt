@@ -1,10 +1,11 @@
 //! Sums of sums. They stay at the greatest number of their types, should they reach it.
 ghost use Rattle.std.specs.Prelude.{◌≡◌};
-ghost use Rattle.sweep.specs.Inside.Adding.{traces_plus, pairs_plus, verdicts_plus, decisions_plus, counts_plus};
+ghost use Rattle.sweep.specs.Inside.Adding.{bounds_plus, traces_plus, pairs_plus, verdicts_plus, decisions_plus, counts_plus};
 ghost use Rattle.sweep.specs.Inside.Adding.{layer_plus, first_with};
 
 use crate::columns::{
-    DecisionSums, FirstRuns, LayerSums, PairSums, RunCounts, TraceSums, VerdictCounts,
+    DecisionSums, DetectionBounds, FirstRuns, LayerSums, PairSums, RunCounts, TraceSums,
+    VerdictCounts,
 };
 use crate::value_counts::greater;
 
@@ -60,6 +61,17 @@ impl VerdictCounts {
     }
 }
 
+impl DetectionBounds {
+    pub(crate) fn plus(self, more: DetectionBounds) -> DetectionBounds
+        ensures { result ≡ bounds_plus self more }
+    {
+        DetectionBounds {
+            greatest: greater(self.greatest, more.greatest),
+            is_late: self.is_late || more.is_late,
+        }
+    }
+}
+
 impl DecisionSums {
     pub(crate) fn plus(self, more: DecisionSums) -> DecisionSums
         ensures { result ≡ decisions_plus self more }
@@ -102,6 +114,7 @@ impl LayerSums {
                 .mistakes_squared_sum
                 .saturating_add(more.mistakes_squared_sum),
             verdicts: self.verdicts.plus(more.verdicts),
+            bounds: self.bounds.plus(more.bounds),
             decisions: self.decisions.plus(more.decisions),
             counts: self.counts.plus(more.counts),
         }

@@ -37,7 +37,7 @@ impl Told {
 
 /// The columns, of what these tell: of each its name and what it tells.
 #[tactic(auto, unfolding(crate::specs::ColumnTable::columns))]
-pub(crate) fn columns_of(layer: u8, columns: &Columns) -> [(&'static str, Told); 52]
+pub(crate) fn columns_of(layer: u8, columns: &Columns) -> [(&'static str, Told); 53]
     ensures names { map (λ d. d.0.now) result ≡ column_names }
     ensures told { map (λ d. d.1) result ≡ map (λ d. d.1 layer columns.now) columns_in }
 {
@@ -77,6 +77,7 @@ pub(crate) fn columns_of(layer: u8, columns: &Columns) -> [(&'static str, Told);
         ("detection_p90", IfAny(detections.p90)),
         ("detection_p99", IfAny(detections.p99)),
         ("detection_max", IfAny(detections.greatest)),
+        ("detection_bound", IfAny(sums.bounds.told().map(u128::from))),
         ("strong_completeness", Count(v.strong_completeness)),
         ("weak_completeness", Count(v.weak_completeness)),
         ("strong_accuracy", Count(v.strong_accuracy)),

@@ -59,6 +59,15 @@ pub struct VerdictCounts {
     pub eventual_weak_accuracy: u64,
 }
 
+/// The bounds of detections that no run breaks, in ticks after the crash, of crashes that were to be detected.
+#[derive(Clone, Copy, Default)]
+pub struct DetectionBounds {
+    /// The greatest of those that lie before the horizon, if there is one.
+    pub greatest: Option<u64>,
+    /// Whether one doesn't.
+    pub is_late: bool,
+}
+
 /// Sums over the processes of runs that are to decide: the correct ones of the runs with an algorithm.
 #[derive(Clone, Copy, Default)]
 pub struct DecisionSums {
@@ -130,6 +139,8 @@ pub struct LayerSums {
     pub mistakes_squared_sum: u128,
     /// Of the verdicts.
     pub verdicts: VerdictCounts,
+    /// Of the bounds of detections: on layer 1 alone.
+    pub bounds: DetectionBounds,
     /// Of what was decided.
     pub decisions: DecisionSums,
     /// In how many runs something is so.

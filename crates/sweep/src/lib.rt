@@ -8,6 +8,10 @@
 //! point, to which runs were added one by one, are those of the list of these runs. It is proved too that the text has
 //! the rows of all points, or of all runs (`specs/StudyText.antt`).
 //!
+//! A row of layer 1 tells a bound of its detections, by what no run breaks (`detector_bounds`) and the trusts of its
+//! runs, where each lies before the horizon. It is proved that then each crash that was to be detected was, and none
+//! later.
+//!
 //! A layout may have groups of pairs of processes ([`PairGroup`], `specs/Groups.antt`), as words say them
 //! (`specs/GroupWords.antt`). Then a point has its rows once for each group, and the columns about pairs count those of
 //! the group. A run is done and measured once, whatever the groups.
@@ -26,6 +30,7 @@
 
 mod adding;
 mod batches;
+mod bounds;
 mod checking;
 mod column_table;
 mod columns;
@@ -56,8 +61,8 @@ mod watcher;
 
 pub use checking::check_study;
 pub use columns::{
-    Columns, DecisionSums, Distribution, FirstRuns, LayerSums, PairSums, RunCounts, TraceSums,
-    VerdictCounts,
+    Columns, DecisionSums, DetectionBounds, Distribution, FirstRuns, LayerSums, PairSums,
+    RunCounts, TraceSums, VerdictCounts,
 };
 pub use error::{GroupError, LayoutError, SweepError};
 pub use group::{Group, PairBlock, PairGroup, Processes};

@@ -1,13 +1,14 @@
 //! The pairs of a run that count, and what they add up to.
 ghost use Rattle.std.specs.Prelude.{◌≡◌, ◌≤◌, ◌*◌, ◌^◌, length, IfOk};
 ghost use Rattle.std.specs.List.{flat_map, sum_by};
+ghost use Rattle.detector_bounds.specs.Watched.{watch_of};
 ghost use Rattle.judges.specs.Crashes.{end_of};
 ghost use Rattle.reporting.specs.Durations.{lengths_of};
 ghost use Rattle.sweep.specs.Inside.Adding.{of_pair};
 ghost use Rattle.sweep.specs.Columns.{ArePairSums};
 ghost use Rattle.sweep.specs.Fitting.{ArePairsWithin};
 ghost use Rattle.sweep.specs.OneRun.{counted_of, counts_on, detection_ticks, detection_time, is_at_once};
-ghost use Rattle.sweep.specs.OneRun.{times_of, watch_of};
+ghost use Rattle.sweep.specs.OneRun.{times_of};
 
 use crate::columns::PairSums;
 use crate::group::Group;

@@ -10,14 +10,17 @@ ghost use Rattle.sweep.specs.Inside.OwnSums.{AreOwnSums};
 ghost use Rattle.sweep.specs.declared.group.Group.{Group as GroupRecord};
 ghost use Rattle.sweep.specs.Results.{Trial, limited as limited_result, done_run};
 
-use crate::columns::{DecisionSums, LayerSums, RunCounts, TraceSums, VerdictCounts};
+use crate::bounds::bounds_on;
+use crate::columns::{
+    DecisionSums, DetectionBounds, LayerSums, RunCounts, TraceSums, VerdictCounts,
+};
 use crate::decisions::{
     deciding_of, do_all_decide, do_disagree, last_decision, sum_decisions, top_round,
 };
 use crate::group::Group;
 use crate::pairs::{counted_of, detection_times, durations_of, sum_ends, sum_pairs};
 use judges::Verdicts;
-use reporting::{Durations, PairMeasures, RunDurations, RunFindings, Summary};
+use reporting::{Durations, PairMeasures, RunDurations, RunFindings, Summary, Trusts};
 use scenario::Scenario;
 use std::alloc::{AllocError, Global};
 
@@ -36,16 +39,17 @@ fn of_verdicts(verdicts: &Verdicts) -> VerdictCounts
 }
 
 /// The sums of a run that is done, alone: of its summary, and on a layer of its verdicts, of the measures of the pairs
-/// that count, and of the decisions of the processes that are to decide.
+/// that count, of the bounds of their detections, and of the decisions of the processes that are to decide.
 fn sums_of_run(
     scenario: &Scenario,
     summary: &Summary,
     verdicts: &Verdicts,
     counted: &[PairMeasures],
+    bounds: DetectionBounds,
     decisions: DecisionSums,
 ) -> LayerSums
     ensures { (os : List OutcomeRecord) → AreDecisionSums os decisions
-        → AreOwnSums scenario.now summary.now verdicts.now counted.now os decisions result }
+        → AreOwnSums scenario.now summary.now verdicts.now counted.now bounds os decisions result }
 {
     let pairs = sum_pairs(counted);
     let are_all = do_all_decide(decisions);
@@ -61,6 +65,7 @@ fn sums_of_run(
         pairs,
         mistakes_squared_sum: pairs.mistakes.saturating_mul(pairs.mistakes),
         verdicts: of_verdicts(verdicts),
+        bounds,
         decisions,
         counts: RunCounts {
             with_mistakes: u64::from(pairs.mistakes > 0),
@@ -108,8 +113,8 @@ impl LayerNumbers {
         }
     }
 
-    /// Of a run that is done: its summary, and its verdicts, its measures and how long its mistakes were on this layer.
-    /// The pairs of the group count.
+    /// Of a run that is done: its summary, its verdicts, its measures and how long its mistakes were on this layer, and
+    /// its trusts. The pairs of the group count.
     fn of_run(
         alloc: Global,
         scenario: &Scenario,
@@ -119,17 +124,19 @@ impl LayerNumbers {
         verdicts: &Verdicts,
         pairs: &[PairMeasures],
         durations: &Durations,
+        trusts: &Trusts,
     ) -> Result<LayerNumbers, AllocError>
-        ensures { IfOk result
-            (AreOfFindings group.now layer scenario.now summary.now verdicts.now pairs.now durations.now) }
+        ensures { IfOk result (AreOfFindings group.now layer scenario.now summary.now verdicts.now pairs.now
+            durations.now trusts.now) }
     {
         let counted = counted_of(alloc, scenario, group, layer, pairs)?;
         let deciding = deciding_of(alloc, scenario, &summary.outcomes)?;
         let durations = durations_of(alloc, &counted, durations)?;
         let detections = detection_times(alloc, &counted)?;
+        let bounds = bounds_on(scenario, layer, trusts, &counted);
         let decisions = sum_decisions(&deciding);
         Ok(LayerNumbers {
-            sums: sums_of_run(scenario, summary, verdicts, &counted, decisions),
+            sums: sums_of_run(scenario, summary, verdicts, &counted, bounds, decisions),
             durations,
             detections,
             last_decision: last_decision(decisions),
@@ -163,8 +170,9 @@ impl GroupNumbers {
         group: &Group,
         findings: &RunFindings,
         durations: &RunDurations,
+        trusts: &Trusts,
     ) -> Result<GroupNumbers, AllocError>
-        ensures { IfOk result (λ n. (found : MeasuresRun scenario.now findings.now durations.now)
+        ensures { IfOk result (λ n. (found : MeasuresRun scenario.now findings.now durations.now trusts.now)
             → AreGroupNumbers group.now (done_run scenario.now found.trace) n) }
     {
         let _shared = is_shared(scenario);
@@ -174,17 +182,19 @@ impl GroupNumbers {
             Some(verdicts) => verdicts,
             None => {
                 let first = LayerNumbers::of_run(
-                    alloc, scenario, group, 1, summary, own, pairs, lasted,
+                    alloc, scenario, group, 1, summary, own, pairs, lasted, trusts,
                 )?;
                 let second = LayerNumbers::of_nothing(alloc, 0);
                 return Ok(GroupNumbers { first, second });
             }
         };
         let (first, second) = pairs.split_at(pairs.len() / 2);
-        let first = LayerNumbers::of_run(alloc, scenario, group, 1, summary, own, first, lasted)?;
+        let first = LayerNumbers::of_run(
+            alloc, scenario, group, 1, summary, own, first, lasted, trusts,
+        )?;
         let lasted = &durations.second;
         let second = LayerNumbers::of_run(
-            alloc, scenario, group, 2, summary, verdicts, second, lasted,
+            alloc, scenario, group, 2, summary, verdicts, second, lasted, trusts,
         )?;
         Ok(GroupNumbers { first, second })
     }
@@ -223,13 +233,15 @@ impl RunNumbers {
         groups: &[Group],
         findings: &RunFindings,
         durations: &RunDurations,
+        trusts: &Trusts,
     ) -> Result<RunNumbers, AllocError>
-        ensures { IfOk result (λ n. (found : MeasuresRun scenario.now findings.now durations.now)
+        ensures { IfOk result (λ n. (found : MeasuresRun scenario.now findings.now durations.now trusts.now)
             → AreNumbers groups.now (done_run scenario.now found.trace) n) }
     {
         let mut numbers = Vec::new(alloc);
         for group in groups {
-            numbers.push(GroupNumbers::of_run(alloc, scenario, group, findings, durations)?)?;
+            let its = GroupNumbers::of_run(alloc, scenario, group, findings, durations, trusts)?;
+            numbers.push(its)?;
         }
         Ok(RunNumbers {
             groups: numbers,

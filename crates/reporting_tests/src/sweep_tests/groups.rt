@@ -1,7 +1,7 @@
 //! Rows for groups of pairs.
 ghost use Rattle.std.specs.Prelude.{◌≡◌};
 
-use super::points::{durations, grid_of, limited_run, rows_in, sums_of};
+use super::points::{durations, grid_of, limited_run, rows_in, sums_of, trusts};
 use super::studies::{Study, study_of};
 use super::sums::{CIRCLE, circle};
 use crate::comparisons::{NO_MEMORY, is_text, same};
@@ -87,20 +87,22 @@ fn circle_in_groups(rt: HostRuntime) {
         first: durations(&rt, alloc, 3, &[&[], &[], &[3, 4], &[], &[], &[2]]),
         second: durations(&rt, alloc, 3, &[]),
     };
+    // two trusts don't move the check that detects the crash
+    let again = trusts(&rt, alloc, 3, &[0, 2]);
     let grid = grid_of(&rt, alloc, "detector.timeout=5");
     let words = ["1..=2:2..=3+2:1..=3", "3:1", "2:1"];
     let layout = layout_for(&rt, alloc, &grid, &words, None);
     let found = circle(&rt, alloc);
-    let run = RunNumbers::of_run(alloc, &scenario, layout.groups(), &found, &lasted);
+    let run = RunNumbers::of_run(alloc, &scenario, layout.groups(), &found, &lasted, &again);
     let limited = RunNumbers::of_limited(alloc, &scenario, layout.groups());
     let runs = [limited.expect(&rt, NO_MEMORY), run.expect(&rt, NO_MEMORY)];
     let sums = sums_of(&rt, alloc, layout.groups(), 1, &runs);
     is_text(
         &rt,
         &rows_in(&rt, alloc, &grid, &layout, &sums),
-        "5,1..=2:2..=3+2:1..=3,1,2,1,12,4,0,6,1,2,6,333333,1,1,,0,0,2,1,2,2,0,0,1,0,1,0,0,0,0,0,1,1,1,1,1,1,0,0,0,,0,,,,,,,,0,2,2,\n\
-         5,3:1,1,2,1,12,4,0,10,0,0,,0,0,0,,0,0,0,0,,,0,0,0,0,0,0,,,,,1,1,1,1,1,1,0,0,0,,0,,,,,,,,0,,,\n\
-         5,2:1,1,2,1,12,4,0,0,0,0,,,0,0,,0,0,0,0,,,0,0,0,0,0,0,,,,,1,1,1,1,1,1,0,0,0,,0,,,,,,,,0,,,\n",
+        "5,1..=2:2..=3+2:1..=3,1,2,1,12,4,0,6,1,2,6,333333,1,1,,0,0,2,1,2,2,0,0,1,0,1,0,0,0,0,0,6,1,1,1,1,1,1,0,0,0,,0,,,,,,,,0,2,2,\n\
+         5,3:1,1,2,1,12,4,0,10,0,0,,0,0,0,,0,0,0,0,,,0,0,0,0,0,0,,,,,,1,1,1,1,1,1,0,0,0,,0,,,,,,,,0,,,\n\
+         5,2:1,1,2,1,12,4,0,0,0,0,,,0,0,,0,0,0,0,,,0,0,0,0,0,0,,,,,,1,1,1,1,1,1,0,0,0,,0,,,,,,,,0,,,\n",
     );
 }
 

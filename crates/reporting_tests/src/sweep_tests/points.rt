@@ -7,7 +7,7 @@ use crate::comparisons::{NO_MEMORY, is_text};
 use crate::findings::{outcome, quiet, without_mistake};
 use crate::traces::{CRASH_AT_3, axes, scenario_of};
 use judges::Answer;
-use reporting::{Detection, Durations, RunDurations, RunFindings, Summary};
+use reporting::{Detection, Durations, RunDurations, RunFindings, Summary, Trusts};
 use scenario::Scenario;
 use std::alloc::Global;
 use std::process::Abort;
@@ -19,8 +19,8 @@ pub const HEADER: &str =
     "layer,runs,limited,entries,sent,lost,pair_ticks,mistakes,mistake_ticks,mistake_recurrence,\
      mistaken_ppm,mistakes_squared_sum,runs_with_mistakes,mistakes_error,recurrence_sum,recurrence_count,\
      duration_sum,duration_count,duration_p99,duration_max,good_sum,good_count,detections,undetected,at_once,\
-     detection_sum,detection_p50,detection_p90,detection_p99,detection_max,strong_completeness,\
-     weak_completeness,strong_accuracy,weak_accuracy,eventual_strong_accuracy,eventual_weak_accuracy,\
+     detection_sum,detection_p50,detection_p90,detection_p99,detection_max,detection_bound,\
+     strong_completeness,weak_completeness,strong_accuracy,weak_accuracy,eventual_strong_accuracy,eventual_weak_accuracy,\
      to_decide,decided,decision_tick_sum,decision_tick_max,all_decided,last_decision_p50,\
      last_decision_p90,last_decision_p99,last_decision_max,rounds_p50,rounds_p99,rounds_max,\
      disagreements,mistake_run,detection_max_run,disagreement_run\n";
@@ -68,6 +68,17 @@ pub fn durations<R: Abort>(rt: &R, alloc: Global, processes: u16, lengths: &[&[u
     Durations { processes, pairs }
 }
 
+/// How often each of so many processes trusted each again, by observer and then by subject; of pairs that come after
+/// these none did.
+pub fn trusts<R: Abort>(rt: &R, alloc: Global, processes: u16, counts: &[u32]) -> Trusts {
+    let mut all = Vec::new(alloc);
+    all.extend_from_slice(counts).expect(rt, NO_MEMORY);
+    Trusts {
+        processes,
+        counts: all,
+    }
+}
+
 /// What a run without a mistake that ended gives.
 pub fn run_of<R: Abort>(
     rt: &R,
@@ -79,7 +90,8 @@ pub fn run_of<R: Abort>(
         first: durations(rt, alloc, 2, &[]),
         second: durations(rt, alloc, 2, &[]),
     };
-    RunNumbers::of_run(alloc, scenario, &[Group::All], found, &none).expect(rt, NO_MEMORY)
+    let again = trusts(rt, alloc, 2, &[]);
+    RunNumbers::of_run(alloc, scenario, &[Group::All], found, &none, &again).expect(rt, NO_MEMORY)
 }
 
 /// What a run gives that passed its limit.

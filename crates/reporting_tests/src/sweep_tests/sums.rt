@@ -1,7 +1,7 @@
 //! The rows of points whose runs are worked by hand.
 use super::points::{
     HEADER, are_rows, crash_at_3, crash_run, durations, first_of, grid_of, limited_run, one_crash,
-    rows_of, run_of, sums_of,
+    rows_of, run_of, sums_of, trusts,
 };
 use super::studies::layout_of;
 use crate::comparisons::{NO_MEMORY, is_text, same};
@@ -25,7 +25,7 @@ fn one_crash_runs(rt: HostRuntime) {
         alloc,
         &[crash_run(&rt, alloc, Some(9), Detection::At(6))],
         "5",
-        "5,1,1,0,12,4,0,6,0,0,,0,0,0,,0,0,0,0,,,0,0,1,0,0,6,6,6,6,6,1,1,1,1,1,1,0,0,0,,0,,,,,,,,0,,1,\n",
+        "5,1,1,0,12,4,0,6,0,0,,0,0,0,,0,0,0,0,,,0,0,1,0,0,6,6,6,6,6,6,1,1,1,1,1,1,0,0,0,,0,,,,,,,,0,,1,\n",
     );
     let scenario = crash_at_3(&rt, alloc);
     let runs = [
@@ -46,7 +46,7 @@ fn one_crash_runs(rt: HostRuntime) {
         alloc,
         &[limited_run(&rt, alloc, &scenario)],
         "5",
-        "5,1,1,1,,,,,,,,,,,,,,,,,,,,,,,,,,,,,,,,,,,,,,,,,,,,,,,,,\n",
+        "5,1,1,1,,,,,,,,,,,,,,,,,,,,,,,,,,,,,,,,,,,,,,,,,,,,,,,,,,\n",
     );
 }
 
@@ -88,7 +88,9 @@ fn two_layers(rt: HostRuntime) {
         first: durations(&rt, alloc, 2, &[&[], &[2]]),
         second: durations(&rt, alloc, 2, &[&[9], &[]]),
     };
-    let shared = RunNumbers::of_run(alloc, &with, &[Group::All], &shared(&rt, alloc), &lasted);
+    let again = trusts(&rt, alloc, 2, &[]);
+    let found = shared(&rt, alloc);
+    let shared = RunNumbers::of_run(alloc, &with, &[Group::All], &found, &lasted, &again);
     let runs = [
         shared.expect(&rt, NO_MEMORY),
         crash_run(&rt, alloc, Some(7), Detection::At(4)),
@@ -98,16 +100,16 @@ fn two_layers(rt: HostRuntime) {
         alloc,
         &runs,
         "5",
-        "5,1,2,0,24,8,0,12,1,2,12,166666,1,1,1,0,0,2,1,2,2,0,0,2,0,0,10,4,6,6,6,2,2,2,2,2,2,0,0,0,,0,,,,,,,,0,1,1,\n\
-         5,2,1,0,12,4,0,6,0,0,,0,0,0,,0,0,0,0,,,0,0,0,1,0,0,,,,,0,0,1,1,1,1,0,0,0,,0,,,,,,,,0,,,\n",
+        "5,1,2,0,24,8,0,12,1,2,12,166666,1,1,1,0,0,2,1,2,2,0,0,2,0,0,10,4,6,6,6,6,2,2,2,2,2,2,0,0,0,,0,,,,,,,,0,1,1,\n\
+         5,2,1,0,12,4,0,6,0,0,,0,0,0,,0,0,0,0,,,0,0,0,1,0,0,,,,,,0,0,1,1,1,1,0,0,0,,0,,,,,,,,0,,,\n",
     );
     are_rows(
         &rt,
         alloc,
         &[limited_run(&rt, alloc, &with)],
         "5",
-        "5,1,1,1,,,,,,,,,,,,,,,,,,,,,,,,,,,,,,,,,,,,,,,,,,,,,,,,,\n\
-         5,2,1,1,,,,,,,,,,,,,,,,,,,,,,,,,,,,,,,,,,,,,,,,,,,,,,,,,\n",
+        "5,1,1,1,,,,,,,,,,,,,,,,,,,,,,,,,,,,,,,,,,,,,,,,,,,,,,,,,,\n\
+         5,2,1,1,,,,,,,,,,,,,,,,,,,,,,,,,,,,,,,,,,,,,,,,,,,,,,,,,,\n",
     );
 }
 
@@ -165,7 +167,7 @@ fn decisions(rt: HostRuntime) {
         alloc,
         &runs,
         "5",
-        "5,1,3,0,36,12,0,60,0,0,,0,0,0,0,0,0,0,0,,,0,0,0,0,0,0,,,,,3,3,3,3,3,3,6,4,17,6,1,,,,6,3,5,5,1,,,2\n",
+        "5,1,3,0,36,12,0,60,0,0,,0,0,0,0,0,0,0,0,,,0,0,0,0,0,0,,,,,,3,3,3,3,3,3,6,4,17,6,1,,,,6,3,5,5,1,,,2\n",
     );
 }
 
@@ -217,7 +219,8 @@ pub fn circle<R: Abort>(rt: &R, alloc: Global) -> RunFindings {
 }
 
 /// Only the pairs count that are watched: they are watched for 3, 3 and 10 ticks. A run that passed its limit comes
-/// before, so what is told of has number 2; or 8, where the first has 7.
+/// before, so what is told of has number 2; or 8, where the first has 7. With three trusts the crash is detected by the
+/// horizon at the latest, so there is no bound.
 #[test]
 fn watched_pairs(rt: HostRuntime) {
     let alloc = rt.alloc();
@@ -232,6 +235,7 @@ fn watched_pairs(rt: HostRuntime) {
         &[Group::All],
         &circle(&rt, alloc),
         &lasted,
+        &trusts(&rt, alloc, 3, &[0, 3]),
     );
     let runs = [
         limited_run(&rt, alloc, &scenario),
@@ -242,7 +246,7 @@ fn watched_pairs(rt: HostRuntime) {
         alloc,
         &runs,
         "5",
-        "5,1,2,1,12,4,0,16,1,2,16,125000,1,1,,0,0,2,1,2,2,0,0,1,0,1,0,0,0,0,0,1,1,1,1,1,1,0,0,0,,0,,,,,,,,0,2,2,\n",
+        "5,1,2,1,12,4,0,16,1,2,16,125000,1,1,,0,0,2,1,2,2,0,0,1,0,1,0,0,0,0,0,,1,1,1,1,1,1,0,0,0,,0,,,,,,,,0,2,2,\n",
     );
     let sums = sums_of(&rt, alloc, &[Group::All], 7, &runs);
     let wanted = FirstRuns {
@@ -271,7 +275,7 @@ fn lines(rt: HostRuntime) {
         alloc,
         &[],
         "a \"b\"",
-        "\"a \"\"b\"\"\",1,0,0,,,,,,,,,,,,,,,,,,,,,,,,,,,,,,,,,,,,,,,,,,,,,,,,,\n",
+        "\"a \"\"b\"\"\",1,0,0,,,,,,,,,,,,,,,,,,,,,,,,,,,,,,,,,,,,,,,,,,,,,,,,,,\n",
     );
     let grid = grid_of(&rt, alloc, "");
     let rows = rows_of(

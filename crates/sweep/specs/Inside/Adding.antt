@@ -1,11 +1,12 @@
 -- Sums of sums. They stay at the greatest number of their types, should they reach it.
-use Rattle.std.specs.Prelude.{ℕ, ◌+◌, ◌-◌, ◌^◌, min, ◌==◌, Bool, true, false, not, nat_lt, Option, None, Some, if◌then◌else◌, is_some}
+use Rattle.std.specs.Prelude.{ℕ, ◌+◌, ◌-◌, ◌^◌, min, ◌==◌, ◌||◌, Bool, true, false, not, nat_lt, Option, None, Some, if◌then◌else◌, is_none, is_some}
 use Rattle.judges.specs.declared.outcomes.Outcome.{Outcome}
 use Rattle.judges.specs.declared.verdicts.Verdicts.{Verdicts}
 use Rattle.reporting.specs.declared.pair_measures.PairMeasures.{PairMeasures}
 use Rattle.sweep.specs.OneRun.{detection_ticks, is_undetected, is_at_once, has_decided, decision_tick}
 use Rattle.sweep.specs.Percentile.{greater}
 use Rattle.sweep.specs.declared.columns.DecisionSums.{DecisionSums}
+use Rattle.sweep.specs.declared.columns.DetectionBounds.{DetectionBounds}
 use Rattle.sweep.specs.declared.columns.FirstRuns.{FirstRuns}
 use Rattle.sweep.specs.declared.columns.LayerSums.{LayerSums}
 use Rattle.sweep.specs.declared.columns.PairSums.{PairSums}
@@ -60,6 +61,9 @@ decisions_plus a b = record {
   decision_tick_max = greater a.decision_tick_max b.decision_tick_max;
 }
 
+abbrev pub bounds_plus : DetectionBounds → DetectionBounds → DetectionBounds
+bounds_plus a b = record { greatest = greater a.greatest b.greatest; is_late = a.is_late || b.is_late }
+
 abbrev pub counts_plus : RunCounts → RunCounts → RunCounts
 counts_plus a b = record {
   with_mistakes = plus_few a.with_mistakes b.with_mistakes;
@@ -77,6 +81,7 @@ layer_plus a b = record {
   pairs = pairs_plus a.pairs b.pairs;
   mistakes_squared_sum = plus a.mistakes_squared_sum b.mistakes_squared_sum;
   verdicts = verdicts_plus a.verdicts b.verdicts;
+  bounds = bounds_plus a.bounds b.bounds;
   decisions = decisions_plus a.decisions b.decisions;
   counts = counts_plus a.counts b.counts;
 }
@@ -97,6 +102,9 @@ of_pair m = record {
   at_once = if is_at_once m.detection then 1 else 0;
   detection_sum = detection_ticks m.detection;
 }
+
+abbrev pub of_bound : Option ℕ → DetectionBounds
+of_bound bound = record { greatest = bound; is_late = is_none bound }
 
 abbrev pub of_verdicts : Verdicts → VerdictCounts
 of_verdicts v = record {

@@ -24,6 +24,7 @@ returns c os decided =
       pairs_high = c.sum_pairs-pairs.ensures.within;
       squared = c.saturating_mul.ensures;
       verdicts = c.of_verdicts.ensures;
+      bounds = refl;
       decisions = refl;
       counts = record {
         with_mistakes = search rules;

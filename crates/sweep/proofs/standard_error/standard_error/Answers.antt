@@ -1,4 +1,4 @@
-use Rattle.sweep.proofs.Words.{◌≡◌, ℕ, ◌+◌, ◌-◌, ◌*◌, ◌/◌, ◌%◌, ◌<◌, ◌≤◌, Bool, true, false, Some, None, ⊎_elim, zero-add, length, cond, nat_le, nat_lt, get_or, ap, ◌∙◌, sym, subst, refl, rules, arith, position, position_or_len, range_with_len, cases_lt, le-ltb, lt-leb, lt-ltb, get_or-range_with_len, length-range_with_len, mod_below, div-add-mod'}
+use Rattle.sweep.proofs.Words.{◌≡◌, ℕ, ◌+◌, ◌-◌, ◌*◌, ◌/◌, ◌%◌, ◌<◌, ◌≤◌, Bool, true, false, Some, None, ⊎_elim, zero-add, cond, nat_le, nat_lt, get_or, ap, ◌∙◌, sym, subst, refl, rules, arith, position, position_or_len, range_with_len, cases_lt, le-ltb, lt-leb, lt-ltb, get_or-range_with_len, length-range_with_len, mod_below, div-add-mod'}
 use Rattle.std.proofs.Math.Nat.{mul-le-mul_left}
 use Rattle.std.proofs.lemmas.Bool.{le-leb}
 use Rattle.std.proofs.lemmas.List.Sums.{position_or_len_is}

@@ -7,10 +7,10 @@ loop-group-preserved c found =
     let R : Group → GroupNumbers → Type 0 = λ group n. AreGroupNumbers group (done_run c.args.scenario.now found.trace) n in
     let groups = c.args.groups.now in
     let i = c.loop-group.group-index in
-    let n = c.in_ok-of_run.field-0 in
+    let n = c.in_ok-its.its in
     let pushed : c.push.new.self.items ≡ c.loop-group.numbers.items ++ n ∷ [] = search rules in
     subst (AllZip R (take (i + 1) groups)) (sym pushed)
-    (zip_more R groups c.loop-group.numbers.items i c.group-item.result n c.loop-group-test.true c.group-item.is (c.loop-group.invariant found) (c.in_ok-of_run.ensures found))
+    (zip_more R groups c.loop-group.numbers.items i c.group-item.result n c.loop-group-test.true c.group-item.is (c.loop-group.invariant found) (c.in_ok-its.ensures found))
 
 pub returns : goal.returns
 returns c found =

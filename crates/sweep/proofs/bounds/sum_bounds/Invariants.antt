@@ -1,0 +1,10 @@
+use Rattle.sweep.proofs.Words.{All, take}
+use Rattle.reporting.specs.Trusts.{trusts_of}
+use Rattle.sweep.specs.Columns.{AreBounds}
+use Rattle.sweep.specs.Inside.OwnSums.{IsPair}
+use Rattle.sweep.specs.OneRun.{bounds_of}
+use Rattle.sweep.proofs.bounds.sum_bounds.Given as goal
+
+abbrev pub invariant-loop-pair : goal.invariant-loop-pair
+invariant-loop-pair l = All (λ m. IsPair l.scenario m.observer m.subject) l.pairs
+    → AreBounds (bounds_of l.scenario (trusts_of l.trusts) (take l.pair-index l.pairs)) l.bounds
