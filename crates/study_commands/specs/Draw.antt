@@ -13,7 +13,7 @@ use Rattle.drawing.specs.declared.error.DrawError.TheVariants as picture_error
 use Rattle.trace_laws.specs.ScenarioSetting.{setting_of}
 use Rattle.trace_laws.specs.World.{IsTrace}
 use Rattle.study_commands.specs.File.{IsScenario, no_axes}
-use Rattle.study_commands.specs.Refusal.{IsOfFile, Says}
+use Rattle.study_commands.specs.Refusal.{IsOfFile, Says, line_with}
 use Rattle.study_commands.specs.Runs.{IsTooLong}
 use Rattle.study_commands.specs.WordRefusals.{SaysNoSources}
 use Rattle.study_commands.specs.declared.fault.Fault.{Fault}
@@ -95,15 +95,19 @@ IsRefused picture.Letters s of from until error =
     (refusal s from until ≡ Some error)
     ⊎ ((letters : List Letter) × AreLetters s letters × (letters_refusal s letters of from until ≡ Some error))
 
--- the line of a picture of the scenario's run that is refused for this: of ticks it has those of the run
+-- the line of ticks that aren't those of a run, of which this is the last
+abbrev pub line_of_ticks : (path : List ℕ) → (last : ℕ) → List ℕ
+line_of_ticks path last =
+    printable path ++ (codes ": Ticks: these ticks aren't those of the run, which are 0 to "
+    ++ (decimal last ++ codes "\n"))
+
+-- the line of a picture of the scenario's run that is refused for this
 abbrev pub picture_line : (path : List ℕ) → Record → DrawError → List ℕ
 picture_line path s picture_error.TooManyProcesses =
-    printable path ++ codes ": TooManyProcesses: there are more than 16 processes\n"
-picture_line path s picture_error.Ticks =
-    printable path ++ (codes ": Ticks: these ticks aren't those of the run, which are 0 to "
-    ++ (decimal (s.horizon - 1) ++ codes "\n"))
+    line_with path (codes "TooManyProcesses: there are more than 16 processes")
+picture_line path s picture_error.Ticks = line_of_ticks path (s.horizon - 1)
 picture_line path s picture_error.TooManyLetters =
-    printable path ++ codes ": TooManyLetters: there are more than 2,000 letters to draw\n"
+    line_with path (codes "TooManyLetters: there are more than 2,000 letters to draw")
 picture_line path s (picture_error.Memory e) = []
 
 -- the fault tells of this

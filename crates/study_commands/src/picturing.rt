@@ -2,9 +2,10 @@
 ghost use Rattle.std.specs.Prelude.{◌≡◌, ◌+◌, IfErr, IfOk, None, Some, map, option_map, string_bytes};
 ghost use Rattle.drawing.specs.Refusals.{refusal};
 ghost use Rattle.study_commands.specs.Draw.{AreNamed, HasNoProcess, IsDrawAnswer, IsOfPicture, NamesNone};
-ghost use Rattle.study_commands.specs.Draw.{Shows, StopsPicture, TellsOf, picture_line, process_said};
+ghost use Rattle.study_commands.specs.Draw.{Shows, StopsPicture, TellsOf, line_of_ticks, picture_line, process_said};
 ghost use Rattle.study_commands.specs.Fault.{IsBefore, IsOfWordsFor};
 ghost use Rattle.study_commands.specs.File.{NameNoInput};
+ghost use Rattle.study_commands.specs.Refusal.{line_with};
 ghost use Rattle.shell.specs.Input.{TakesAtMost, most_bytes};
 
 use crate::alone::scenario_at;
@@ -56,6 +57,22 @@ fn processes_named(alloc: Global, picture: Picture, word: Option<&str>) -> Resul
     }
 }
 
+/// The line of ticks that aren't those of a run with this last tick.
+fn ticks_line(alloc: Global, path: &str, last: u32) -> Result<String, AllocError>
+    ensures { IfOk result (λ line. string_bytes line ≡ line_of_ticks path.now last) }
+{
+    let path = Printable(path);
+    format!(in alloc; "{path}: Ticks: these ticks aren't those of the run, which are 0 to {last}\n")
+}
+
+/// The line of a picture that is refused for another reason.
+fn reason_line(alloc: Global, path: &str, reason: &str) -> Result<String, AllocError>
+    ensures { IfOk result (λ line. string_bytes line ≡ line_with path.now reason.now) }
+{
+    let path = Printable(path);
+    format!(in alloc; "{path}: {reason}\n")
+}
+
 /// The line of a picture of the scenario's run that is refused, with the name of the reason and what it says.
 fn line_of(
     alloc: Global,
@@ -65,20 +82,12 @@ fn line_of(
 ) -> Result<String, AllocError>
     ensures { IfOk result (λ line. string_bytes line ≡ picture_line path.now scenario.now error.now) }
 {
-    let path = Printable(path);
+    let processes = "TooManyProcesses: there are more than 16 processes";
+    let letters = "TooManyLetters: there are more than 2,000 letters to draw";
     match error {
-        DrawError::TooManyProcesses => format!(in alloc;
-            "{path}: TooManyProcesses: there are more than 16 processes\n"
-        ),
-        DrawError::Ticks => {
-            let last = scenario.horizon() - 1;
-            format!(in alloc;
-                "{path}: Ticks: these ticks aren't those of the run, which are 0 to {last}\n"
-            )
-        }
-        DrawError::TooManyLetters => format!(in alloc;
-            "{path}: TooManyLetters: there are more than 2,000 letters to draw\n"
-        ),
+        DrawError::TooManyProcesses => reason_line(alloc, path, processes),
+        DrawError::Ticks => ticks_line(alloc, path, scenario.horizon() - 1),
+        DrawError::TooManyLetters => reason_line(alloc, path, letters),
         DrawError::Memory(error) => Err(*error),
     }
 }
