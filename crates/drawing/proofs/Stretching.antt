@@ -6,7 +6,7 @@ use Rattle.std.proofs.lemmas.List.{get_or_default}
 use Rattle.std.proofs.lemmas.List.Elements.{Contains-append_left, Contains-push, Contains-push_cases}
 use Rattle.std.proofs.lemmas.List.Quantifiers.{all_pairs_push}
 use Rattle.drawing.specs.Bars.{IsMaximal, AreBars}
-use Rattle.drawing.specs.Sweeping.{Found, passed_by, passed, found, stretches}
+use Rattle.drawing.specs.Inside.Sweeping.{Found, passed_by, passed, found, stretches}
 use Rattle.drawing.specs.declared.bars.Bar.{Bar}
 
 module _ (test : ℕ → Bool) (from : ℕ) where

@@ -1,5 +1,5 @@
 -- The picture of letters: what went from whom to whom.
-use Rattle.std.specs.Prelude.{◌≡◌, ℕ, ◌+◌, ◌-◌, ◌/◌, ◌==◌, nat_lt, Bool, not, ◌&&◌, ◌||◌, if◌then◌else◌, Option, None, Some, List, [], ◌∷◌, ◌++◌, map, flat_map, filter, length, codes, decimal}
+use Rattle.std.specs.Prelude.{ℕ, ◌+◌, ◌-◌, ◌==◌, nat_lt, Bool, not, ◌&&◌, ◌||◌, if◌then◌else◌, Option, None, Some, List, [], ◌∷◌, ◌++◌, map, flat_map, filter, length, codes, decimal}
 use Rattle.std.specs.List.{list_any}
 use Rattle.judges.specs.Out.{suspects}
 use Rattle.judges.specs.Outcomes.{outcome}
@@ -13,21 +13,16 @@ use Rattle.process_api.specs.Numbers.{numbers_to, others}
 use Rattle.process_api.specs.declared.entry.Kind.{Kind}
 use Rattle.process_api.specs.declared.entry.Kind.TheVariants as kind
 use Rattle.scenario_record.specs.Record.{Record, outages_on}
-use Rattle.svg.specs.Document.{svg_text}
 use Rattle.svg.specs.declared.class.Class.{Class}
 use Rattle.svg.specs.declared.class.Class.TheVariants as class
-use Rattle.svg.specs.declared.shape.Anchor.{Anchor}
-use Rattle.svg.specs.declared.shape.Anchor.TheVariants as anchor
 use Rattle.svg.specs.declared.shape.Point.{Point}
 use Rattle.svg.specs.declared.shape.Shape.{Shape}
 use Rattle.svg.specs.declared.shape.Shape.TheVariants as shape
-use Rattle.drawing.specs.Bands.{bands, outage_legend}
 use Rattle.drawing.specs.Bars.{AreBars}
-use Rattle.drawing.specs.Lanes.{lanes_bottom, line_of, own_top, remark_of, on_way}
-use Rattle.drawing.specs.Layout.{point, x_of, is_among, shown}
-use Rattle.drawing.specs.Suspicions.{word, title, marks_legend, left_out_shapes, axis, row_end, own_at}
+use Rattle.drawing.specs.Frame.{IsPicture, said}
+use Rattle.drawing.specs.Layout.{point, left_room, axis_width, x_of, is_among, shown, lanes_bottom, line_of, own_top, on_way}
+use Rattle.drawing.specs.Suspicions.{bands, own_at, row_end}
 use Rattle.drawing.specs.declared.bars.Bar.{Bar}
-use Rattle.drawing.specs.Sizes.{left_room, axis_width, right_room, foot_room}
 
 -- ---- letters
 
@@ -45,12 +40,6 @@ count_others of from until letters = length (filter (λ l. is_among from until l
 
 -- whose letter it is
 abbrev pub class_of : Kind → Class
-class_of kind.Start = class.Detector
-class_of kind.Beat = class.Detector
-class_of kind.Check = class.Detector
-class_of kind.Share = class.Detector
-class_of kind.Alive = class.Detector
-class_of kind.Heartbeat = class.Detector
 class_of kind.Suspects = class.Reduction
 class_of kind.Vector = class.Consensus
 class_of kind.Last = class.Consensus
@@ -58,7 +47,7 @@ class_of kind.Estimate = class.Consensus
 class_of kind.Proposal = class.Consensus
 class_of kind.Reply = class.Consensus
 class_of kind.Decide = class.Consensus
-class_of kind.Dead = class.Detector
+class_of detector = class.Detector
 
 module _ (processes from until : ℕ) where
   -- a tick on the line of a process
@@ -91,13 +80,9 @@ module _ (processes from until : ℕ) where
   ending l None = lost l
   ending l (Some due) = if nat_lt due until then arriving l due l.fate else leaving l due
 
-  -- the one shape of a letter
-  abbrev pub arrow : Letter → Shape
-  arrow l = ending l l.due
-
   -- one shape for each letter of these processes that is sent at these ticks, in the order of the letters
   abbrev pub arrows : (of : List ℕ) → List Letter → List Shape
-  arrows of letters = map arrow (sent_among of from until letters)
+  arrows of letters = map (λ l. ending l l.due) (sent_among of from until letters)
 
 -- ---- marks on the lines
 
@@ -110,119 +95,57 @@ abbrev pub turn_class : (share : Option ℕ) → Class
 turn_class None = class.First
 turn_class (Some period) = class.Second
 
--- a text goes to the right of its place in the left half, and to the left of it in the right half
-abbrev pub side : (x : ℕ) → Anchor
-side x = if nat_lt x (left_room + axis_width / 2) then anchor.Start else anchor.End
+-- what a process decides, where its decision is shown
+abbrev pub value_shapes : Answer → Option ℕ → List Shape
+value_shapes (answer.Value v) (Some tick) = said class.Remark (codes "decides " ++ decimal v) ∷ []
+value_shapes value tick = []
 
 module _ (from until : ℕ) where
-  -- what a process decides, below its line
-  abbrev pub value_shapes : (line : ℕ) → Answer → Option ℕ → List Shape
-  value_shapes line answer.None tick = []
-  value_shapes line answer.NoValue tick = []
-  value_shapes line (answer.Value v) None = []
-  value_shapes line (answer.Value v) (Some tick) =
-      shape.Text class.Remark (point (x_of from until tick) (line + 16)) (side (x_of from until tick))
-      (codes "decides " ++ decimal v)
-      ∷ []
-
-  -- a disc on the line of a process, and above it `+2` or `-2`
-  abbrev pub turn_shapes : Class → (line remark : ℕ) (sign : List ℕ) (p : ℕ) → Option ℕ → List Shape
-  turn_shapes style line remark sign p None = []
-  turn_shapes style line remark sign p (Some tick) =
-      shape.Disc style (point (x_of from until tick) line) 3
-      ∷ shape.Text class.Remark (point (x_of from until tick) remark) anchor.Middle (sign ++ decimal p)
-      ∷ []
+  -- a disc on the line of a process, and `+2` or `-2`
+  abbrev pub turn_shapes : Class → (line : ℕ) (sign : List ℕ) (p : ℕ) → Option ℕ → List Shape
+  turn_shapes style line sign p None = []
+  turn_shapes style line sign p (Some tick) =
+      shape.Disc style (point (x_of from until tick) line) 3 ∷ said class.Remark (sign ++ decimal p) ∷ []
 
   -- where the stretch of a suspicion begins, and where it ends before the line does
-  abbrev pub bar_turns : Class → (line remark end p : ℕ) → Bar → List Shape
-  bar_turns style line remark end p b =
-      turn_shapes style line remark (codes "+") p (shown from end (Some b.begin))
-      ++ turn_shapes style line remark (codes "-") p (shown from end (Some b.end))
-
--- ---- the frame
-
--- how something is shown, and what it is
-abbrev pub entry : Shape → (x : ℕ) → (words : List ℕ) → List Shape
-entry sample x words = sample ∷ word (x + 30) 38 words ∷ []
-
-abbrev pub arrow_entry : Class → (x : ℕ) → (words : List ℕ) → List Shape
-arrow_entry style x words = entry (shape.Arrow style (point x 34) (point (x + 24) 34)) x words
-
-abbrev pub line_entry : Class → (x : ℕ) → (words : List ℕ) → List Shape
-line_entry style x words = entry (shape.Line style (point x 34) (point (x + 24) 34)) x words
-
-abbrev pub taken_legend : List Shape
-taken_legend =
-    arrow_entry class.Detector left_room (codes "letter of a detector")
-    ++ (arrow_entry class.Reduction (left_room + 160) (codes "of the reduction")
-    ++ arrow_entry class.Consensus (left_room + 300) (codes "of consensus"))
-
-abbrev pub untaken_legend : List Shape
-untaken_legend =
-    entry (shape.Stub class.Lost (point (left_room + 425) 34) (point (left_room + 445) 34)) (left_room + 425)
-    (codes "lost")
-    ++ (line_entry class.Dead (left_room + 500) (codes "to a crashed process")
-    ++ line_entry class.Late (left_room + 675) (codes "due later"))
-
-abbrev pub turns_legend : (share : Option ℕ) → List Shape
-turns_legend share =
-    shape.Disc (turn_class share) (point (left_room + 150) 50) 3
-    ∷ word (left_room + 162) 54 (codes "+2: suspects process 2, -2: trusts it again") ∷ []
-
--- the title, and what arrows and marks mean
-unfoldable pub letters_legend : (from until : ℕ) (share : Option ℕ) → List Shape
-letters_legend from until share =
-    (title (codes "What went from whom to whom") from until ∷ taken_legend)
-    ++ (untaken_legend ++ (marks_legend left_room 54 ++ turns_legend share))
+  abbrev pub bar_turns : Class → (line end p : ℕ) → Bar → List Shape
+  bar_turns style line end p b =
+      turn_shapes style line (codes "+") p (shown from end (Some b.begin))
+      ++ turn_shapes style line (codes "-") p (shown from end (Some b.end))
 
 -- ---- the picture
 
 module _ (S : Record) (trace : List EntryRecord) (from until : ℕ) where
-  -- the line of process q with its name, up to its crash, and its decision
-  unfoldable pub line_shapes : (q : ℕ) → List Shape
-  line_shapes q = own_at S trace from until (own_top S.processes q) q
-
   -- the bands of process q: where a link from it is in an outage
   unfoldable pub line_bands : (q : ℕ) → List Shape
   line_bands q = flat_map (λ p. bands from until (own_top S.processes q) (outages_on S q p)) (others S.processes q)
-
-  abbrev pub all_line_bands : List Shape
-  all_line_bands = flat_map line_bands (numbers_to S.processes)
 
   module _ (bars : (q p : ℕ) → List Bar) where
     -- where q begins to suspect p, and where it trusts it again
     unfoldable pub turns_of : (q p : ℕ) → List Shape
     turns_of q p =
-        flat_map (bar_turns from until (turn_class S.share) (line_of S.processes q) (remark_of S.processes q p)
-        (row_end S until q) p) (bars q p)
+        flat_map (bar_turns from until (turn_class S.share) (line_of S.processes q) (row_end S until q) p) (bars q p)
 
     -- the marks of process q: what it decides, and its turns
     unfoldable pub mark_shapes : (q : ℕ) → List Shape
     mark_shapes q =
-        value_shapes from until (line_of S.processes q) (outcome trace q).value
-        (shown from until (outcome trace q).tick)
+        value_shapes (outcome trace q).value (shown from until (outcome trace q).tick)
         ++ flat_map (turns_of q) (others S.processes q)
 
-    -- the frame, a line for each process, an arrow for each letter of these processes that is sent at these ticks, and
-    -- marks
+    -- a line for each process, an arrow for each letter of these processes that is sent at these ticks, and marks
     unfoldable pub letters_shapes : (of : List ℕ) → List Letter → List Shape
     letters_shapes of letters =
-        letters_legend from until S.share
-        ++ (left_out_shapes (codes "letters of others, left out") (count_others of from until letters)
-        ++ (outage_legend (left_room + 440) 54 all_line_bands
-        ++ (all_line_bands
-        ++ (axis from until (lanes_bottom S.processes)
-        ++ (flat_map line_shapes (numbers_to S.processes)
-        ++ (arrows S.processes from until of letters
-        ++ flat_map mark_shapes (numbers_to S.processes)))))))
+        flat_map (λ q. own_at S trace from until (own_top S.processes q) q) (numbers_to S.processes)
+        ++ (arrows S.processes from until of letters ++ flat_map mark_shapes (numbers_to S.processes))
 
 module _ (S : Record) (trace : List EntryRecord) (letters : List Letter) (of : List ℕ) (from until : ℕ) where
-  -- the text is that of a picture of these letters, of them those of some processes, in which the marks are where the
-  -- stretches of suspicion begin and end: the maximal ones from tick 0 to the end of the observer's line, on the upper
-  -- layer
+  -- the text is a picture of these letters, of them those of some processes, in which the marks are where the stretches
+  -- of suspicion begin and end: the maximal ones from tick 0 to the end of the observer's line, on the upper layer. It
+  -- tells how many letters of others are left out
   pub record DrawsLetters (text : List ℕ) : Type 0 where
     pub bars : (q p : ℕ) → List Bar
     pub are_bars : (q p : ℕ) → AreBars (suspects (upper_layer S.share) trace q p) 0 (row_end S until q) (bars q p)
-    pub text_is :
-        text ≡ svg_text (left_room + axis_width + right_room) (lanes_bottom S.processes + foot_room)
-        (letters_shapes S trace from until bars of letters)
+    pub picture :
+        IsPicture (lanes_bottom S.processes) (count_others of from until letters)
+        (flat_map (line_bands S trace from until) (numbers_to S.processes))
+        (letters_shapes S trace from until bars of letters) text

@@ -1,10 +1,7 @@
-pub mod Sizes
 pub mod Bars
-pub mod Sweeping
 pub mod Layout
-pub mod Bands
+pub mod Frame
 pub mod Suspicions
-pub mod Lanes
 pub mod LettersPicture
 pub mod Refusals
 pub mod Inside

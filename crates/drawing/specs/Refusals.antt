@@ -5,7 +5,13 @@ use Rattle.scenario_record.specs.Record.{Record}
 use Rattle.drawing.specs.LettersPicture.{sent_among}
 use Rattle.drawing.specs.declared.error.DrawError.{DrawError}
 use Rattle.drawing.specs.declared.error.DrawError.TheVariants.{TooManyProcesses, Ticks, TooManyLetters, Memory}
-use Rattle.drawing.specs.Sizes.{most_drawn, most_letters}
+
+-- the most processes and letters that are drawn
+abbrev pub most_drawn : ℕ
+most_drawn = 16
+
+abbrev pub most_letters : ℕ
+most_letters = 2000
 
 -- of the processes and the ticks asked for the first refusal, if there is one
 abbrev pub refusal : Record → (from until : ℕ) → Option DrawError

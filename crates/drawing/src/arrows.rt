@@ -1,8 +1,10 @@
 //! The arrows of letters.
 ghost use Rattle.std.specs.Prelude.{◌≡◌, ◌++◌, ◌≤◌, ◌<◌, ◌*◌, ◌/◌, length, OnOk};
-ghost use Rattle.drawing.specs.Lanes.{on_way};
+ghost use Rattle.drawing.specs.Frame.{placeless, without_place};
+ghost use Rattle.drawing.specs.Layout.{on_way};
 ghost use Rattle.drawing.specs.LettersPicture.{class_of, count_others, is_of, sent_among};
 
+use crate::frame::push_mark;
 use crate::groups::Run;
 use crate::lanes::line_of;
 use crate::layout::{LEFT, Ticks, WIDTH};
@@ -68,7 +70,7 @@ fn part_of(way: u32, part: u64, whole: u64) -> u32
 }
 
 /// The height after so many of all parts of the way from one height to another.
-#[tactic(auto, unfolding(crate::specs::Lanes::on_way))]
+#[tactic(auto, unfolding(crate::specs::Layout::on_way))]
 fn on_way(from: u32, to: u32, part: u64, whole: u64) -> u32
     requires some { 0 < whole }
     requires inside { part ≤ whole }
@@ -83,8 +85,8 @@ fn on_way(from: u32, to: u32, part: u64, whole: u64) -> u32
 }
 
 impl Run<'_> {
-    ghost use Rattle.drawing.specs.Lanes.{line_of};
-    ghost use Rattle.drawing.specs.LettersPicture.{arriving, arrow, arrows, leaving, lost, place};
+    ghost use Rattle.drawing.specs.Layout.{line_of};
+    ghost use Rattle.drawing.specs.LettersPicture.{arriving, arrows, ending, leaving, lost, place};
 
     /// Where the line of a process is, from the top.
     fn line_of(&self, process: Pid) -> u32
@@ -105,7 +107,7 @@ impl Run<'_> {
 
     /// The shape of a letter that is lost.
     fn lost(&self, letter: &Letter) -> Shape
-        ensures { result ≡ lost self.now.scenario.now.processes self.now.ticks.from self.now.ticks.until letter.now }
+        ensures { without_place result ≡ lost self.now.scenario.now.processes self.now.ticks.from self.now.ticks.until letter.now }
     {
         let begin = self.line_of(letter.sender);
         let end = self.line_of(letter.receiver);
@@ -124,7 +126,7 @@ impl Run<'_> {
     fn leaving(&self, letter: &Letter, due: u64) -> Shape
         requires sent { letter.now.sent < self.now.ticks.until }
         requires due { self.now.ticks.until ≤ due }
-        ensures { result
+        ensures { without_place result
             ≡ leaving self.now.scenario.now.processes self.now.ticks.from self.now.ticks.until letter.now due }
     {
         let begin = self.line_of(letter.sender);
@@ -142,7 +144,7 @@ impl Run<'_> {
 
     /// The shape of a letter that is due at one of these ticks.
     fn arriving(&self, letter: &Letter, due: u32) -> Shape
-        ensures { result
+        ensures { without_place result
             ≡ arriving self.now.scenario.now.processes self.now.ticks.from self.now.ticks.until
             letter.now due letter.now.fate }
     {
@@ -171,7 +173,8 @@ impl Run<'_> {
     /// The shape of a letter.
     fn arrow(&self, letter: &Letter) -> Shape
         requires { letter.now.sent < self.now.ticks.until }
-        ensures { result ≡ arrow self.now.scenario.now.processes self.now.ticks.from self.now.ticks.until letter.now }
+        ensures { without_place result
+            ≡ ending self.now.scenario.now.processes self.now.ticks.from self.now.ticks.until letter.now letter.now.due }
     {
         match letter.due {
             None => self.lost(letter),
@@ -192,12 +195,12 @@ impl Run<'_> {
         of: &[Pid],
         letters: &[Letter],
     ) -> Result<(), AllocError>
-        ensures { OnOk result (shapes.new.items ≡ shapes.old.items
+        ensures { OnOk result (placeless shapes.new.items ≡ placeless shapes.old.items
             ++ arrows self.now.scenario.now.processes self.now.ticks.from self.now.ticks.until of.now letters.now) }
     {
         for letter in letters {
             if self.ticks.has(letter.sent) && is_of(of, letter) {
-                shapes.push(self.arrow(letter))?;
+                push_mark(shapes, self.arrow(letter))?;
             }
         }
         Ok(())

@@ -1,7 +1,8 @@
 //! The axis of ticks.
-ghost use Rattle.std.specs.Prelude.{◌≡◌, ◌++◌, ◌≤◌, OnOk};
-ghost use Rattle.drawing.specs.Suspicions.{axis, edge, tick_shapes};
+ghost use Rattle.std.specs.Prelude.{◌≡◌, ◌≤◌, ◌∷◌, [], true, IfOk, OnOk};
+ghost use Rattle.drawing.specs.Frame.{are_frame};
 
+use crate::frame::push_frame;
 use crate::labels::text;
 use crate::layout::{LEFT, TOP, Ticks, WIDTH};
 use std::alloc::{AllocError, Global};
@@ -15,26 +16,32 @@ fn push_tick(
     bottom: u32,
     tick: u32,
 ) -> Result<(), AllocError>
-    requires { bottom ≤ 2000000 }
-    ensures { OnOk result (shapes.new.items
-        ≡ shapes.old.items ++ tick_shapes ticks.now.from ticks.now.until bottom tick) }
+    requires before { are_frame shapes.old.items ≡ true }
+    requires bottom { bottom ≤ 2000000 }
+    ensures { OnOk result (are_frame shapes.new.items ≡ true) }
 {
     let x = ticks.x(tick);
     let above = format!(in alloc; "{tick}")?;
     let below = format!(in alloc; "{tick}")?;
-    shapes.push(Shape::Line {
+    let line = Shape::Line {
         class: Class::Grid,
         from: Point { x, y: TOP - 8 },
         to: Point { x, y: bottom },
-    })?;
-    shapes.push(text(Class::Label, x, TOP - 12, Anchor::Middle, above))?;
-    shapes.push(text(Class::Label, x, bottom + 14, Anchor::Middle, below))?;
-    Ok(())
+    };
+    push_frame(shapes, line)?;
+    push_frame(
+        shapes,
+        text(Class::Label, x, TOP - 12, Anchor::Middle, above),
+    )?;
+    push_frame(
+        shapes,
+        text(Class::Label, x, bottom + 14, Anchor::Middle, below),
+    )
 }
 
 /// A line above or below the rows.
 fn edge(y: u32) -> Shape
-    ensures { result ≡ edge y }
+    ensures { are_frame (result ∷ []) ≡ true }
 {
     Shape::Line {
         class: Class::Axis,
@@ -43,24 +50,19 @@ fn edge(y: u32) -> Shape
     }
 }
 
-/// Appends the axis: its lines, and its labelled ticks.
-#[tactic(auto, unfolding(crate::specs::Suspicions::axis, crate::specs::Layout::labelled))]
-pub(crate) fn push_axis(
-    alloc: Global,
-    shapes: &mut Vec<Shape>,
-    ticks: &Ticks,
-    bottom: u32,
-) -> Result<(), AllocError>
+/// The axis: its lines, and its labelled ticks.
+pub(crate) fn axis(alloc: Global, ticks: &Ticks, bottom: u32) -> Result<Vec<Shape>, AllocError>
     requires { bottom ≤ 2000000 }
-    ensures { OnOk result (shapes.new.items ≡ shapes.old.items ++ axis ticks.now.from ticks.now.until bottom) }
+    ensures { IfOk result (λ axis. are_frame axis.items ≡ true) }
 {
-    shapes.push(edge(TOP - 8))?;
-    shapes.push(edge(bottom))?;
+    let mut shapes = Vec::new(alloc);
+    push_frame(&mut shapes, edge(TOP - 8))?;
+    push_frame(&mut shapes, edge(bottom))?;
     let step = ticks.step();
     let first = ticks.from.div_ceil(step);
     let last = ticks.until / step;
     for times in first..last + 1 {
-        push_tick(alloc, shapes, ticks, bottom, times * step)?;
+        push_tick(alloc, &mut shapes, ticks, bottom, times * step)?;
     }
-    Ok(())
+    Ok(shapes)
 }

@@ -1,35 +1,23 @@
 //! Bands: the ticks at which a link loses all letters.
-ghost use Rattle.std.specs.Prelude.{◌≡◌, ◌++◌, ◌≤◌, ◌<◌, IfOk, OnOk};
-ghost use Rattle.drawing.specs.Bands.{band, bands, is_seen, outage_legend};
+ghost use Rattle.std.specs.Prelude.{◌≡◌, ◌++◌, ◌≤◌, true, IfOk, OnOk};
+ghost use Rattle.drawing.specs.Frame.{are_frame};
+ghost use Rattle.drawing.specs.Suspicions.{bands, is_seen};
 
 use crate::groups::Run;
-use crate::labels::word;
 use crate::lanes::own_top;
 use crate::layout::{ROW, Ticks};
+use crate::legend::{push_entry, sample};
+use crate::row_shapes::stretch;
 use process_api::Pid;
 use scenario_record::Outage;
 use std::alloc::{AllocError, Global};
-use svg::{Class, Point, Shape};
+use svg::{Class, Shape};
 
 /// Whether an outage has one of these ticks.
 fn is_seen(ticks: &Ticks, outage: &Outage) -> bool
     ensures { result ≡ is_seen ticks.now.from ticks.now.until outage.now }
 {
     outage.begin < ticks.until && ticks.from < outage.until
-}
-
-/// The band of an outage, in a row that begins at `top`.
-fn band(ticks: &Ticks, top: u32, outage: &Outage) -> Shape
-    ensures { result ≡ band ticks.now.from ticks.now.until top outage.now }
-{
-    let x = ticks.x(outage.begin);
-    let end = ticks.x(outage.until);
-    Shape::Rect {
-        class: Class::Outage,
-        corner: Point { x, y: top },
-        width: end.saturating_sub(x).max(1),
-        height: ROW,
-    }
 }
 
 /// Appends the bands of a link's outages.
@@ -44,35 +32,30 @@ pub(crate) fn push_bands(
 {
     for outage in outages {
         if is_seen(ticks, outage) {
-            shapes.push(band(ticks, top, outage))?;
+            shapes.push(stretch(ticks, Class::Outage, top, ROW, outage.begin, outage.until))?;
         }
     }
     Ok(())
 }
 
-/// Appends what bands mean, where there is one.
-pub(crate) fn push_outage_legend(
+/// What bands mean, where there is one.
+pub(crate) fn outage_legend(
     alloc: Global,
-    shapes: &mut Vec<Shape>,
     x: u32,
     y: u32,
     drawn: &[Shape],
-) -> Result<(), AllocError>
+) -> Result<Vec<Shape>, AllocError>
     requires wide { x ≤ 1000 }
     requires low { 8 ≤ y }
-    ensures { OnOk result (shapes.new.items ≡ shapes.old.items ++ outage_legend x y drawn.now) }
+    requires high { y ≤ 60 }
+    ensures { IfOk result (λ legend. are_frame legend.items ≡ true) }
 {
-    if drawn.is_empty() {
-        return Ok(());
+    let mut legend = Vec::new(alloc);
+    if !drawn.is_empty() {
+        let outage = sample(Class::Outage, x, y - 8);
+        push_entry(alloc, &mut legend, outage, x + 30, y, "outage")?;
     }
-    shapes.push(Shape::Rect {
-        class: Class::Outage,
-        corner: Point { x, y: y - 8 },
-        width: 24,
-        height: 6,
-    })?;
-    shapes.push(word(alloc, x + 30, y, "outage")?)?;
-    Ok(())
+    Ok(legend)
 }
 
 impl Run<'_> {

@@ -2,7 +2,7 @@
 ghost use Rattle.std.specs.Prelude.{◌≡◌, IfOk};
 ghost use Rattle.judges.specs.Out.{suspects};
 ghost use Rattle.drawing.specs.Bars.{AreBars};
-ghost use Rattle.drawing.specs.Sweeping.{stretches};
+ghost use Rattle.drawing.specs.Inside.Sweeping.{stretches};
 
 use crate::sweep::Sweep;
 use process_api::{Pid, Trace};
@@ -33,8 +33,22 @@ pub fn bars_of(
     from: u32,
     until: u32,
 ) -> Result<Vec<Bar>, AllocError>
-    ensures bars { IfOk result (λ v. AreBars (suspects layer trace.now observer subject) from until v.items) }
-    ensures value { IfOk result (λ v. v.items ≡ stretches (suspects layer trace.now observer subject) from until) }
+    ensures { IfOk result (λ v. AreBars (suspects layer trace.now observer subject) from until v.items) }
+{
+    stretches_of(alloc, trace, layer, observer, subject, from, until)
+}
+
+/// The same, as they are found.
+pub(crate) fn stretches_of(
+    alloc: Global,
+    trace: &Trace,
+    layer: u8,
+    observer: Pid,
+    subject: Pid,
+    from: u32,
+    until: u32,
+) -> Result<Vec<Bar>, AllocError>
+    ensures { IfOk result (λ v. v.items ≡ stretches (suspects layer trace.now observer subject) from until) }
 {
     let mut sweep = Sweep::open(alloc, from);
     for entry in trace.entries() {

@@ -1,7 +1,9 @@
 //! The rows of processes: one for each itself, and one for each other process of which it has a bar.
 ghost use Rattle.std.specs.Prelude.{◌≡◌, ◌++◌, ◌+◌, ◌-◌, ◌≤◌, OnOk, IfOk};
 ghost use Rattle.judges.specs.Outcomes.{outcome};
+ghost use Rattle.drawing.specs.Frame.{placeless};
 
+use crate::frame::push_mark;
 use crate::labels::own_name;
 use crate::layout::{GAP, ROW, TOP, Ticks};
 use crate::row_shapes::{decided, life_line, push_crash, push_decision};
@@ -64,12 +66,13 @@ impl Run<'_> {
     ) -> Result<(), AllocError>
         requires top { top ≤ 1100000 }
         requires told { told.now ≡ outcome self.now.trace.now told.now.pid }
-        ensures { OnOk result (shapes.new.items ≡ shapes.old.items ++ own_of self.now top told.now.pid) }
+        ensures { OnOk result (placeless shapes.new.items
+            ≡ placeless shapes.old.items ++ own_of self.now top told.now.pid) }
     {
         let ticks = &self.ticks;
         let end = self.row_end(told.pid);
-        shapes.push(own_name(alloc, top, told.pid)?)?;
-        shapes.push(life_line(ticks, Class::Life, top + 8, end))?;
+        push_mark(shapes, own_name(alloc, top, told.pid)?)?;
+        push_mark(shapes, life_line(ticks, Class::Life, top + 8, end))?;
         let decision = ticks.shown(ticks.until, decided(told));
         push_decision(shapes, ticks, top, decision)?;
         let crash = ticks.shown(ticks.until, self.scenario.crash(told.pid));

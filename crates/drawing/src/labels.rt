@@ -1,7 +1,7 @@
 //! The texts of a picture.
-ghost use Rattle.std.specs.Prelude.{◌≡◌, ◌≤◌, ◌<◌, IfOk, string_bytes};
+ghost use Rattle.std.specs.Prelude.{◌≡◌, ◌++◌, ◌∷◌, [], ◌≤◌, ◌<◌, true, IfOk, codes, decimal, string_bytes};
+ghost use Rattle.drawing.specs.Frame.{are_frame, said, without_place};
 ghost use Rattle.drawing.specs.Layout.{point};
-ghost use Rattle.drawing.specs.Suspicions.{own_name, pair_name, title, word};
 
 use crate::layout::LEFT;
 use process_api::Pid;
@@ -22,7 +22,7 @@ pub(crate) fn text(class: Class, x: u32, y: u32, anchor: Anchor, text: String) -
 
 /// A word that is the same in each picture.
 pub(crate) fn word(alloc: Global, x: u32, y: u32, text: &str) -> Result<Shape, AllocError>
-    ensures { IfOk result (λ s. s ≡ word x y text.now) }
+    ensures { IfOk result (λ s. are_frame (s ∷ []) ≡ true) }
 {
     let caption = Caption::copied(alloc, text)?;
     Ok(Shape::Text {
@@ -34,7 +34,6 @@ pub(crate) fn word(alloc: Global, x: u32, y: u32, text: &str) -> Result<Shape, A
 }
 
 /// The name of the row of an observer and another process.
-#[tactic(auto, unfolding(crate::specs::Suspicions::pair_name))]
 pub(crate) fn pair_name(
     alloc: Global,
     top: u32,
@@ -42,7 +41,8 @@ pub(crate) fn pair_name(
     subject: Pid,
 ) -> Result<Shape, AllocError>
     requires { top ≤ 1100000 }
-    ensures { IfOk result (λ s. s ≡ pair_name top observer subject) }
+    ensures { IfOk result (λ s. without_place s
+        ≡ said Class.Label (decimal observer ++ (codes ": " ++ decimal subject))) }
 {
     let one = observer.number();
     let other = subject.number();
@@ -51,10 +51,9 @@ pub(crate) fn pair_name(
 }
 
 /// The name of the row of a process itself.
-#[tactic(auto, unfolding(crate::specs::Suspicions::own_name))]
 pub(crate) fn own_name(alloc: Global, top: u32, process: Pid) -> Result<Shape, AllocError>
     requires { top ≤ 1100000 }
-    ensures { IfOk result (λ s. s ≡ own_name top process) }
+    ensures { IfOk result (λ s. without_place s ≡ said Class.Title (codes "process " ++ decimal process)) }
 {
     let number = process.number();
     let name = format!(in alloc; "process {number}")?;
@@ -62,10 +61,9 @@ pub(crate) fn own_name(alloc: Global, top: u32, process: Pid) -> Result<Shape, A
 }
 
 /// The title of a picture of some ticks.
-#[tactic(auto, unfolding(crate::specs::Suspicions::title))]
 pub(crate) fn title(alloc: Global, words: &str, from: u32, until: u32) -> Result<Shape, AllocError>
     requires { from < until }
-    ensures { IfOk result (λ s. s ≡ title words.now from until) }
+    ensures { IfOk result (λ s. are_frame (s ∷ []) ≡ true) }
 {
     let last = until - 1;
     let name = format!(in alloc; "{words}, ticks {from} to {last}")?;

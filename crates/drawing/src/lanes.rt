@@ -1,6 +1,6 @@
 //! Where things stand in a picture of letters.
-ghost use Rattle.std.specs.Prelude.{◌≡◌, ◌≤◌};
-ghost use Rattle.drawing.specs.Lanes.{lane_height, lane_top, lanes_bottom, line_of, own_top, remark_of, rows_above};
+ghost use Rattle.std.specs.Prelude.{◌≡◌, ◌≤◌, ◌+◌, ◌-◌, ◌*◌};
+ghost use Rattle.drawing.specs.Layout.{head_room, lane_height, lanes_bottom, line_of, own_top};
 
 use crate::layout::{LANE, REMARK, TOP};
 use process_api::Pid;
@@ -15,7 +15,7 @@ fn lane_height(processes: u16) -> u32
 }
 
 /// Where the rooms end, from the top.
-#[tactic(auto, unfolding(crate::specs::Lanes::lanes_bottom))]
+#[tactic(auto, unfolding(crate::specs::Layout::lanes_bottom))]
 pub(crate) fn lanes_bottom(processes: u16) -> u32
     requires { processes ≤ 256 }
     ensures value { result ≡ lanes_bottom processes }
@@ -25,17 +25,16 @@ pub(crate) fn lanes_bottom(processes: u16) -> u32
 }
 
 /// Where the room of a process begins, from the top.
-#[tactic(auto, unfolding(crate::specs::Lanes::lane_top))]
 fn lane_top(processes: u16, process: Pid) -> u32
     requires { processes ≤ 256 }
-    ensures value { result ≡ lane_top processes process }
+    ensures value { result ≡ head_room + (process - 1) * lane_height processes }
     ensures high { result ≤ 600000 }
 {
     TOP + u32::from(process.number() - 1) * lane_height(processes)
 }
 
 /// Where the row of a process itself begins, from the top.
-#[tactic(auto, unfolding(crate::specs::Lanes::own_top))]
+#[tactic(auto, unfolding(crate::specs::Layout::own_top))]
 pub(crate) fn own_top(processes: u16, process: Pid) -> u32
     requires { processes ≤ 256 }
     ensures value { result ≡ own_top processes process }
@@ -55,8 +54,7 @@ pub(crate) fn line_of(processes: u16, process: Pid) -> u32
 
 /// How many places for texts of an observer stand above that for a subject.
 fn rows_above(observer: Pid, subject: Pid) -> u32
-    ensures value { result ≡ rows_above observer subject }
-    ensures few { result ≤ 256 }
+    ensures { result ≤ 256 }
 {
     if subject == observer {
         0
@@ -68,10 +66,8 @@ fn rows_above(observer: Pid, subject: Pid) -> u32
 }
 
 /// Where the texts of what a process makes of another stand, from the top.
-#[tactic(auto, unfolding(crate::specs::Lanes::remark_of))]
 pub(crate) fn remark_of(processes: u16, observer: Pid, subject: Pid) -> u32
     requires { processes ≤ 256 }
-    ensures { result ≡ remark_of processes observer subject }
 {
     lane_top(processes, observer) + rows_above(observer, subject) * REMARK + 11
 }

@@ -1,7 +1,5 @@
 //! Where things stand in a picture, in whole user units.
-ghost use Rattle.std.specs.Prelude.{◌≡◌, ◌≤◌, ◌<◌, nat_le, IfSome};
-ghost use Rattle.std.specs.List.{find};
-ghost use Rattle.drawing.specs.Sizes.{steps};
+ghost use Rattle.std.specs.Prelude.{◌≡◌, ◌≤◌, ◌<◌, IfSome};
 
 /// The most processes that are drawn.
 pub const MOST_DRAWN: u16 = 16;
@@ -38,10 +36,8 @@ const STEPS: [u32; 18] = [
 const LAST_STEP: u32 = 1_000_000;
 
 /// The least step that isn't below a number.
-#[tactic(auto, unfolding(crate::specs::Sizes::steps))]
 fn step_from(least: u32) -> Option<u32>
-    ensures value { result ≡ find (λ step. nat_le least step) steps }
-    ensures some { IfSome result (λ step. 0 < step) }
+    ensures { IfSome result (λ step. 0 < step) }
 {
     STEPS.iter().copied().find(|step| least <= *step)
 }
@@ -57,7 +53,7 @@ pub(crate) struct Ticks {
 }
 
 impl Ticks {
-    ghost use Rattle.drawing.specs.Layout.{is_among, shown, step_of, x_of};
+    ghost use Rattle.drawing.specs.Layout.{is_among, shown, x_of};
 
     /// Where a tick begins, from the left; at an edge where it isn't one of these.
     #[tactic(auto, unfolding(crate::specs::Layout::x_of))]
@@ -71,10 +67,8 @@ impl Ticks {
     }
 
     /// How many ticks there are from one label of the axis to the next.
-    #[tactic(auto, unfolding(crate::specs::Layout::step_of))]
     pub fn step(&self) -> u32
-        ensures value { result ≡ step_of self.now.from self.now.until }
-        ensures some { 0 < result }
+        ensures { 0 < result }
     {
         let ticks = self.until - self.from;
         step_from(ticks.div_ceil(10)).unwrap_or(LAST_STEP)

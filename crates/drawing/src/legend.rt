@@ -1,71 +1,82 @@
 //! The title of a picture, and what its marks mean.
-ghost use Rattle.std.specs.Prelude.{◌≡◌, ◌++◌, ◌∷◌, ◌≤◌, [], OnOk};
-ghost use Rattle.drawing.specs.Suspicions.{left_out_shapes, legend, marks_legend, sample, second_legend};
+ghost use Rattle.std.specs.Prelude.{◌≡◌, ◌≤◌, ◌∷◌, [], true, OnOk};
+ghost use Rattle.drawing.specs.Frame.{Tells, are_frame};
 
+use crate::frame::push_frame;
 use crate::labels::{text, title, word};
 use crate::layout::{LEFT, Ticks, WIDTH};
 use std::alloc::{AllocError, Global};
 use svg::{Anchor, Class, Point, Shape};
 
-/// How the bars of a layer are shown.
-fn sample(class: Class, x: u32) -> Shape
-    ensures { result ≡ sample class x }
+/// Appends how something is shown, and what it is, in words at (`x`, `y`).
+pub(crate) fn push_entry(
+    alloc: Global,
+    shapes: &mut Vec<Shape>,
+    sample: Shape,
+    x: u32,
+    y: u32,
+    words: &str,
+) -> Result<(), AllocError>
+    requires before { are_frame shapes.old.items ≡ true }
+    requires sample { are_frame (sample ∷ []) ≡ true }
+    ensures { OnOk result (are_frame shapes.new.items ≡ true) }
+{
+    push_frame(shapes, sample)?;
+    push_frame(shapes, word(alloc, x, y, words)?)
+}
+
+/// How a bar or a band is shown.
+pub(crate) fn sample(class: Class, x: u32, y: u32) -> Shape
+    requires { y ≤ 60 }
+    ensures { are_frame (result ∷ []) ≡ true }
 {
     Shape::Rect {
         class,
-        corner: Point { x, y: 34 },
+        corner: Point { x, y },
         width: 24,
         height: 6,
     }
 }
 
-/// What the marks mean.
+/// Appends what the marks mean.
 pub(crate) fn push_marks(
     alloc: Global,
     shapes: &mut Vec<Shape>,
     x: u32,
     y: u32,
 ) -> Result<(), AllocError>
+    requires before { are_frame shapes.old.items ≡ true }
     requires wide { x ≤ 1000 }
     requires low { 4 ≤ y }
-    ensures { OnOk result (shapes.new.items ≡ shapes.old.items ++ marks_legend x y) }
+    requires high { y ≤ 60 }
+    ensures { OnOk result (are_frame shapes.new.items ≡ true) }
 {
-    shapes.push(Shape::Cross {
-        class: Class::Crash,
-        center: Point { x, y: y - 4 },
-    })?;
-    shapes.push(word(alloc, x + 12, y, "crash")?)?;
-    shapes.push(Shape::Disc {
+    let class = Class::Crash;
+    let center = Point { x, y: y - 4 };
+    let crash = Shape::Cross { class, center };
+    push_entry(alloc, shapes, crash, x + 12, y, "crash")?;
+    let decision = Shape::Disc {
         class: Class::Decision,
         center: Point {
             x: x + 70,
             y: y - 4,
         },
         radius: 4,
-    })?;
-    shapes.push(word(alloc, x + 82, y, "decision")?)?;
-    Ok(())
-}
-
-/// What the bars of layer 2 mean, where there is such a layer.
-fn push_second(alloc: Global, shapes: &mut Vec<Shape>, share: Option<u32>) -> Result<(), AllocError>
-    ensures { OnOk result (shapes.new.items ≡ shapes.old.items ++ second_legend share) }
-{
-    if share.is_some() {
-        shapes.push(sample(Class::Second, LEFT + 400))?;
-        shapes.push(word(alloc, LEFT + 430, 42, "suspected by the reduction")?)?;
-    }
-    Ok(())
+    };
+    push_entry(alloc, shapes, decision, x + 82, y, "decision")
 }
 
 /// Appends how many are left out, where there are any.
+#[tactic(auto, unfolding(crate::specs::Frame::placeless))]
 pub(crate) fn push_left_out(
     alloc: Global,
     shapes: &mut Vec<Shape>,
     words: &str,
     count: usize,
 ) -> Result<(), AllocError>
-    ensures { OnOk result (shapes.new.items ≡ shapes.old.items ++ left_out_shapes words.now count) }
+    requires { are_frame shapes.old.items ≡ true }
+    ensures frame { OnOk result (are_frame shapes.new.items ≡ true) }
+    ensures tells { OnOk result (Tells count shapes.new.items) }
 {
     if count == 0 {
         return Ok(());
@@ -75,20 +86,40 @@ pub(crate) fn push_left_out(
     Ok(())
 }
 
-/// Appends the title, and what the marks mean.
-#[tactic(auto, unfolding(crate::specs::Suspicions::legend))]
+/// Appends the title, and what the bars and marks mean.
 pub(crate) fn push_legend(
     alloc: Global,
     shapes: &mut Vec<Shape>,
     ticks: &Ticks,
     share: Option<u32>,
 ) -> Result<(), AllocError>
-    ensures { OnOk result (shapes.new.items ≡ shapes.old.items ++ legend ticks.now.from ticks.now.until share) }
+    requires { are_frame shapes.old.items ≡ true }
+    ensures { OnOk result (are_frame shapes.new.items ≡ true) }
 {
-    shapes.push(title(alloc, "Who suspects whom", ticks.from, ticks.until)?)?;
-    shapes.push(sample(Class::First, LEFT))?;
-    shapes.push(word(alloc, LEFT + 30, 42, "suspected by the base detector")?)?;
+    push_frame(
+        shapes,
+        title(alloc, "Who suspects whom", ticks.from, ticks.until)?,
+    )?;
+    let first = sample(Class::First, LEFT, 34);
+    push_entry(
+        alloc,
+        shapes,
+        first,
+        LEFT + 30,
+        42,
+        "suspected by the base detector",
+    )?;
     push_marks(alloc, shapes, LEFT + 240, 42)?;
-    push_second(alloc, shapes, share)?;
+    if share.is_some() {
+        let second = sample(Class::Second, LEFT + 400, 34);
+        push_entry(
+            alloc,
+            shapes,
+            second,
+            LEFT + 430,
+            42,
+            "suspected by the reduction",
+        )?;
+    }
     Ok(())
 }

@@ -1,16 +1,17 @@
 //! The picture of letters.
 ghost use Rattle.std.specs.Prelude.{◌≡◌, ◌++◌, IfOk, IfErr, OnOk, MatchOption, Err};
 ghost use Rattle.judges.specs.Outcomes.{outcomes};
+ghost use Rattle.drawing.specs.Frame.{placeless};
 ghost use Rattle.drawing.specs.LettersPicture.{DrawsLetters};
 ghost use Rattle.drawing.specs.Refusals.{IsMemory, letters_refusal};
 
 use crate::arrows::{count_others, count_sent};
-use crate::axis::push_axis;
-use crate::bands::push_outage_legend;
+use crate::bands::outage_legend;
 use crate::error::DrawError;
+use crate::frame::picture_text;
 use crate::groups::Run;
 use crate::lanes::{lanes_bottom, own_top};
-use crate::layout::{BOTTOM, LEFT, MOST_LETTERS, RIGHT, WIDTH};
+use crate::layout::{LEFT, MOST_LETTERS};
 use crate::legend::push_left_out;
 use crate::letters_legend::push_letters_legend;
 use crate::suspicions::ticks_of;
@@ -19,13 +20,12 @@ use letters::Letter;
 use process_api::{Pid, Trace};
 use scenario_record::Scenario;
 use std::alloc::{AllocError, Global};
-use svg::{Picture, Shape, svg_text};
+use svg::Shape;
 
 impl Run<'_> {
     ghost use Rattle.drawing.specs.Inside.LettersDrawn.{all_marks_in, lines_in};
 
     /// Appends the lines of all processes.
-    #[tactic(auto, unfolding(crate::specs::Inside::Drawn::own_of, crate::specs::Inside::LettersDrawn::line_in, crate::specs::LettersPicture::line_shapes))]
     fn push_lines(
         &self,
         alloc: Global,
@@ -33,7 +33,7 @@ impl Run<'_> {
         told: &[Outcome],
     ) -> Result<(), AllocError>
         requires { told.now ≡ outcomes self.now.trace.now self.now.scenario.now.processes }
-        ensures { OnOk result (shapes.new.items ≡ shapes.old.items ++ lines_in self.now) }
+        ensures { OnOk result (placeless shapes.new.items ≡ placeless shapes.old.items ++ lines_in self.now) }
     {
         for outcome in told {
             let top = own_top(self.scenario.processes(), outcome.pid);
@@ -50,7 +50,7 @@ impl Run<'_> {
         told: &[Outcome],
     ) -> Result<(), AllocError>
         requires { told.now ≡ outcomes self.now.trace.now self.now.scenario.now.processes }
-        ensures { OnOk result (shapes.new.items ≡ shapes.old.items ++ all_marks_in self.now) }
+        ensures { OnOk result (placeless shapes.new.items ≡ placeless shapes.old.items ++ all_marks_in self.now) }
     {
         for outcome in told {
             self.push_marks(alloc, shapes, outcome.pid, outcome)?;
@@ -60,6 +60,7 @@ impl Run<'_> {
 }
 
 /// The picture of a run's letters.
+#[tactic(auto, using(crate::proofs::Framing::joined))]
 fn text_of(
     alloc: Global,
     run: &Run<'_>,
@@ -72,24 +73,17 @@ fn text_of(
     let scenario = run.scenario;
     let told = decisions(alloc, scenario, run.trace)?;
     let others = count_others(&run.ticks, of, letters);
-    let mut bands = run.line_bands(alloc)?;
-    let what = "letters of others, left out";
+    let bands = run.line_bands(alloc)?;
     let bottom = lanes_bottom(scenario.processes());
+    let mut head = Vec::new(alloc);
+    push_letters_legend(alloc, &mut head, &run.ticks, scenario.share())?;
+    push_left_out(alloc, &mut head, "letters of others, left out", others)?;
+    head.append(&mut outage_legend(alloc, LEFT + 440, 54, &bands)?)?;
     let mut shapes = Vec::new(alloc);
-    push_letters_legend(alloc, &mut shapes, &run.ticks, scenario.share())?;
-    push_left_out(alloc, &mut shapes, what, others)?;
-    push_outage_legend(alloc, &mut shapes, LEFT + 440, 54, &bands)?;
-    shapes.append(&mut bands)?;
-    push_axis(alloc, &mut shapes, &run.ticks, bottom)?;
     run.push_lines(alloc, &mut shapes, &told)?;
     run.push_arrows(&mut shapes, of, letters)?;
     run.push_all_marks(alloc, &mut shapes, &told)?;
-    let picture = Picture {
-        width: LEFT + WIDTH + RIGHT,
-        height: bottom + BOTTOM,
-        shapes,
-    };
-    svg_text(alloc, &picture)
+    picture_text(alloc, &run.ticks, bottom, head, bands, shapes)
 }
 
 /// The picture of what went from whom to whom at the ticks from `from` to `until - 1` of a run, as an SVG document.

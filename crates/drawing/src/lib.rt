@@ -18,6 +18,7 @@ mod axis;
 mod bands;
 mod bars;
 mod error;
+mod frame;
 mod groups;
 mod labels;
 mod lanes;

@@ -1,10 +1,13 @@
 //! The marks on the lines of processes: what they decide, and whom they begin to suspect or to trust again.
 ghost use Rattle.std.specs.Prelude.{◌≡◌, ◌++◌, ◌≤◌, OnOk};
 ghost use Rattle.judges.specs.Outcomes.{outcome};
-ghost use Rattle.drawing.specs.Layout.{shown};
-ghost use Rattle.drawing.specs.LettersPicture.{bar_turns, side, turn_shapes, upper_layer, value_shapes};
+ghost use Rattle.drawing.specs.Frame.{placeless};
+ghost use Rattle.drawing.specs.Layout.{line_of, shown};
+ghost use Rattle.drawing.specs.LettersPicture.{bar_turns, turn_class, turn_shapes, upper_layer, value_shapes};
+ghost use Rattle.drawing.specs.Suspicions.{row_end};
 
-use crate::bars::{Bar, bars_of};
+use crate::bars::{Bar, stretches_of};
+use crate::frame::push_mark;
 use crate::groups::Run;
 use crate::labels::text;
 use crate::lanes::{line_of, remark_of};
@@ -27,9 +30,7 @@ fn upper_layer(share: Option<u32>) -> u8
 }
 
 /// On which side of its place a text goes.
-fn side(x: u32) -> Anchor
-    ensures { result ≡ side x }
-{
+fn side(x: u32) -> Anchor {
     if x < LEFT + WIDTH / 2 {
         Anchor::Start
     } else {
@@ -60,8 +61,8 @@ impl Ticks {
         sign: &str,
         tick: Option<u32>,
     ) -> Result<(), AllocError>
-        ensures { OnOk result (shapes.new.items ≡ shapes.old.items ++ turn_shapes self.now.from self.now.until
-            spot.now.class spot.now.line spot.now.remark sign.now spot.now.subject tick) }
+        ensures { OnOk result (placeless shapes.new.items ≡ placeless shapes.old.items
+            ++ turn_shapes self.now.from self.now.until spot.now.class spot.now.line sign.now spot.now.subject tick) }
     {
         let Some(tick) = tick else {
             return Ok(());
@@ -69,13 +70,16 @@ impl Ticks {
         let x = self.x(tick);
         let number = spot.subject.number();
         let words = format!(in alloc; "{sign}{number}")?;
-        shapes.push(Shape::Disc {
+        let disc = Shape::Disc {
             class: spot.class,
             center: Point { x, y: spot.line },
             radius: 3,
-        })?;
-        shapes.push(text(Class::Remark, x, spot.remark, Anchor::Middle, words))?;
-        Ok(())
+        };
+        push_mark(shapes, disc)?;
+        push_mark(
+            shapes,
+            text(Class::Remark, x, spot.remark, Anchor::Middle, words),
+        )
     }
 
     /// Appends the marks of a stretch of suspicion.
@@ -86,8 +90,8 @@ impl Ticks {
         spot: &Spot,
         bar: Bar,
     ) -> Result<(), AllocError>
-        ensures { OnOk result (shapes.new.items ≡ shapes.old.items ++ bar_turns self.now.from self.now.until
-            spot.now.class spot.now.line spot.now.remark spot.now.end spot.now.subject bar) }
+        ensures { OnOk result (placeless shapes.new.items ≡ placeless shapes.old.items ++ bar_turns self.now.from
+            self.now.until spot.now.class spot.now.line spot.now.end spot.now.subject bar) }
     {
         let begin = self.shown(spot.end, Some(bar.begin));
         let end = self.shown(spot.end, Some(bar.end));
@@ -105,24 +109,26 @@ impl Ticks {
         tick: Option<u32>,
     ) -> Result<(), AllocError>
         requires { line ≤ 1100000 }
-        ensures { OnOk result (shapes.new.items
-            ≡ shapes.old.items ++ value_shapes self.now.from self.now.until line answer tick) }
+        ensures { OnOk result (placeless shapes.new.items ≡ placeless shapes.old.items ++ value_shapes answer tick) }
     {
         if let (Answer::Value(value), Some(tick)) = (answer, tick) {
             let x = self.x(tick);
             let words = format!(in alloc; "decides {value}")?;
-            shapes.push(text(Class::Remark, x, line + 16, side(x), words))?;
+            push_mark(shapes, text(Class::Remark, x, line + 16, side(x), words))?;
         }
         Ok(())
     }
 }
 
 impl Run<'_> {
-    ghost use Rattle.drawing.specs.Inside.LettersDrawn.{marks_in, spot_of, turns_in, turns_of_others};
+    ghost use Rattle.drawing.specs.Inside.LettersDrawn.{marks_in, turns_in, turns_of_others};
 
     /// Where the marks of an observer and a subject stand.
     fn spot(&self, observer: Pid, subject: Pid) -> Spot
-        ensures { result ≡ spot_of self.now observer subject }
+        ensures class { result.class ≡ turn_class self.now.scenario.now.share }
+        ensures line { result.line ≡ line_of self.now.scenario.now.processes observer }
+        ensures end { result.end ≡ row_end self.now.scenario.now self.now.ticks.until observer }
+        ensures subject { result.subject ≡ subject }
     {
         let processes = self.scenario.processes();
         Spot {
@@ -142,11 +148,12 @@ impl Run<'_> {
         observer: Pid,
         subject: Pid,
     ) -> Result<(), AllocError>
-        ensures { OnOk result (shapes.new.items ≡ shapes.old.items ++ turns_in self.now observer subject) }
+        ensures { OnOk result (placeless shapes.new.items
+            ≡ placeless shapes.old.items ++ turns_in self.now observer subject) }
     {
         let spot = self.spot(observer, subject);
         let layer = upper_layer(self.scenario.share());
-        for bar in &bars_of(alloc, self.trace, layer, observer, subject, 0, spot.end)? {
+        for bar in &stretches_of(alloc, self.trace, layer, observer, subject, 0, spot.end)? {
             self.ticks.push_bar_turns(alloc, shapes, &spot, *bar)?;
         }
         Ok(())
@@ -160,7 +167,8 @@ impl Run<'_> {
         shapes: &mut Vec<Shape>,
         observer: Pid,
     ) -> Result<(), AllocError>
-        ensures { OnOk result (shapes.new.items ≡ shapes.old.items ++ turns_of_others self.now observer) }
+        ensures { OnOk result (placeless shapes.new.items
+            ≡ placeless shapes.old.items ++ turns_of_others self.now observer) }
     {
         for before in 0..self.scenario.processes() {
             let subject = Pid::after(before);
@@ -180,7 +188,7 @@ impl Run<'_> {
         told: &Outcome,
     ) -> Result<(), AllocError>
         requires { told.now ≡ outcome self.now.trace.now observer }
-        ensures { OnOk result (shapes.new.items ≡ shapes.old.items ++ marks_in self.now observer) }
+        ensures { OnOk result (placeless shapes.new.items ≡ placeless shapes.old.items ++ marks_in self.now observer) }
     {
         let line = line_of(self.scenario.processes(), observer);
         let tick = self.ticks.shown(self.ticks.until, told.tick);

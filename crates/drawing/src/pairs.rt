@@ -1,10 +1,12 @@
 //! The row of a pair of processes: when one suspects the other.
 ghost use Rattle.std.specs.Prelude.{◌≡◌, ◌+◌, ◌++◌, ◌||◌, ◌≤◌, ◌<◌, IfOk, OnOk};
 ghost use Rattle.process_api.specs.Numbers.{others};
+ghost use Rattle.drawing.specs.Frame.{placeless};
 ghost use Rattle.drawing.specs.Suspicions.{first_top, has_bar};
 
 use crate::bands::push_bands;
-use crate::bars::{Bar, bars_of};
+use crate::bars::{Bar, stretches_of};
+use crate::frame::push_mark;
 use crate::groups::{Row, Rows, Run};
 use crate::labels::pair_name;
 use crate::layout::ROW;
@@ -58,7 +60,7 @@ impl Run<'_> {
     {
         let end = self.row_end(observer);
         let from = self.ticks.from;
-        bars_of(alloc, self.trace, layer, observer, subject, from, end)
+        stretches_of(alloc, self.trace, layer, observer, subject, from, end)
     }
 
     /// Their bars of the reduction, where there is one.
@@ -81,12 +83,18 @@ impl Run<'_> {
         bars: &PairBars,
     ) -> Result<(), AllocError>
         requires { ArePairBars self.now row.now.observer row.now.subject bars.now }
-        ensures { OnOk result (shapes.new.items ≡ shapes.old.items ++ pair_of self.now row.now) }
+        ensures { OnOk result (placeless shapes.new.items ≡ placeless shapes.old.items ++ pair_of self.now row.now) }
     {
         let end = self.row_end(row.observer);
         let first_top = row.top + first_top(self.scenario.share());
-        shapes.push(pair_name(alloc, row.top, row.observer, row.subject)?)?;
-        shapes.push(life_line(&self.ticks, Class::Grid, row.top + 15, end))?;
+        push_mark(
+            shapes,
+            pair_name(alloc, row.top, row.observer, row.subject)?,
+        )?;
+        push_mark(
+            shapes,
+            life_line(&self.ticks, Class::Grid, row.top + 15, end),
+        )?;
         push_bars(shapes, &self.ticks, Class::First, first_top, &bars.first)?;
         push_bars(
             shapes,

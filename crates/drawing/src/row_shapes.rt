@@ -1,24 +1,32 @@
 //! The shapes that stand in rows.
 ghost use Rattle.std.specs.Prelude.{◌≡◌, ◌++◌, ◌≤◌, map, OnOk};
-ghost use Rattle.drawing.specs.Suspicions.{bar_shape, crash_shapes, decision_shapes, decided, life_line};
+ghost use Rattle.drawing.specs.Frame.{placeless};
+ghost use Rattle.drawing.specs.Suspicions.{bar_shape, crash_shapes, decided, decision_shapes, life_line, stretch};
 
 use crate::bars::Bar;
+use crate::frame::push_mark;
 use crate::layout::{LEFT, Ticks};
 use judges::{Answer, Outcome};
 use std::alloc::AllocError;
 use svg::{Class, Point, Shape};
 
-/// A bar, in a row whose bars begin at `top`.
-fn bar_shape(ticks: &Ticks, class: Class, top: u32, bar: Bar) -> Shape
-    ensures { result ≡ bar_shape ticks.now.from ticks.now.until class top bar }
+/// The ticks from `begin` to `end - 1`, in a row.
+pub(crate) fn stretch(
+    ticks: &Ticks,
+    class: Class,
+    top: u32,
+    height: u32,
+    begin: u32,
+    end: u32,
+) -> Shape
+    ensures { result ≡ stretch ticks.now.from ticks.now.until class top height begin end }
 {
-    let x = ticks.x(bar.begin);
-    let end = ticks.x(bar.end);
+    let x = ticks.x(begin);
     Shape::Rect {
         class,
         corner: Point { x, y: top },
-        width: end.saturating_sub(x).max(1),
-        height: 6,
+        width: ticks.x(end).saturating_sub(x).max(1),
+        height,
     }
 }
 
@@ -30,11 +38,11 @@ pub(crate) fn push_bars(
     top: u32,
     bars: &[Bar],
 ) -> Result<(), AllocError>
-    ensures { OnOk result (shapes.new.items
-        ≡ shapes.old.items ++ map (bar_shape ticks.now.from ticks.now.until class top) bars.now) }
+    ensures { OnOk result (placeless shapes.new.items
+        ≡ placeless shapes.old.items ++ map (bar_shape ticks.now.from ticks.now.until class top) bars.now) }
 {
     for bar in bars {
-        shapes.push(bar_shape(ticks, class, top, *bar))?;
+        push_mark(shapes, stretch(ticks, class, top, 6, bar.begin, bar.end))?;
     }
     Ok(())
 }
@@ -47,19 +55,17 @@ pub(crate) fn push_crash(
     crash: Option<u32>,
 ) -> Result<(), AllocError>
     requires { top ≤ 1100000 }
-    ensures { OnOk result (shapes.new.items
-        ≡ shapes.old.items ++ crash_shapes ticks.now.from ticks.now.until top crash) }
+    ensures { OnOk result (placeless shapes.new.items
+        ≡ placeless shapes.old.items ++ crash_shapes ticks.now.from ticks.now.until top crash) }
 {
     let Some(tick) = crash else {
         return Ok(());
     };
     let x = ticks.x(tick);
     let y = top + 8;
-    shapes.push(Shape::Cross {
-        class: Class::Crash,
-        center: Point { x, y },
-    })?;
-    Ok(())
+    let class = Class::Crash;
+    let center = Point { x, y };
+    push_mark(shapes, Shape::Cross { class, center })
 }
 
 /// Appends a decision in a row, if there is one to show.
@@ -70,20 +76,20 @@ pub(crate) fn push_decision(
     decision: Option<u32>,
 ) -> Result<(), AllocError>
     requires { top ≤ 1100000 }
-    ensures { OnOk result (shapes.new.items
-        ≡ shapes.old.items ++ decision_shapes ticks.now.from ticks.now.until top decision) }
+    ensures { OnOk result (placeless shapes.new.items
+        ≡ placeless shapes.old.items ++ decision_shapes ticks.now.from ticks.now.until top decision) }
 {
     let Some(tick) = decision else {
         return Ok(());
     };
     let x = ticks.x(tick);
     let y = top + 8;
-    shapes.push(Shape::Disc {
+    let disc = Shape::Disc {
         class: Class::Decision,
         center: Point { x, y },
         radius: 4,
-    })?;
-    Ok(())
+    };
+    push_mark(shapes, disc)
 }
 
 /// A line from the first tick to another.
@@ -99,7 +105,7 @@ pub(crate) fn life_line(ticks: &Ticks, class: Class, y: u32, end: u32) -> Shape
 
 /// The tick at which a process decides a value.
 pub(crate) fn decided(outcome: &Outcome) -> Option<u32>
-    ensures { result ≡ decided outcome.now }
+    ensures { result ≡ decided outcome.now.value outcome.now.tick }
 {
     match outcome.value {
         Answer::Value(_) => outcome.tick,

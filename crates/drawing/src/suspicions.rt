@@ -1,39 +1,35 @@
 //! The picture of who suspects whom.
-ghost use Rattle.std.specs.Prelude.{◌≡◌, ◌++◌, ◌≤◌, ◌<◌, Err, IfOk, IfErr, IsOk, MatchOption, OnOk};
+ghost use Rattle.std.specs.Prelude.{◌≡◌, ◌≤◌, ◌<◌, Err, IfOk, IfErr, IsOk, MatchOption};
 ghost use Rattle.drawing.specs.Refusals.{IsMemory, refusal};
 ghost use Rattle.drawing.specs.Suspicions.{DrawsSuspicions};
 
-use crate::axis::push_axis;
-use crate::bands::push_outage_legend;
+use crate::bands::outage_legend;
 use crate::error::DrawError;
+use crate::frame::picture_text;
 use crate::groups::Run;
-use crate::layout::{BOTTOM, LEFT, MOST_DRAWN, RIGHT, Ticks, WIDTH};
+use crate::layout::{LEFT, MOST_DRAWN, Ticks};
 use crate::legend::{push_left_out, push_legend};
 use process_api::{Pid, Trace};
 use scenario_record::Scenario;
 use std::alloc::{AllocError, Global};
-use svg::{Picture, svg_text};
 
 /// The picture of a run.
+#[tactic(auto, using(crate::proofs::Framing::joined))]
 fn text_of(alloc: Global, run: &Run<'_>) -> Result<Vec<u8>, AllocError>
     ensures { IfOk result (λ text. DrawsSuspicions run.now.scenario.now run.now.trace.now run.now.ticks.from
         run.now.ticks.until text.items) }
 {
-    let mut rows = run.rows(alloc)?;
-    let mut shapes = Vec::new(alloc);
-    let what = "pairs without a bar, left out";
-    push_legend(alloc, &mut shapes, &run.ticks, run.scenario.share())?;
-    push_outage_legend(alloc, &mut shapes, LEFT + 620, 42, &rows.bands)?;
-    push_left_out(alloc, &mut shapes, what, rows.left_out)?;
-    shapes.append(&mut rows.bands)?;
-    push_axis(alloc, &mut shapes, &run.ticks, rows.top)?;
-    shapes.append(&mut rows.shapes)?;
-    let picture = Picture {
-        width: LEFT + WIDTH + RIGHT,
-        height: rows.top + BOTTOM,
-        shapes,
-    };
-    svg_text(alloc, &picture)
+    let rows = run.rows(alloc)?;
+    let mut head = Vec::new(alloc);
+    push_legend(alloc, &mut head, &run.ticks, run.scenario.share())?;
+    head.append(&mut outage_legend(alloc, LEFT + 620, 42, &rows.bands)?)?;
+    push_left_out(
+        alloc,
+        &mut head,
+        "pairs without a bar, left out",
+        rows.left_out,
+    )?;
+    picture_text(alloc, &run.ticks, rows.top, head, rows.bands, rows.shapes)
 }
 
 /// The ticks from `from` to `until - 1`, where they are ticks of a run that can be drawn.

@@ -21,7 +21,7 @@ pub(crate) struct Sweep {
 }
 
 impl Sweep {
-    ghost use Rattle.drawing.specs.Sweeping.{IsPassed, IsSwept, after, after_all, stretches};
+    ghost use Rattle.drawing.specs.Inside.Sweeping.{IsPassed, IsSwept, after, after_all, stretches};
 
     /// No tick is behind, and nothing is suspected.
     pub fn open(alloc: Global, from: u32) -> Sweep

@@ -52,11 +52,6 @@ line_text start class from to =
     element start class
     ((codes "x1", from.x) ∷ (codes "y1", from.y) ∷ (codes "x2", to.x) ∷ (codes "y2", to.y) ∷ [])
 
-abbrev pub caption_text : Class → (at : Point) → Anchor → (caption : List ℕ) → List ℕ
-caption_text class at anchor caption =
-    opening (codes "<text") class ((codes "x", at.x) ∷ (codes "y", at.y) ∷ [])
-    ++ (codes " text-anchor=\"" ++ (anchor_name anchor ++ (codes "\">" ++ (escaped caption ++ codes "</text>\n"))))
-
 -- heads and crosses are drawn once in each document, and are referred to
 abbrev pub shape_text : Shape → List ℕ
 shape_text (shape.Rect class corner width height) =
@@ -69,4 +64,6 @@ shape_text (shape.Disc class center radius) =
     element (codes "<circle") class ((codes "cx", center.x) ∷ (codes "cy", center.y) ∷ (codes "r", radius) ∷ [])
 shape_text (shape.Cross class center) =
     element (codes "<use href=\"#cross\"") class ((codes "x", center.x) ∷ (codes "y", center.y) ∷ [])
-shape_text (shape.Text class at anchor caption) = caption_text class at anchor caption
+shape_text (shape.Text class at anchor caption) =
+    opening (codes "<text") class ((codes "x", at.x) ∷ (codes "y", at.y) ∷ [])
+    ++ (codes " text-anchor=\"" ++ (anchor_name anchor ++ (codes "\">" ++ (escaped caption ++ codes "</text>\n"))))

@@ -2,33 +2,16 @@
 -- Control characters aren't allowed in a document, so a space stands for each.
 use Rattle.std.specs.Prelude.{ℕ, nat_lt, ◌==◌, if◌then◌else◌, List, [], ◌∷◌, flat_map, codes}
 
-abbrev pub ampersand : ℕ
-ampersand = 38
-
-abbrev pub less : ℕ
-less = 60
-
-abbrev pub greater : ℕ
-greater = 62
-
-abbrev pub quotation_mark : ℕ
-quotation_mark = 34
-
-abbrev pub apostrophe : ℕ
-apostrophe = 39
-
-abbrev pub space : ℕ
-space = 32
-
--- what is written for a byte of a text
+-- what is written for a byte of a text: 38 is `&`, 60 and 62 are `<` and `>`, 34 and 39 the quotation mark and the
+-- apostrophe
 abbrev pub written : ℕ → List ℕ
 written byte =
-    if byte == ampersand then codes "&amp;"
-    else if byte == less then codes "&lt;"
-    else if byte == greater then codes "&gt;"
-    else if byte == quotation_mark then codes "&quot;"
-    else if byte == apostrophe then codes "&apos;"
-    else if nat_lt byte space then space ∷ []
+    if byte == 38 then codes "&amp;"
+    else if byte == 60 then codes "&lt;"
+    else if byte == 62 then codes "&gt;"
+    else if byte == 34 then codes "&quot;"
+    else if byte == 39 then codes "&apos;"
+    else if nat_lt byte 32 then codes " "
     else byte ∷ []
 
 -- a text as it stands between marks: each byte in turn

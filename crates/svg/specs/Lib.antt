@@ -1,4 +1,3 @@
 pub mod Escaping
 pub mod Elements
-pub mod Style
 pub mod Document

@@ -1,6 +1,7 @@
 //! Pictures as documents.
-ghost use Rattle.std.specs.Prelude.{◌≡◌, ◌++◌, IfOk, OnOk};
-ghost use Rattle.svg.specs.Document.{head_text, svg_text, view_box_text};
+ghost use Rattle.std.specs.Prelude.{◌≡◌, ◌++◌, flat_map, IfOk, OnOk};
+ghost use Rattle.svg.specs.Document.{IsDocument, head_text, view_box_text};
+ghost use Rattle.svg.specs.Elements.{shape_text};
 
 use crate::elements::{push_attributes, push_number, push_shape};
 use crate::shape::Shape;
@@ -30,9 +31,9 @@ fn push_view_box(out: &mut Vec<u8>, width: u32, height: u32) -> Result<(), Alloc
     Ok(())
 }
 
-/// What stands before the shapes.
-fn head(alloc: Global, width: u32, height: u32) -> Result<Vec<u8>, AllocError>
-    ensures { IfOk result (λ text. text.items ≡ head_text width height) }
+/// What stands before the shapes, with a style sheet.
+fn head(alloc: Global, style: &[u8], width: u32, height: u32) -> Result<Vec<u8>, AllocError>
+    ensures { IfOk result (λ text. text.items ≡ head_text style.now width height) }
 {
     let mut out = Vec::from_slice(
         alloc,
@@ -41,8 +42,18 @@ fn head(alloc: Global, width: u32, height: u32) -> Result<Vec<u8>, AllocError>
     push_view_box(&mut out, width, height)?;
     push_attributes(&mut out, &[("width", width), ("height", height)])?;
     out.extend_from_slice(b">\n")?;
-    out.extend_from_slice(style())?;
+    out.extend_from_slice(style)?;
     Ok(out)
+}
+
+/// Appends shapes in their order.
+fn push_shapes(out: &mut Vec<u8>, shapes: &[Shape]) -> Result<(), AllocError>
+    ensures { OnOk result (out.new.items ≡ out.old.items ++ flat_map shape_text shapes.now) }
+{
+    for shape in shapes {
+        push_shape(out, shape)?;
+    }
+    Ok(())
 }
 
 /// A picture as an SVG document: a head with its size and the style sheet, a line of text for each shape in their
@@ -51,15 +62,11 @@ fn head(alloc: Global, width: u32, height: u32) -> Result<Vec<u8>, AllocError>
 /// # Errors
 ///
 /// `AllocError` where memory was refused.
-#[tactic(auto, unfolding(crate::specs::Document::svg_text))]
 pub fn svg_text(alloc: Global, picture: &Picture) -> Result<Vec<u8>, AllocError>
-    ensures { IfOk result (λ text. text.items
-        ≡ svg_text picture.now.width picture.now.height picture.now.shapes.items) }
+    ensures { IfOk result (λ text. IsDocument picture.now.width picture.now.height picture.now.shapes.items text.items) }
 {
-    let mut out = head(alloc, picture.width, picture.height)?;
-    for shape in &picture.shapes {
-        push_shape(&mut out, shape)?;
-    }
+    let mut out = head(alloc, style(), picture.width, picture.height)?;
+    push_shapes(&mut out, &picture.shapes)?;
     out.extend_from_slice(b"</svg>\n")?;
     Ok(out)
 }

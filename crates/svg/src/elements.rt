@@ -1,6 +1,6 @@
 //! Shapes as elements.
 ghost use Rattle.std.specs.Prelude.{◌≡◌, ◌++◌, flat_map, map, decimal, OnOk};
-ghost use Rattle.svg.specs.Elements.{attribute, caption_text, element, line_text, opening, shape_text};
+ghost use Rattle.svg.specs.Elements.{attribute, element, line_text, opening, shape_text};
 
 use crate::caption::Caption;
 use crate::class::Class;
@@ -94,7 +94,7 @@ fn push_text(
     anchor: Anchor,
     caption: &Caption,
 ) -> Result<(), AllocError>
-    ensures { OnOk result (out.new.items ≡ out.old.items ++ caption_text class at anchor caption.now) }
+    ensures { OnOk result (out.new.items ≡ out.old.items ++ shape_text (Shape.Text class at anchor caption.now)) }
 {
     push_opening(out, "<text", class, &[("x", at.x), ("y", at.y)])?;
     out.extend_from_slice(b" text-anchor=\"")?;

@@ -1,6 +1,4 @@
 //! How the classes of shapes are painted.
-ghost use Rattle.std.specs.Prelude.{◌≡◌};
-ghost use Rattle.svg.specs.Style.{style_text};
 
 /// The style sheet, and the marks that shapes refer to: a cross, a stop, and a head in the colour of each class that
 /// has one.
@@ -55,9 +53,6 @@ text{fill:#e6edf3}
 ";
 
 /// The style sheet and the marks that each document has, as SVG text.
-#[tactic(auto, unfolding(crate::specs::Style::style_text))]
-pub fn style() -> &'static [u8]
-    ensures { result.now ≡ style_text }
-{
+pub fn style() -> &'static [u8] {
     STYLE
 }

@@ -5,10 +5,10 @@ use Rattle.judges.specs.Outcomes.{outcome}
 use Rattle.judges.specs.declared.outcomes.Outcome.{Outcome}
 use Rattle.process_api.specs.Numbers.{numbers_to}
 use Rattle.svg.specs.declared.shape.Shape.{Shape}
-use Rattle.drawing.specs.Layout.{absent, groups_bottom, row_top}
-use Rattle.drawing.specs.Sizes.{row_height}
+use Rattle.drawing.specs.Frame.{placeless}
+use Rattle.drawing.specs.Layout.{absent, groups_bottom, row_height, row_top}
 use Rattle.drawing.specs.Suspicions.{row_end, upper_bars, has_row, pair_at, own_at, group_shapes, row_bands, group_bands}
-use Rattle.drawing.specs.Sweeping.{stretches}
+use Rattle.drawing.specs.Inside.Sweeping.{stretches}
 use Rattle.drawing.specs.declared.bars.Bar.{Bar}
 use Rattle.drawing.specs.declared.groups.Row.{Row}
 use Rattle.drawing.specs.declared.groups.Rows.{Rows}
@@ -60,7 +60,7 @@ group_bands_of run q = group_bands run.scenario.now run.trace.now run.ticks.from
 -- the rows of the processes before q, that of q itself, and those of q and these others
 pub record AreRowsOf (run : Run) (q : ℕ) (ps : List ℕ) (rows : Rows) : Type 0 where
   pub shapes :
-      rows.shapes.items ≡ flat_map (group_of run) (numbers_to (q - 1))
+      placeless rows.shapes.items ≡ flat_map (group_of run) (numbers_to (q - 1))
       ++ (own_of run (groups_end run (q - 1)) q ++ flat_map (pair_in run q) (filter (has_row_in run q) ps))
   pub bands :
       rows.bands.items ≡ flat_map (group_bands_of run) (numbers_to (q - 1))
@@ -72,7 +72,7 @@ pub record AreRowsOf (run : Run) (q : ℕ) (ps : List ℕ) (rows : Rows) : Type 
 
 -- the rows of the first k processes
 pub record AreRows (run : Run) (k : ℕ) (rows : Rows) : Type 0 where
-  pub shapes : rows.shapes.items ≡ flat_map (group_of run) (numbers_to k)
+  pub shapes : placeless rows.shapes.items ≡ flat_map (group_of run) (numbers_to k)
   pub bands : rows.bands.items ≡ flat_map (group_bands_of run) (numbers_to k)
   pub top : rows.top ≡ groups_end run k
   pub left_out : rows.left_out ≡ sum_by (absent (has_row_in run) run.scenario.now.processes) (numbers_to k)

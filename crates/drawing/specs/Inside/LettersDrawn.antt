@@ -4,14 +4,13 @@ use Rattle.judges.specs.Out.{suspects}
 use Rattle.process_api.specs.Numbers.{numbers_to, others}
 use Rattle.svg.specs.declared.shape.Shape.{Shape}
 use Rattle.scenario_record.specs.Record.{outages_on}
-use Rattle.drawing.specs.Bands.{bands}
-use Rattle.drawing.specs.Lanes.{line_of, own_top, remark_of}
-use Rattle.drawing.specs.LettersPicture.{upper_layer, turn_class, line_shapes, line_bands, turns_of, mark_shapes}
-use Rattle.drawing.specs.Suspicions.{row_end}
-use Rattle.drawing.specs.Sweeping.{stretches}
+use Rattle.drawing.specs.Inside.Drawn.{own_of}
+use Rattle.drawing.specs.Inside.Sweeping.{stretches}
+use Rattle.drawing.specs.Layout.{own_top}
+use Rattle.drawing.specs.LettersPicture.{upper_layer, line_bands, turns_of, mark_shapes}
+use Rattle.drawing.specs.Suspicions.{bands, row_end}
 use Rattle.drawing.specs.declared.bars.Bar.{Bar}
 use Rattle.drawing.specs.declared.groups.Run.{Run}
-use Rattle.drawing.specs.declared.marks.Spot.{Spot}
 
 -- the stretches of suspicion of a pair
 abbrev pub turn_bars : Run → (q p : ℕ) → List Bar
@@ -19,20 +18,8 @@ turn_bars run q p =
     stretches (suspects (upper_layer run.scenario.now.share) run.trace.now q p) 0
     (row_end run.scenario.now run.ticks.until q)
 
-abbrev pub spot_of : Run → (q p : ℕ) → Spot
-spot_of run q p = record {
-  class = turn_class run.scenario.now.share;
-  line = line_of run.scenario.now.processes q;
-  remark = remark_of run.scenario.now.processes q p;
-  end = row_end run.scenario.now run.ticks.until q;
-  subject = p;
-}
-
-unfoldable pub line_in : Run → (q : ℕ) → List Shape
-line_in run q = line_shapes run.scenario.now run.trace.now run.ticks.from run.ticks.until q
-
 abbrev pub lines_in : Run → List Shape
-lines_in run = flat_map (line_in run) (numbers_to run.scenario.now.processes)
+lines_in run = flat_map (λ q. own_of run (own_top run.scenario.now.processes q) q) (numbers_to run.scenario.now.processes)
 
 -- the bands of a link from process q
 unfoldable pub link_bands_in : Run → (q p : ℕ) → List Shape

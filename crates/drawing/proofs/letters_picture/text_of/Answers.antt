@@ -1,35 +1,28 @@
-use Rattle.std.proofs.Common.{append_assoc}
+use Rattle.std.proofs.Common.{◌≡◌, ◌∙◌, ap, sym, subst, append_assoc}
 use Rattle.std.proofs.lemmas.Result.{MatchResult-weaker}
-use Rattle.drawing.specs.Inside.LettersDrawn.{turn_bars, line_in, line_bands_in, marks_in}
+use Rattle.drawing.specs.Frame.{Tells, placeless}
+use Rattle.drawing.specs.Inside.Drawn.{own_of}
+use Rattle.drawing.specs.Inside.LettersDrawn.{turn_bars, line_bands_in, marks_in}
+use Rattle.drawing.specs.Layout.{lanes_bottom}
 use Rattle.drawing.specs.LettersPicture.{letters_shapes}
+use Rattle.drawing.proofs.Framing.{tells_on}
 use Rattle.drawing.proofs.Stretching.{stretches_are_bars}
 use Rattle.drawing.proofs.letters_picture.text_of.Goals as goal
 
 pub returns : goal.returns
-unfolding letters_shapes line_in line_bands_in marks_in
+unfolding letters_shapes own_of line_bands_in marks_in placeless
 returns c =
-    MatchResult-weaker c.svg_text.result c.svg_text.ensures
+    let run = c.args.run.now in
+    let marks : placeless c.push_all_marks.new.shapes.items
+    ≡ letters_shapes run.scenario.now run.trace.now run.ticks.from run.ticks.until (turn_bars run) c.args.of.now c.args.letters.now =
+    rw (c.in_ok-push_all_marks.ensures, c.in_ok-push_arrows.ensures, c.in_ok-push_lines.ensures, c.new-shapes.ensures.items) (simp append_assoc)
+    in
+    MatchResult-weaker c.picture_text.result c.picture_text.ensures
     (λ text e. record {
-      bars = turn_bars c.args.run.now;
+      bars = turn_bars run;
       are_bars = λ q p. stretches_are_bars _ _ _;
-      text_is =
-          rw (
-            e,
-            c.in_ok-push_all_marks.ensures,
-            c.in_ok-push_arrows.ensures,
-            c.in_ok-push_lines.ensures,
-            c.in_ok-push_axis.ensures,
-            c.in_ok-append.ensures.items,
-            c.in_ok-push_outage_legend.ensures,
-            c.in_ok-push_left_out.ensures,
-            c.in_ok-push_letters_legend.ensures,
-            c.new-shapes.ensures.items,
-            c.deref.ensures.value,
-            c.in_ok-bands.ensures,
-            c.count_others-others.ensures,
-            c.lanes_bottom-bottom.ensures.value,
-            c.processes.ensures.value,
-            c.share.ensures.value,
-          ) (simp append_assoc);
+      picture =
+          rw (← (c.lanes_bottom-bottom.ensures.value ∙ ap lanes_bottom c.processes.ensures.value), ← c.count_others-others.ensures, ← c.in_ok-bands.ensures, ← marks)
+          (e _ (subst (Tells _) (sym c.in_ok-append.ensures.items) (tells_on _ _ _ c.in_ok-push_left_out.ensures.tells)));
     })
     (λ error h. h)

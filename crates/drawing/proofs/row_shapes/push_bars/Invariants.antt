@@ -1,8 +1,9 @@
 use Rattle.std.proofs.Common.{◌≡◌, ◌++◌, map, take}
+use Rattle.drawing.specs.Frame.{placeless}
 use Rattle.drawing.specs.Suspicions.{bar_shape}
 use Rattle.drawing.proofs.row_shapes.push_bars.Given as goal
 
 -- the bars so far
 abbrev pub invariant-loop-bar : goal.invariant-loop-bar
 invariant-loop-bar l =
-    l.shapes.items ≡ l.initial.shapes.items ++ map (bar_shape l.ticks.from l.ticks.until l.class l.top) (take l.bar-index l.bars)
+    placeless l.shapes.items ≡ placeless l.initial.shapes.items ++ map (bar_shape l.ticks.from l.ticks.until l.class l.top) (take l.bar-index l.bars)

@@ -1,5 +1,6 @@
 use Rattle.std.proofs.Common.{◌++◌, arith, ap}
 use Rattle.std.proofs.lemmas.List.{take_all}
+use Rattle.drawing.specs.Frame.{placeless}
 use Rattle.drawing.specs.Inside.LettersDrawn.{marks_in}
 use Rattle.drawing.proofs.LineShapes.{all_told, told_at}
 use Rattle.drawing.proofs.groups.Run.push_all_marks.Goals as goal
@@ -11,4 +12,4 @@ pub returns : goal.returns
 returns c =
     let run = c.args.self.now in
     rw (c.loop-outcome.invariant, take_all c.loop-outcome.outcome-index c.args.told.now (omega (arith, c.loop-outcome-test.false)))
-    (ap (λ t. c.args.shapes.now.items ++ t) (all_told run.trace.now run.scenario.now.processes _ c.requires (marks_in run)))
+    (ap (λ t. placeless c.args.shapes.now.items ++ t) (all_told run.trace.now run.scenario.now.processes _ c.requires (marks_in run)))

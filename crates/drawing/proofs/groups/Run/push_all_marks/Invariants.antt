@@ -1,9 +1,10 @@
 use Rattle.std.proofs.Common.{◌≡◌, ◌++◌, flat_map, take}
 use Rattle.judges.specs.declared.outcomes.Outcome.{Outcome}
+use Rattle.drawing.specs.Frame.{placeless}
 use Rattle.drawing.specs.Inside.LettersDrawn.{marks_in}
 use Rattle.drawing.proofs.groups.Run.push_all_marks.Given as goal
 
 -- the processes so far
 abbrev pub invariant-loop-outcome : goal.invariant-loop-outcome
 invariant-loop-outcome l =
-    l.shapes.items ≡ l.initial.shapes.items ++ flat_map (λ (o : Outcome). marks_in l.self o.pid) (take l.outcome-index l.told)
+    placeless l.shapes.items ≡ placeless l.initial.shapes.items ++ flat_map (λ (o : Outcome). marks_in l.self o.pid) (take l.outcome-index l.told)

@@ -1,9 +1,10 @@
 use Rattle.std.proofs.Common.{◌≡◌, ◌++◌, take}
+use Rattle.drawing.specs.Frame.{placeless}
 use Rattle.drawing.specs.LettersPicture.{arrows}
 use Rattle.drawing.proofs.groups.Run.push_arrows.Given as goal
 
 -- the letters so far
 abbrev pub invariant-loop-letter : goal.invariant-loop-letter
 invariant-loop-letter l =
-    l.shapes.items ≡ l.initial.shapes.items
+    placeless l.shapes.items ≡ placeless l.initial.shapes.items
     ++ arrows l.self.scenario.now.processes l.self.ticks.from l.self.ticks.until l.of (take l.letter-index l.letters)

@@ -1,6 +1,8 @@
 use Rattle.std.proofs.Common.{◌++◌, arith, ap}
 use Rattle.std.proofs.lemmas.List.{take_all}
-use Rattle.drawing.specs.Inside.LettersDrawn.{line_in}
+use Rattle.drawing.specs.Frame.{placeless}
+use Rattle.drawing.specs.Inside.Drawn.{own_of}
+use Rattle.drawing.specs.Layout.{own_top}
 use Rattle.drawing.proofs.LineShapes.{all_told, told_at}
 use Rattle.drawing.proofs.groups.Run.push_lines.Goals as goal
 
@@ -11,4 +13,4 @@ pub returns : goal.returns
 returns c =
     let run = c.args.self.now in
     rw (c.loop-outcome.invariant, take_all c.loop-outcome.outcome-index c.args.told.now (omega (arith, c.loop-outcome-test.false)))
-    (ap (λ t. c.args.shapes.now.items ++ t) (all_told run.trace.now run.scenario.now.processes _ c.requires (line_in run)))
+    (ap (λ t. placeless c.args.shapes.now.items ++ t) (all_told run.trace.now run.scenario.now.processes _ c.requires (λ q. own_of run (own_top run.scenario.now.processes q) q)))

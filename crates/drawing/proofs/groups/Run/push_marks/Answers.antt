@@ -6,4 +6,4 @@ use Rattle.drawing.proofs.groups.Run.push_marks.Goals as goal
 pub returns : goal.returns
 unfolding marks_in mark_shapes turns_in
 returns c =
-    rw (c.in_ok-push_turns.ensures, c.in_ok-push_value.ensures, c.line_of-line.ensures.value, c.processes.ensures.value, c.shown-tick.ensures, c.requires) (simp append_assoc)
+    rw (c.in_ok-push_turns.ensures, c.in_ok-push_value.ensures, c.shown-tick.ensures, c.requires) (simp append_assoc)

@@ -9,8 +9,8 @@ returns c =
     rw (
       c.in_ok-push_crash.ensures,
       c.in_ok-push_decision.ensures,
-      c.in_ok-push-2.ensures.items,
-      c.in_ok-push.ensures.items,
+      c.in_ok-push_mark-2.ensures,
+      c.in_ok-push_mark.ensures,
       c.in_ok-own_name.ensures,
       c.life_line.ensures,
       c.row_end-end.ensures,

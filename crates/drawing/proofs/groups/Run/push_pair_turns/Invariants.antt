@@ -1,9 +1,10 @@
 use Rattle.std.proofs.Common.{◌≡◌, ◌++◌, flat_map, take}
+use Rattle.drawing.specs.Frame.{placeless}
 use Rattle.drawing.specs.LettersPicture.{bar_turns}
 use Rattle.drawing.proofs.groups.Run.push_pair_turns.Given as goal
 
 -- the stretches so far
 abbrev pub invariant-loop-bar : goal.invariant-loop-bar
 invariant-loop-bar l =
-    l.shapes.items ≡ l.initial.shapes.items
-    ++ flat_map (bar_turns l.self.ticks.from l.self.ticks.until l.spot.class l.spot.line l.spot.remark l.spot.end l.spot.subject) (take l.bar-index l.bar-items)
+    placeless l.shapes.items ≡ placeless l.initial.shapes.items
+    ++ flat_map (bar_turns l.self.ticks.from l.self.ticks.until l.spot.class l.spot.line l.spot.end l.spot.subject) (take l.bar-index l.bar-items)

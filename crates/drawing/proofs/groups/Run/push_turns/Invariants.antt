@@ -1,9 +1,10 @@
 use Rattle.std.proofs.Common.{◌≡◌, ◌++◌, flat_map}
 use Rattle.process_api.specs.Numbers.{others}
+use Rattle.drawing.specs.Frame.{placeless}
 use Rattle.drawing.specs.Inside.LettersDrawn.{turns_in}
 use Rattle.drawing.proofs.groups.Run.push_turns.Given as goal
 
 -- the other processes so far
 abbrev pub invariant-loop-before : goal.invariant-loop-before
 invariant-loop-before l =
-    l.shapes.items ≡ l.fn.shapes.items ++ flat_map (turns_in l.self l.observer) (others l.before l.observer)
+    placeless l.shapes.items ≡ placeless l.fn.shapes.items ++ flat_map (turns_in l.self l.observer) (others l.before l.observer)

@@ -1,6 +1,7 @@
 use Rattle.std.proofs.Common.{◌≡◌, ◌∙◌, ◌+◌, ◌-◌, refl, subst, arith, ap, length}
 use Rattle.judges.proofs.Outcoming.{length-outcomes}
 use Rattle.drawing.specs.Inside.Drawn.{AreRows, has_row_in}
+use Rattle.drawing.specs.Frame.{placeless}
 use Rattle.drawing.specs.Layout.{groups_bottom}
 use Rattle.drawing.proofs.Counting.{groups_low}
 use Rattle.drawing.proofs.LineShapes.{told_at}
@@ -20,8 +21,8 @@ push_group-requires c =
     }
 
 pub loop-outcome-init : goal.loop-outcome-init
-unfolding groups_bottom
-loop-outcome-init c = record { shapes = c.new.ensures.items; bands = c.new-2.ensures.items; top = refl; left_out = refl }
+unfolding groups_bottom placeless
+loop-outcome-init c = record { shapes = ap placeless c.new.ensures.items; bands = c.new-2.ensures.items; top = refl; left_out = refl }
 
 pub loop-outcome-preserved : goal.loop-outcome-preserved
 loop-outcome-preserved c =

@@ -1,5 +1,5 @@
 use Rattle.std.proofs.Common.{◌∙◌, sym, ap, false}
-use Rattle.drawing.specs.Sweeping.{passed_by}
+use Rattle.drawing.specs.Inside.Sweeping.{passed_by}
 use Rattle.drawing.specs.declared.sweep.Sweep.{Sweep}
 use Rattle.drawing.proofs.Sweeping.{closed}
 use Rattle.drawing.proofs.sweep.Sweep.close.Goals as goal

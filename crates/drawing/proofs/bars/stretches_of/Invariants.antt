@@ -1,8 +1,8 @@
 use Rattle.std.proofs.Common.{ℕ, ◌≤◌, max, false, take}
 use Rattle.judges.specs.Pairs.{AreUntil}
 use Rattle.judges.specs.Turns.{turns}
-use Rattle.drawing.specs.Sweeping.{IsSwept, after_all}
-use Rattle.drawing.proofs.bars.bars_of.Given as goal
+use Rattle.drawing.specs.Inside.Sweeping.{IsSwept, after_all}
+use Rattle.drawing.proofs.bars.stretches_of.Given as goal
 
 -- of the entries so far
 abbrev pub invariant-loop-entry : goal.invariant-loop-entry

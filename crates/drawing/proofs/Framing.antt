@@ -1,0 +1,16 @@
+-- Frames and heads that grow.
+use Rattle.std.proofs.Common.{◌≡◌, ℕ, true, inl, inr, refl, List, ◌++◌, map}
+use Rattle.std.proofs.lemmas.List.{map-append}
+use Rattle.std.proofs.lemmas.List.Elements.{Contains-append_left}
+use Rattle.std.proofs.lemmas.List.Folds.{list_all-append}
+use Rattle.svg.specs.declared.shape.Shape.{Shape}
+use Rattle.drawing.specs.Frame.{Tells, are_frame, placeless, without_place}
+
+pub joined : (xs ys : List Shape) → are_frame xs ≡ true → are_frame ys ≡ true → are_frame (xs ++ ys) ≡ true
+joined xs ys e f = rw (list_all-append _ xs ys, e, f) refl
+
+-- a head goes on to tell what it tells
+pub tells_on : (count : ℕ) (xs ys : List Shape) → Tells count xs → Tells count (xs ++ ys)
+unfolding placeless
+tells_on count xs ys (inl none) = inl none
+tells_on count xs ys (inr h) = inr (h.0, rw (map-append without_place xs ys) (Contains-append_left (map without_place xs) _ _ h.1))
