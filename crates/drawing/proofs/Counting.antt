@@ -4,7 +4,8 @@ use Rattle.std.proofs.lemmas.Bool.{eq-eqb, ne_eqb}
 use Rattle.std.proofs.lemmas.List.Elements.{filter-append}
 use Rattle.std.proofs.lemmas.List.Sums.{count_by-le-length, length-filter, sum_by_push}
 use Rattle.process_api.specs.Numbers.{numbers_to, others}
-use Rattle.drawing.specs.Layout.{absent, group_height, groups_bottom}
+use Rattle.drawing.specs.Inside.Drawn.{absent}
+use Rattle.drawing.specs.Layout.{group_height, groups_bottom}
 
 length-numbers_to : (n : ℕ) → length (numbers_to n) ≡ n
 length-numbers_to zero = refl

@@ -7,7 +7,7 @@ use Rattle.scenario_record.specs.Record.{outages_on}
 use Rattle.drawing.specs.Frame.{placeless}
 use Rattle.drawing.specs.Inside.Drawn.{AreRowsOf, pair_in, bands_in, row_at, bars_in, has_row_in}
 use Rattle.drawing.specs.Layout.{row_top, subjects}
-use Rattle.drawing.specs.Suspicions.{bands, pair_at, has_bar, has_row, row_bands, upper_bars}
+use Rattle.drawing.specs.Suspicions.{bands, pair_at, has_bar, has_row, upper_bars}
 use Rattle.drawing.specs.declared.bars.Bar.{Bar}
 use Rattle.drawing.specs.declared.groups.Rows.{Rows}
 use Rattle.drawing.specs.declared.groups.Run.{Run}
@@ -58,7 +58,7 @@ module _ (run : Run) (q n p : ℕ) (next : p ≡ n + 1) (old : Rows) (sofar : Ar
     pub with_row : has p ≡ true → (new : Rows) → placeless new.shapes.items ≡ placeless old.shapes.items ++ pair_at run.scenario.now run.ticks.from run.ticks.until (bars_in run) old.top q p
         → new.bands.items ≡ old.bands.items ++ bands run.ticks.from run.ticks.until old.top (outages_on run.scenario.now p q)
         → new.top ≡ old.top + 16 → new.left_out ≡ old.left_out → AreRowsOf run q (others (n + 1) q) new
-    unfolding pair_in bands_in row_bands row_top has_row_in
+    unfolding pair_in bands_in row_top has_row_in
     with_row e new shapes below top left_out =
         let before : n ≡ p - 1 = omega arith in
         let here : old.top ≡ row_at run q p = omega (arith, sofar.top, ap (λ k. length (subjects (has_row_in run) k q)) before) in

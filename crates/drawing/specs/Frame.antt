@@ -1,12 +1,10 @@
 -- What a picture has besides its marks: a title, a legend, labels, and the lines of its axis of ticks.
-use Rattle.std.specs.Prelude.{◌≡◌, ◌⊎◌, ℕ, ◌+◌, ◌<◌, ◌≤◌, max, nat_lt, Bool, true, false, ◌||◌, List, ◌++◌, map, Contains, codes, decimal}
+use Rattle.std.specs.Prelude.{◌≡◌, ◌⊎◌, ℕ, ◌+◌, ◌≤◌, max, nat_lt, Bool, true, false, ◌||◌, List, ◌++◌, map, Contains, codes, decimal}
 use Rattle.std.specs.List.{list_all}
 use Rattle.svg.specs.Document.{IsDocument}
 use Rattle.svg.specs.declared.class.Class.{Class}
 use Rattle.svg.specs.declared.class.Class.TheVariants as class
-use Rattle.svg.specs.declared.shape.Anchor.{Anchor}
 use Rattle.svg.specs.declared.shape.Anchor.TheVariants as anchor
-use Rattle.svg.specs.declared.shape.Point.{Point}
 use Rattle.svg.specs.declared.shape.Shape.{Shape}
 use Rattle.svg.specs.declared.shape.Shape.TheVariants as shape
 use Rattle.drawing.specs.Layout.{point, left_room, axis_width, head_room}
@@ -33,16 +31,14 @@ lowest (shape.Disc class center radius) = center.y + radius
 lowest (shape.Cross class center) = center.y
 lowest (shape.Text class at anchor text) = 0
 
--- a text, or a line of the axis
-abbrev pub is_label : Shape → Bool
-is_label (shape.Text class at anchor text) = true
-is_label (shape.Line class.Axis from to) = true
-is_label (shape.Line class.Grid from to) = true
-is_label s = false
+abbrev pub is_of_axis : Shape → Bool
+is_of_axis (shape.Line class.Axis from to) = true
+is_of_axis (shape.Line class.Grid from to) = true
+is_of_axis s = false
 
 -- these are no marks: they are texts, lines of the axis, or samples, which stand above all rows
 abbrev pub are_frame : List Shape → Bool
-are_frame shapes = list_all (λ s. is_label s || nat_lt (lowest s) head_room) shapes
+are_frame shapes = list_all (λ s. is_of_axis s || nat_lt (lowest s) head_room) shapes
 
 -- where some are left out, a text ends in how many
 abbrev pub Tells : (count : ℕ) → List Shape → Type 0

@@ -1,5 +1,5 @@
 -- Where marks stand in a picture, in whole user units from its top left corner.
-use Rattle.std.specs.Prelude.{ℕ, Bool, not, ◌+◌, ◌-◌, ◌*◌, ◌/◌, ◌==◌, min, nat_lt, nat_le, ◌&&◌, if◌then◌else◌, Option, None, Some, List, filter, length, sum_by}
+use Rattle.std.specs.Prelude.{ℕ, Bool, not, ◌+◌, ◌-◌, ◌*◌, ◌/◌, min, nat_lt, nat_le, ◌&&◌, if◌then◌else◌, Option, None, Some, List, filter, length, sum_by}
 use Rattle.process_api.specs.Numbers.{numbers_to, others}
 use Rattle.svg.specs.declared.shape.Point.{Point}
 
@@ -53,12 +53,9 @@ module _ (has_row : (q p : ℕ) → Bool) where
   unfoldable pub row_top : (processes q p : ℕ) → ℕ
   row_top processes q p = groups_bottom processes (q - 1) + (1 + length (subjects (p - 1) q)) * row_height
 
-  -- how many other processes have no row of process q, and how many pairs have none
-  abbrev pub absent : (processes q : ℕ) → ℕ
-  absent processes q = length (filter (λ p. not (has_row q p)) (others processes q))
-
+  -- how many pairs of processes have no row
   unfoldable pub left_out : (processes : ℕ) → ℕ
-  left_out processes = sum_by (absent processes) (numbers_to processes)
+  left_out processes = sum_by (λ q. length (filter (λ p. not (has_row q p)) (others processes q))) (numbers_to processes)
 
 -- ---- letters: each process has a room, in which there is place for a text of each other process above its row
 

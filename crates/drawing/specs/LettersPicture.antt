@@ -121,16 +121,12 @@ module _ (S : Record) (trace : List EntryRecord) (from until : ℕ) where
   line_bands q = flat_map (λ p. bands from until (own_top S.processes q) (outages_on S q p)) (others S.processes q)
 
   module _ (bars : (q p : ℕ) → List Bar) where
-    -- where q begins to suspect p, and where it trusts it again
-    unfoldable pub turns_of : (q p : ℕ) → List Shape
-    turns_of q p =
-        flat_map (bar_turns from until (turn_class S.share) (line_of S.processes q) (row_end S until q) p) (bars q p)
-
-    -- the marks of process q: what it decides, and its turns
+    -- the marks of process q: what it decides, and where it begins to suspect each other one and trusts it again
     unfoldable pub mark_shapes : (q : ℕ) → List Shape
     mark_shapes q =
         value_shapes (outcome trace q).value (shown from until (outcome trace q).tick)
-        ++ flat_map (turns_of q) (others S.processes q)
+        ++ flat_map (λ p. flat_map (bar_turns from until (turn_class S.share) (line_of S.processes q)
+        (row_end S until q) p) (bars q p)) (others S.processes q)
 
     -- a line for each process, an arrow for each letter of these processes that is sent at these ticks, and marks
     unfoldable pub letters_shapes : (of : List ℕ) → List Letter → List Shape

@@ -103,13 +103,11 @@ module _ (S : Record) (trace : List EntryRecord) (from until : ℕ) where
         ++ flat_map (λ p. pair_at S from until bars (row_top (has_row S bars) S.processes q p) q p)
         (subjects (has_row S bars) S.processes q)
 
-    -- the bands of the row of q and p: where the link from p to q is in an outage
-    unfoldable pub row_bands : (q p : ℕ) → List Shape
-    row_bands q p = bands from until (row_top (has_row S bars) S.processes q p) (outages_on S p q)
-
-    -- those of the rows of process q
+    -- the bands of these rows: in that of q and p, where the link from p to q is in an outage
     unfoldable pub group_bands : (q : ℕ) → List Shape
-    group_bands q = flat_map (row_bands q) (subjects (has_row S bars) S.processes q)
+    group_bands q =
+        flat_map (λ p. bands from until (row_top (has_row S bars) S.processes q p) (outages_on S p q))
+        (subjects (has_row S bars) S.processes q)
 
   -- the text is a picture in which the bars of each pair are exactly its maximal stretches of suspicion from `from` to
   -- the end of its row, each once, in their order; it tells how many pairs have no bar

@@ -1,8 +1,8 @@
 //! The axis of ticks.
-ghost use Rattle.std.specs.Prelude.{◌≡◌, ◌≤◌, ◌∷◌, [], true, IfOk, OnOk};
+ghost use Rattle.std.specs.Prelude.{◌≡◌, ◌≤◌, ◌∷◌, [], true};
 ghost use Rattle.drawing.specs.Frame.{are_frame};
 
-use crate::frame::push_frame;
+use crate::frame::Frame;
 use crate::labels::text;
 use crate::layout::{LEFT, TOP, Ticks, WIDTH};
 use std::alloc::{AllocError, Global};
@@ -11,32 +11,23 @@ use svg::{Anchor, Class, Point, Shape};
 /// A labelled tick: a line through the rows, and its number above and below them.
 fn push_tick(
     alloc: Global,
-    shapes: &mut Vec<Shape>,
+    axis: &mut Frame,
     ticks: &Ticks,
     bottom: u32,
     tick: u32,
 ) -> Result<(), AllocError>
-    requires before { are_frame shapes.old.items ≡ true }
-    requires bottom { bottom ≤ 2000000 }
-    ensures { OnOk result (are_frame shapes.new.items ≡ true) }
+    requires { bottom ≤ 2000000 }
 {
     let x = ticks.x(tick);
     let above = format!(in alloc; "{tick}")?;
     let below = format!(in alloc; "{tick}")?;
-    let line = Shape::Line {
+    axis.push(Shape::Line {
         class: Class::Grid,
         from: Point { x, y: TOP - 8 },
         to: Point { x, y: bottom },
-    };
-    push_frame(shapes, line)?;
-    push_frame(
-        shapes,
-        text(Class::Label, x, TOP - 12, Anchor::Middle, above),
-    )?;
-    push_frame(
-        shapes,
-        text(Class::Label, x, bottom + 14, Anchor::Middle, below),
-    )
+    })?;
+    axis.push(text(Class::Label, x, TOP - 12, Anchor::Middle, above))?;
+    axis.push(text(Class::Label, x, bottom + 14, Anchor::Middle, below))
 }
 
 /// A line above or below the rows.
@@ -51,18 +42,17 @@ fn edge(y: u32) -> Shape
 }
 
 /// The axis: its lines, and its labelled ticks.
-pub(crate) fn axis(alloc: Global, ticks: &Ticks, bottom: u32) -> Result<Vec<Shape>, AllocError>
+pub(crate) fn axis(alloc: Global, ticks: &Ticks, bottom: u32) -> Result<Frame, AllocError>
     requires { bottom ≤ 2000000 }
-    ensures { IfOk result (λ axis. are_frame axis.items ≡ true) }
 {
-    let mut shapes = Vec::new(alloc);
-    push_frame(&mut shapes, edge(TOP - 8))?;
-    push_frame(&mut shapes, edge(bottom))?;
+    let mut axis = Frame::new(alloc);
+    axis.push(edge(TOP - 8))?;
+    axis.push(edge(bottom))?;
     let step = ticks.step();
     let first = ticks.from.div_ceil(step);
     let last = ticks.until / step;
     for times in first..last + 1 {
-        push_tick(alloc, &mut shapes, ticks, bottom, times * step)?;
+        push_tick(alloc, &mut axis, ticks, bottom, times * step)?;
     }
-    Ok(shapes)
+    Ok(axis)
 }

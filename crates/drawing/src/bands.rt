@@ -1,12 +1,12 @@
 //! Bands: the ticks at which a link loses all letters.
-ghost use Rattle.std.specs.Prelude.{◌≡◌, ◌++◌, ◌≤◌, true, IfOk, OnOk};
-ghost use Rattle.drawing.specs.Frame.{are_frame};
+ghost use Rattle.std.specs.Prelude.{◌≡◌, ◌++◌, ◌≤◌, IfOk, OnOk};
 ghost use Rattle.drawing.specs.Suspicions.{bands, is_seen};
 
+use crate::frame::Frame;
 use crate::groups::Run;
 use crate::lanes::own_top;
 use crate::layout::{ROW, Ticks};
-use crate::legend::{push_entry, sample};
+use crate::legend::sample;
 use crate::row_shapes::stretch;
 use process_api::Pid;
 use scenario_record::Outage;
@@ -38,22 +38,19 @@ pub(crate) fn push_bands(
     Ok(())
 }
 
-/// What bands mean, where there is one.
+/// What bands mean, where there is one, at a height.
 pub(crate) fn outage_legend(
     alloc: Global,
     x: u32,
     y: u32,
     drawn: &[Shape],
-) -> Result<Vec<Shape>, AllocError>
+) -> Result<Frame, AllocError>
     requires wide { x ≤ 1000 }
-    requires low { 8 ≤ y }
-    requires high { y ≤ 60 }
-    ensures { IfOk result (λ legend. are_frame legend.items ≡ true) }
+    requires low { y ≤ 60 }
 {
-    let mut legend = Vec::new(alloc);
+    let mut legend = Frame::new(alloc);
     if !drawn.is_empty() {
-        let outage = sample(Class::Outage, x, y - 8);
-        push_entry(alloc, &mut legend, outage, x + 30, y, "outage")?;
+        legend.push_entry(sample(Class::Outage, x, y), x + 30, y + 8, "outage")?;
     }
     Ok(legend)
 }

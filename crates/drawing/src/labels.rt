@@ -3,7 +3,7 @@ ghost use Rattle.std.specs.Prelude.{◌≡◌, ◌++◌, ◌∷◌, [], ◌≤�
 ghost use Rattle.drawing.specs.Frame.{are_frame, said, without_place};
 ghost use Rattle.drawing.specs.Layout.{point};
 
-use crate::layout::LEFT;
+use crate::layout::{LEFT, Ticks};
 use process_api::Pid;
 use std::alloc::{AllocError, Global};
 use svg::{Anchor, Caption, Class, Point, Shape};
@@ -61,11 +61,11 @@ pub(crate) fn own_name(alloc: Global, top: u32, process: Pid) -> Result<Shape, A
 }
 
 /// The title of a picture of some ticks.
-pub(crate) fn title(alloc: Global, words: &str, from: u32, until: u32) -> Result<Shape, AllocError>
-    requires { from < until }
+pub(crate) fn title(alloc: Global, words: &str, ticks: &Ticks) -> Result<Shape, AllocError>
     ensures { IfOk result (λ s. are_frame (s ∷ []) ≡ true) }
 {
-    let last = until - 1;
+    let from = ticks.from;
+    let last = ticks.until - 1;
     let name = format!(in alloc; "{words}, ticks {from} to {last}")?;
     Ok(text(Class::Title, LEFT, 20, Anchor::Start, name))
 }

@@ -12,8 +12,7 @@ use crate::frame::picture_text;
 use crate::groups::Run;
 use crate::lanes::{lanes_bottom, own_top};
 use crate::layout::{LEFT, MOST_LETTERS};
-use crate::legend::push_left_out;
-use crate::letters_legend::push_letters_legend;
+use crate::letters_legend::letters_legend;
 use crate::suspicions::ticks_of;
 use judges::{Outcome, decisions};
 use letters::Letter;
@@ -60,7 +59,6 @@ impl Run<'_> {
 }
 
 /// The picture of a run's letters.
-#[tactic(auto, using(crate::proofs::Framing::joined))]
 fn text_of(
     alloc: Global,
     run: &Run<'_>,
@@ -75,15 +73,14 @@ fn text_of(
     let others = count_others(&run.ticks, of, letters);
     let bands = run.line_bands(alloc)?;
     let bottom = lanes_bottom(scenario.processes());
-    let mut head = Vec::new(alloc);
-    push_letters_legend(alloc, &mut head, &run.ticks, scenario.share())?;
-    push_left_out(alloc, &mut head, "letters of others, left out", others)?;
-    head.append(&mut outage_legend(alloc, LEFT + 440, 54, &bands)?)?;
+    let mut head = letters_legend(alloc, &run.ticks, scenario.share())?;
+    head.push_left_out("letters of others, left out", others)?;
+    head.append(outage_legend(alloc, LEFT + 440, 46, &bands)?)?;
     let mut shapes = Vec::new(alloc);
     run.push_lines(alloc, &mut shapes, &told)?;
     run.push_arrows(&mut shapes, of, letters)?;
     run.push_all_marks(alloc, &mut shapes, &told)?;
-    picture_text(alloc, &run.ticks, bottom, head, bands, shapes)
+    picture_text(&run.ticks, bottom, head, bands, shapes)
 }
 
 /// The picture of what went from whom to whom at the ticks from `from` to `until - 1` of a run, as an SVG document.

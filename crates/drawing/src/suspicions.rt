@@ -8,28 +8,21 @@ use crate::error::DrawError;
 use crate::frame::picture_text;
 use crate::groups::Run;
 use crate::layout::{LEFT, MOST_DRAWN, Ticks};
-use crate::legend::{push_left_out, push_legend};
+use crate::legend::legend;
 use process_api::{Pid, Trace};
 use scenario_record::Scenario;
 use std::alloc::{AllocError, Global};
 
 /// The picture of a run.
-#[tactic(auto, using(crate::proofs::Framing::joined))]
 fn text_of(alloc: Global, run: &Run<'_>) -> Result<Vec<u8>, AllocError>
     ensures { IfOk result (λ text. DrawsSuspicions run.now.scenario.now run.now.trace.now run.now.ticks.from
         run.now.ticks.until text.items) }
 {
     let rows = run.rows(alloc)?;
-    let mut head = Vec::new(alloc);
-    push_legend(alloc, &mut head, &run.ticks, run.scenario.share())?;
-    head.append(&mut outage_legend(alloc, LEFT + 620, 42, &rows.bands)?)?;
-    push_left_out(
-        alloc,
-        &mut head,
-        "pairs without a bar, left out",
-        rows.left_out,
-    )?;
-    picture_text(alloc, &run.ticks, rows.top, head, rows.bands, rows.shapes)
+    let mut head = legend(alloc, &run.ticks, run.scenario.share())?;
+    head.append(outage_legend(alloc, LEFT + 620, 34, &rows.bands)?)?;
+    head.push_left_out("pairs without a bar, left out", rows.left_out)?;
+    picture_text(&run.ticks, rows.top, head, rows.bands, rows.shapes)
 }
 
 /// The ticks from `from` to `until - 1`, where they are ticks of a run that can be drawn.

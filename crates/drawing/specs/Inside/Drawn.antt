@@ -3,11 +3,12 @@ use Rattle.std.specs.Prelude.{◌≡◌, ◌≤◌, ℕ, ◌+◌, ◌-◌, ◌*�
 use Rattle.judges.specs.Out.{suspects}
 use Rattle.judges.specs.Outcomes.{outcome}
 use Rattle.judges.specs.declared.outcomes.Outcome.{Outcome}
-use Rattle.process_api.specs.Numbers.{numbers_to}
+use Rattle.process_api.specs.Numbers.{numbers_to, others}
+use Rattle.scenario_record.specs.Record.{outages_on}
 use Rattle.svg.specs.declared.shape.Shape.{Shape}
 use Rattle.drawing.specs.Frame.{placeless}
-use Rattle.drawing.specs.Layout.{absent, groups_bottom, row_height, row_top}
-use Rattle.drawing.specs.Suspicions.{row_end, upper_bars, has_row, pair_at, own_at, group_shapes, row_bands, group_bands}
+use Rattle.drawing.specs.Layout.{groups_bottom, row_height, row_top}
+use Rattle.drawing.specs.Suspicions.{bands, row_end, upper_bars, has_row, pair_at, own_at, group_shapes, group_bands}
 use Rattle.drawing.specs.Inside.Sweeping.{stretches}
 use Rattle.drawing.specs.declared.bars.Bar.{Bar}
 use Rattle.drawing.specs.declared.groups.Row.{Row}
@@ -47,13 +48,17 @@ unfoldable pub pair_in : Run → (q p : ℕ) → List Shape
 pair_in run q p = pair_at run.scenario.now run.ticks.from run.ticks.until (bars_in run) (row_at run q p) q p
 
 unfoldable pub bands_in : Run → (q p : ℕ) → List Shape
-bands_in run q p = row_bands run.scenario.now run.trace.now run.ticks.from run.ticks.until (bars_in run) q p
+bands_in run q p = bands run.ticks.from run.ticks.until (row_at run q p) (outages_on run.scenario.now p q)
 
 unfoldable pub group_of : Run → (q : ℕ) → List Shape
 group_of run q = group_shapes run.scenario.now run.trace.now run.ticks.from run.ticks.until (bars_in run) q
 
 unfoldable pub group_bands_of : Run → (q : ℕ) → List Shape
 group_bands_of run q = group_bands run.scenario.now run.trace.now run.ticks.from run.ticks.until (bars_in run) q
+
+-- how many other processes have no row of process q
+abbrev pub absent : (has_row : (q p : ℕ) → Bool) (processes q : ℕ) → ℕ
+absent has_row processes q = length (filter (λ p. not (has_row q p)) (others processes q))
 
 -- ---- rows, as they are drawn
 

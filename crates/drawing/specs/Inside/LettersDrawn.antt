@@ -6,8 +6,8 @@ use Rattle.svg.specs.declared.shape.Shape.{Shape}
 use Rattle.scenario_record.specs.Record.{outages_on}
 use Rattle.drawing.specs.Inside.Drawn.{own_of}
 use Rattle.drawing.specs.Inside.Sweeping.{stretches}
-use Rattle.drawing.specs.Layout.{own_top}
-use Rattle.drawing.specs.LettersPicture.{upper_layer, line_bands, turns_of, mark_shapes}
+use Rattle.drawing.specs.Layout.{line_of, own_top}
+use Rattle.drawing.specs.LettersPicture.{bar_turns, line_bands, mark_shapes, turn_class, upper_layer}
 use Rattle.drawing.specs.Suspicions.{bands, row_end}
 use Rattle.drawing.specs.declared.bars.Bar.{Bar}
 use Rattle.drawing.specs.declared.groups.Run.{Run}
@@ -33,7 +33,9 @@ abbrev pub all_line_bands_in : Run → List Shape
 all_line_bands_in run = flat_map (line_bands_in run) (numbers_to run.scenario.now.processes)
 
 unfoldable pub turns_in : Run → (q p : ℕ) → List Shape
-turns_in run q p = turns_of run.scenario.now run.trace.now run.ticks.from run.ticks.until (turn_bars run) q p
+turns_in run q p =
+    flat_map (bar_turns run.ticks.from run.ticks.until (turn_class run.scenario.now.share)
+    (line_of run.scenario.now.processes q) (row_end run.scenario.now run.ticks.until q) p) (turn_bars run q p)
 
 abbrev pub turns_of_others : Run → (q : ℕ) → List Shape
 turns_of_others run q = flat_map (turns_in run q) (others run.scenario.now.processes q)

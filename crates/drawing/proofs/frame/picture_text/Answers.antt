@@ -5,10 +5,10 @@ use Rattle.drawing.proofs.frame.picture_text.Goals as goal
 
 pub returns : goal.returns
 returns c =
-    let head = c.args.head.items in
+    let head = c.args.head.shapes.items in
     let bands = c.args.bands.items in
-    let axis = c.in_ok-axis.field-0.items in
-    let shapes = c.args.shapes.items in
+    let axis = c.in_ok-axis.field-0.shapes.items in
+    let shapes = c.args.marks.items in
     let joined : c.append-3.new.self.items ≡ head ++ (bands ++ (axis ++ shapes)) =
     rw (c.in_ok-append-3.ensures.items, c.in_ok-append-2.ensures.items, c.in_ok-append.ensures.items, append_assoc (head ++ bands) axis shapes, append_assoc head bands (axis ++ shapes)) refl
     in
@@ -21,8 +21,8 @@ returns c =
       head = head;
       axis = axis;
       shapes = shapes;
-      head_is = c.requires.head;
-      axis_is = c.in_ok-axis.ensures;
+      head_is = c.args.head.frame;
+      axis_is = c.in_ok-axis.field-0.frame;
       tells = tells;
       marks_are = refl;
       document = subst (λ xs. IsDocument 928 (c.args.bottom + 28) xs text.items) joined e;

@@ -23,6 +23,6 @@ returns c =
       are_bars = λ q p. stretches_are_bars _ _ _;
       picture =
           rw (← (c.lanes_bottom-bottom.ensures.value ∙ ap lanes_bottom c.processes.ensures.value), ← c.count_others-others.ensures, ← c.in_ok-bands.ensures, ← marks)
-          (e _ (subst (Tells _) (sym c.in_ok-append.ensures.items) (tells_on _ _ _ c.in_ok-push_left_out.ensures.tells)));
+          (e _ (subst (Tells _) (sym c.in_ok-append.ensures) (tells_on _ _ _ c.in_ok-push_left_out.ensures)));
     })
     (λ error h. h)

@@ -12,6 +12,6 @@ returns c =
     (λ text e. record {
       bars = bars_in c.args.run.now;
       are_bars = λ layer q p. stretches_are_bars _ _ _;
-      picture = rw (← all.top, ← all.left_out, ← all.bands, ← all.shapes) (e _ c.in_ok-push_left_out.ensures.tells);
+      picture = rw (← all.top, ← all.left_out, ← all.bands, ← all.shapes) (e _ c.in_ok-push_left_out.ensures);
     })
     (λ error h. h)

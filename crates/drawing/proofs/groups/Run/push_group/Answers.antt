@@ -1,7 +1,7 @@
 use Rattle.std.proofs.Common.{◌≡◌, ◌∙◌, ◌-◌, ◌++◌, suc, sym, ap, subst, arith, append-nil, flat_map}
 use Rattle.process_api.specs.Numbers.{numbers_to, others}
-use Rattle.drawing.specs.Inside.Drawn.{AreRowsOf, has_row_in, pair_in, group_of, bands_in, group_bands_of, own_of}
-use Rattle.drawing.specs.Layout.{absent, group_height}
+use Rattle.drawing.specs.Inside.Drawn.{AreRowsOf, absent, has_row_in, pair_in, group_of, bands_in, group_bands_of, own_of}
+use Rattle.drawing.specs.Layout.{group_height}
 use Rattle.drawing.specs.Suspicions.{group_shapes, group_bands}
 use Rattle.drawing.proofs.Counting.{groups_more, sum_more}
 use Rattle.drawing.proofs.Joining.{numbers_more}

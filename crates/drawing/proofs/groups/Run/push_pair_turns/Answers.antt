@@ -1,11 +1,10 @@
 use Rattle.std.proofs.Common.{◌≡◌, refl, arith, take}
 use Rattle.std.proofs.lemmas.List.{take_all}
 use Rattle.drawing.specs.Inside.LettersDrawn.{turns_in}
-use Rattle.drawing.specs.LettersPicture.{turns_of}
 use Rattle.drawing.proofs.groups.Run.push_pair_turns.Goals as goal
 
 pub returns : goal.returns
-unfolding turns_in turns_of
+unfolding turns_in
 returns c =
     let items = c.deref-bar-items.result.now in
     let whole : take c.loop-bar.bar-index items ≡ items = take_all c.loop-bar.bar-index items (omega (arith, c.loop-bar-test.false)) in
