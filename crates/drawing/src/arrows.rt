@@ -107,7 +107,8 @@ impl Run<'_> {
 
     /// The shape of a letter that is lost.
     fn lost(&self, letter: &Letter) -> Shape
-        ensures { without_place result ≡ lost self.now.scenario.now.processes self.now.ticks.from self.now.ticks.until letter.now }
+        ensures { without_place result
+            ≡ lost self.now.scenario.now.processes self.now.ticks.from self.now.ticks.until letter.now }
     {
         let begin = self.line_of(letter.sender);
         let end = self.line_of(letter.receiver);
@@ -174,7 +175,8 @@ impl Run<'_> {
     fn arrow(&self, letter: &Letter) -> Shape
         requires { letter.now.sent < self.now.ticks.until }
         ensures { without_place result
-            ≡ ending self.now.scenario.now.processes self.now.ticks.from self.now.ticks.until letter.now letter.now.due }
+            ≡ ending self.now.scenario.now.processes self.now.ticks.from self.now.ticks.until
+            letter.now letter.now.due }
     {
         match letter.due {
             None => self.lost(letter),

@@ -3,9 +3,9 @@
 //! [`draw_suspicions`] draws who suspects whom. Each process has a group of rows: one line for itself, with its crash
 //! and its decision, and one for each other process that it suspects, with a bar for each stretch of ticks through which
 //! it does. A stretch is as long as can be within the ticks asked for (`specs/Bars.antt`); the bars of a pair are all
-//! its stretches, each once, in the order of their ticks. Where each mark stands is defined in `specs/Suspicions.antt` and
-//! `specs/Layout.antt`. The text is that of a picture with just these marks (`specs/Frame.antt`). What legends and the
-//! labels of ticks say no contract tells, and neither where texts stand.
+//! its stretches, each once, in the order of their ticks. Where each mark stands is defined in `specs/Suspicions.antt`
+//! and `specs/Layout.antt`. The text is that of a picture with just these marks (`specs/Frame.antt`). No contract tells
+//! where a text stands, nor what the legend and the labels of ticks say.
 //!
 //! What is drawn is small: at most [`MOST_DRAWN`] processes, ticks that the run has. All else is refused by name
 //! ([`DrawError`]).

@@ -63,7 +63,8 @@ fn push_shapes(out: &mut Vec<u8>, shapes: &[Shape]) -> Result<(), AllocError>
 ///
 /// `AllocError` where memory was refused.
 pub fn svg_text(alloc: Global, picture: &Picture) -> Result<Vec<u8>, AllocError>
-    ensures { IfOk result (λ text. IsDocument picture.now.width picture.now.height picture.now.shapes.items text.items) }
+    ensures { IfOk result (λ text.
+        IsDocument picture.now.width picture.now.height picture.now.shapes.items text.items) }
 {
     let mut out = head(alloc, style(), picture.width, picture.height)?;
     push_shapes(&mut out, &picture.shapes)?;
