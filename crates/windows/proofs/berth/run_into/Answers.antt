@@ -1,28 +1,26 @@
 use Rattle.std.proofs.Common.{◌≡◌, ◌<◌, ◌≤◌, [], ◌∷◌, ◌++◌, ◌+◌, ◌*◌, map, ap, sym, subst, ◌∙◌, refl, rules, arith, append_assoc, append-nil, length, length-append}
-use Rattle.std.proofs.lemmas.List.{length-replicate}
 use Rattle.process_api.specs.Bounds.{most_step_actions}
 use Rattle.trace_laws.specs.ScenarioSetting.{setting_of}
 use Rattle.steps.specs.Seat.{process_of, own_of, IsSeated}
 use Rattle.trace_laws.specs.World.{Has}
 use Rattle.trace_laws.specs.Taken.{event_of}
-use Rattle.mailboxes.specs.Mailboxes.{with_lists}
 use Rattle.windows.specs.Berth.{all_filed, made_in, most_in_part}
 use Rattle.window_laws.specs.Window.{BerthRun}
 use Rattle.window_laws.proofs.Berths.{berth_opens, berth_longer, berth_ends}
-use Rattle.windows.proofs.Letters.{filed_more, posted_filed}
+use Rattle.windows.proofs.Letters.{filed_more}
 use Rattle.windows.proofs.Turns.{one_longer, stands_next}
-use Rattle.windows.proofs.berth.run_berth.Goals as goal
+use Rattle.windows.proofs.berth.run_into.Goals as goal
 
-pub loop-tray-init : goal.loop-tray-init
-loop-tray-init g c =
+pub loop-event-init : goal.loop-event-init
+loop-event-init g c =
     let b = c.args.berth.now in
     let is = c.requires.berth.1 in
     record {
-      fits = ap length c.in_ok-tray.ensures.empty ∙ (length-replicate _ [] ∙ ap length c.requires.slip);
+      fits = refl;
       own = refl;
       stands = (
         [],
-        c.in_ok-tray.ensures.empty,
+        refl,
         [],
         sym (append-nil b.part.items),
         berth_opens (setting_of c.args.streams.now) (own_of g.M.Process.mind b.seat) c.args.end (process_of g.M.Process.mind b.seat) b.pending (λ key x h. is.own key x h ∙ sym is.is),
@@ -34,15 +32,15 @@ loop-tray-init g c =
 pub take-requires-clause-seated : goal.take-requires-clause-seated
 take-requires-clause-seated g c κs within =
     let most = most_step_actions * most_in_part in
-    let now = c.loop-tray.berth.part in
-    (most + most_step_actions * length now.items, c.loop-tray.invariant.seated most c.requires.berth.1.seated, omega (arith, c.in_ok-check_room.ensures.ok.1, c.len-in-Some.ensures, now.ok.0))
+    let now = c.loop-event.berth.part in
+    (most + most_step_actions * length now.items, c.loop-event.invariant.seated most c.requires.berth.1.seated, omega (arith, c.in_ok-check_room.ensures.ok.1, c.len-in-Some.ensures, now.ok.0))
 
-pub loop-tray-preserved : goal.loop-tray-preserved
-loop-tray-preserved g c =
+pub loop-event-preserved : goal.loop-event-preserved
+loop-event-preserved g c =
     let mind = g.M.Process.mind in
     let b = c.args.berth.now in
-    let i = c.loop-tray.invariant in
-    let old = c.loop-tray.berth in
+    let i = c.loop-event.invariant in
+    let old = c.loop-event.berth in
     let new = c.take.new.self in
     let made = i.stands.2 in
     let taken = rw c.in-Some.is at c.in_ok-event.ensures.least in
@@ -68,13 +66,13 @@ loop-tray-preserved g c =
 
 pub take-requires-clause-own : goal.take-requires-clause-own
 take-requires-clause-own g c κs within =
-    let i = c.loop-tray.invariant in
+    let i = c.loop-event.invariant in
     let taken = rw c.in-Some.is at c.in_ok-event.ensures.least in
     i.stands.4.own c.in-Some.event.0 c.in-Some.event.1 taken.0.there ∙ sym i.own
 
-pub loop-tray-smaller : goal.loop-tray-smaller
-loop-tray-smaller g c =
-    let old = c.loop-tray.berth.part in
+pub loop-event-smaller : goal.loop-event-smaller
+loop-event-smaller g c =
+    let old = c.loop-event.berth.part in
     let new = c.take.new.self.part in
     let longer : length new.items ≡ length old.items + 1 = one_longer old.items new.items _ c.in_ok-take.ensures.part in
     omega (arith, longer, new.ok.0, old.ok.0, c.len-in-Some.ensures, c.in_ok-check_room.ensures.ok.0)
@@ -86,8 +84,8 @@ pub returns-in_err-check_room-clause-limit : goal.returns-in_err-check_room-clau
 returns-in_err-check_room-clause-limit g c is history after rest letters run =
     let mind = g.M.Process.mind in
     let b = c.args.berth.now in
-    let i = c.loop-tray.invariant in
-    let old = c.loop-tray.berth in
+    let i = c.loop-event.invariant in
+    let old = c.loop-event.berth in
     let taken = rw c.in-Some.is at c.in_ok-event.ensures.least in
     let made = i.stands.2 in
     let longer : length made < length history =
@@ -97,15 +95,15 @@ returns-in_err-check_room-clause-limit g c is history after rest letters run =
     omega (arith, longer, full, c.len-in-Some.ensures, old.part.ok.0, ap length i.stands.3, length-append b.part.items made)
 
 pub returns-clause-within : goal.returns-clause-within
-returns-clause-within g c = c.loop-tray.invariant.within
+returns-clause-within g c = c.loop-event.invariant.within
 
 pub returns-clause-ran : goal.returns-clause-ran
 returns-clause-ran g c =
     let mind = g.M.Process.mind in
     let S = setting_of c.args.streams.now in
     let b = c.args.berth.now in
-    let i = c.loop-tray.invariant in
-    let old = c.loop-tray.berth in
+    let i = c.loop-event.invariant in
+    let old = c.loop-event.berth in
     let made = i.stands.2 in
     let was = i.stands.4 in
     let run = berth_ends S (own_of mind b.seat) c.args.end (process_of mind b.seat) b.pending (process_of mind old.seat) old.pending made (map event_of i.stands.0) was (rw c.in_default.is at c.in_ok-event.ensures.least) in
@@ -117,12 +115,12 @@ returns-clause-ran g c =
             (subst (λ q. BerthRun S q c.args.end (process_of mind b.seat) b.pending was.history (process_of mind old.seat) old.pending (map event_of i.stands.0)) is run);
         part = i.stands.3 ∙ ap (λ es. b.part.items ++ es) was.part_is;
       },
-      c.in_ok-post_all.ensures.ok ∙ ((λ j. with_lists (c.in_ok-tray.ensures.slip j) (i.stands.1 j)) ∙ posted_filed c.args.slip.now _ i.stands.0 (sym c.in_ok-tray.ensures.fits)),
+      i.stands.1,
     )
 
 pub returns-clause-berth : goal.returns-clause-berth
 returns-clause-berth g c =
-    let i = c.loop-tray.invariant in
+    let i = c.loop-event.invariant in
     λ p most h. record {
       seated = i.seated most h.seated;
       is = i.own ∙ h.is;
