@@ -50,18 +50,23 @@ impl SharedMailboxes {
         self.boxes[at].post(rt, &mut slip.tickets[at], letter)
     }
 
-    /// Posts the letters of a tray, receiver by receiver, those to one in the order in which they came. The slip keeps
-    /// the tray's memory. The error is that memory was refused. Of what was posted by the slip nothing is known then.
-    pub fn post_all<R: Wait>(&self, rt: &R, slip: &mut Slip, tray: Tray) -> Result<(), AllocError>
+    /// Posts the letters of a tray, receiver by receiver, those to one in the order in which they came. The tray is
+    /// empty then, and keeps its memory. The error is that memory was refused. Nothing is known then of what was posted
+    /// by the slip, nor of the letters in the tray.
+    pub fn post_all<R: Wait>(
+        &self,
+        rt: &R,
+        slip: &mut Slip,
+        tray: &mut Tray,
+    ) -> Result<(), AllocError>
         requires slip { IsSlipOf self.now slip.old }
-        requires tray { length tray ≡ length self.now }
+        requires tray { length tray.old ≡ length self.now }
         ensures slip { IsSlipOf self.now slip.new }
-        ensures ok { OnOk result (slip.new ≡ with_lists slip.old tray) }
+        ensures ok { OnOk result (slip.new ≡ with_lists slip.old tray.old) }
+        ensures empty { OnOk result (tray.new ≡ replicate (length tray.old) []) }
+        ensures count { length tray.new ≡ length tray.old }
     {
-        let Tray { mut lists } = tray;
-        self.post_lists(rt, &mut slip.tickets, &mut lists)?;
-        slip.spare = lists;
-        Ok(())
+        self.post_lists(rt, &mut slip.tickets, &mut tray.lists)
     }
 
     // Posts the letters of each list by the ticket at its place. The lists are empty then.
@@ -76,7 +81,8 @@ impl SharedMailboxes {
         ensures tickets { map (λ t. t.mailbox) tickets.new.items ≡ self.now }
         ensures posted { OnOk result (map (λ t. t.posted) tickets.new.items
             ≡ each_with (◌++◌) (map (λ t. t.posted) tickets.old.items) (letters_in lists.old.items)) }
-        ensures empty { OnOk result (letters_in lists.new.items ≡ replicate (length self.now) []) }
+        ensures empty { OnOk result (letters_in lists.new.items ≡ replicate (length lists.old.items) []) }
+        ensures count { vec_len lists.new ≡ vec_len lists.old }
     {
         for at in 0..lists.len() {
             self.boxes[at].post_list(rt, &mut tickets[at], &mut lists[at])?;
@@ -112,10 +118,7 @@ impl SharedMailboxes {
             let ticket = self.boxes[at].ticket(&mut homes[at]);
             tickets.push_reserved(ticket);
         }
-        Ok(Slip {
-            tickets,
-            spare: Vec::new(alloc),
-        })
+        Ok(Slip { tickets })
     }
 
     /// Takes a slip back.
@@ -126,7 +129,7 @@ impl SharedMailboxes {
         ensures homes { homes.new.items ≡ all_back homes.old.items slip.posted }
         ensures lists { length slip.posted ≡ vec_len homes.old }
     {
-        let Slip { tickets, .. } = slip;
+        let Slip { tickets } = slip;
         let mut at = 0;
         for ticket in tickets {
             self.boxes[at].take_back(&mut homes[at], ticket);

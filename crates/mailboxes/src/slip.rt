@@ -5,8 +5,6 @@ use crate::mailbox::Ticket;
 use crate::tray::{Tray, empty_lists};
 use std::alloc::AllocError;
 use std::marker::Model;
-use std::mem::replace;
-use trace_laws::Parcel;
 
 /// The permit to post to some mailboxes. It may go to another thread, and it comes back for the collecting.
 ///
@@ -15,40 +13,29 @@ use trace_laws::Parcel;
 pub struct Slip {
     /// A ticket of each mailbox, by receiver.
     pub(crate) tickets: Vec<Ticket>,
-    /// Empty lists for a tray, kept for their memory: one for each mailbox, or none.
-    pub(crate) spare: Vec<Vec<Parcel>>,
 }
 
 impl Model for Slip {
-    ghost use Rattle.std.specs.Prelude.{◌≡◌, ◌⊎◌, [], map, length, replicate};
+    ghost use Rattle.std.specs.Prelude.{map};
     ghost use Rattle.trace_laws.specs.contracts.parcel.Parcel as letter;
     ghost use Rattle.mailboxes.specs.contracts.mailbox.Mailbox as mailbox;
-    ghost use Rattle.mailboxes.specs.Mailboxes.{SlipView, letters_in, slip_code, slip_of};
+    ghost use Rattle.mailboxes.specs.Mailboxes.{SlipView, slip_code, slip_of};
 
     ghost Value = { SlipView };
 
     ghost coded = { slip_code mailbox.the_row.coded letter.the_row.coded };
 
     ghost view = { λ s. slip_of (map (λ t. t.mailbox) s.tickets.items) (map (λ t. t.posted) s.tickets.items) };
-
-    ghost invariant = { λ s. (s.spare.items ≡ [])
-        ⊎ (letters_in s.spare.items ≡ replicate (length s.tickets.items) []) };
 }
 
 impl Slip {
-    /// An empty tray for letters to be posted by the slip. [`crate::SharedMailboxes::post_all`] takes it, and its memory
-    /// is used again. The error is that memory was refused.
-    pub fn tray(&mut self) -> Result<Tray, AllocError>
-        ensures slip { self.new ≡ self.old }
-        ensures fits { length self.old.posted ≡ length self.old.mailboxes }
-        ensures empty { IfOk result (λ tray. tray ≡ replicate (length self.old.mailboxes) []) }
+    /// An empty tray, for letters that are posted by the slip with [`crate::SharedMailboxes::post_all`]. The error is
+    /// that memory was refused.
+    pub fn tray(&self) -> Result<Tray, AllocError>
+        ensures fits { length self.now.posted ≡ length self.now.mailboxes }
+        ensures empty { IfOk result (λ tray. tray ≡ replicate (length self.now.mailboxes) []) }
     {
-        let alloc = *self.tickets.allocator();
-        let lists = replace(&mut self.spare, Vec::new(alloc));
-        if lists.is_empty() {
-            let lists = empty_lists(alloc, self.tickets.len())?;
-            return Ok(Tray { lists });
-        }
+        let lists = empty_lists(*self.tickets.allocator(), self.tickets.len())?;
         Ok(Tray { lists })
     }
 }

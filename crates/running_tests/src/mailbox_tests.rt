@@ -194,7 +194,7 @@ fn post_together<R: Abort + Wait>(
         let filed = tray.put(parcel(rt, alloc, receiver, number));
         filed.expect(rt, NO_MEMORY);
     }
-    let posted = mailboxes.post_all(rt, slip, tray);
+    let posted = mailboxes.post_all(rt, slip, &mut tray);
     posted.expect(rt, NO_MEMORY);
 }
 

@@ -13,14 +13,14 @@ use Rattle.process_api.specs.Mind.{Mind}
 use Rattle.process_api.specs.declared.message.Letter.{Letter}
 use Rattle.scenario_record.specs.Record.{Record}
 use Rattle.mailboxes.specs.Mailbox.{MailboxId}
-use Rattle.mailboxes.specs.Mailboxes.{SlipView, IsSlipOf, unused, with_letter, list_of, posted_to}
+use Rattle.mailboxes.specs.Mailboxes.{SlipView, IsSlipOf, unused, filed, list_of, posted_to}
 use Rattle.trace_laws.specs.History.{IsIn}
 use Rattle.steps.specs.Seat.{own_of}
 use Rattle.trace_laws.specs.World.{NoneBelow}
 use Rattle.window_laws.proofs.Unions.{iff_join}
 use Rattle.windows.proofs.Ranked.{in_permutation, rises_same, sorted_is}
 use Rattle.trace_laws.proofs.Steps.{in_append, in_left, in_right}
-use Rattle.windows.specs.Berth.{IsBerth, with_letters}
+use Rattle.windows.specs.Berth.{IsBerth, all_filed, with_letters}
 use Rattle.deques.specs.Deques.{DequeId, RestView, all_put}
 use Rattle.windows.specs.Inside.Workers.{Stay, stay, taken_in, left_in, all_stays, with_stays, IsSent, IsStay, IsReady, IsFresh, AreRunBy, AreWorks, AreRun, IsRest, HasLong, IsOutcome, RiseBy}
 use Rattle.windows.specs.declared.workers.Start.{Start}
@@ -77,9 +77,9 @@ none_there x zero k i = absurd i
 none_there x (suc n) zero i = absurd i
 none_there x (suc n) (suc k) i = none_there x n k i
 
-long_letters : (slip : SlipView) (letters : List Letter) → length (with_letters slip letters).posted ≡ length slip.posted
-long_letters slip [] = refl
-long_letters slip (y ∷ letters) = long_letters (with_letter slip y) letters ∙ length-set slip.posted (y.key.receiver - 1) (list_of slip.posted y.key.receiver ++ y ∷ [])
+long_letters : (rows : List (List Letter)) (letters : List Letter) → length (all_filed rows letters) ≡ length rows
+long_letters rows [] = refl
+long_letters rows (y ∷ letters) = long_letters (filed rows y) letters ∙ length-set rows (y.key.receiver - 1) (list_of rows y.key.receiver ++ y ∷ [])
 
 all_of_map : {X Y : Type 0} (P : Y → Type 0) (f : X → Y) (xs : List X) → All P (map f xs) → All (λ x. P (f x)) xs
 all_of_map P f xs h k d lt = subst P (get_or-map f xs k d (f d) lt) (h k (f d) (subst (λ n. k < n) (sym (length-map xs f)) lt))
@@ -141,12 +141,12 @@ module _ (x : Letter) where
       go (inr n) = subst (λ l. IsIn x l ↔ (IsIn x (get_or rows k []) ⊎ ((x ≡ y) × (i ≡ k)))) (sym (get_or-set_other rows i k (get_or rows i [] ++ y ∷ []) [] n)) (iff_none (λ d. n (sym d.1)))
 
   module _ (r : ℕ) where
-    in_letters : (slip : SlipView) (letters : List Letter) → r - 1 < length slip.posted
-        → IsIn x (list_of (with_letters slip letters).posted r) ↔ (IsIn x (list_of slip.posted r) ⊎ (IsIn x letters × (x.key.receiver - 1 ≡ r - 1)))
-    in_letters slip [] lt = iff_none (λ e. e.0)
-    in_letters slip (y ∷ letters) lt =
-        iff_join (in_letters (with_letter slip y) letters (subst (λ n. r - 1 < n) (sym (length-set slip.posted (y.key.receiver - 1) (list_of slip.posted y.key.receiver ++ y ∷ []))) lt))
-        (in_row slip.posted (y.key.receiver - 1) (r - 1) y lt)
+    in_letters : (rows : List (List Letter)) (letters : List Letter) → r - 1 < length rows
+        → IsIn x (list_of (all_filed rows letters) r) ↔ (IsIn x (list_of rows r) ⊎ (IsIn x letters × (x.key.receiver - 1 ≡ r - 1)))
+    in_letters rows [] lt = iff_none (λ e. e.0)
+    in_letters rows (y ∷ letters) lt =
+        iff_join (in_letters (filed rows y) letters (subst (λ n. r - 1 < n) (sym (length-set rows (y.key.receiver - 1) (list_of rows y.key.receiver ++ y ∷ []))) lt))
+        (in_row rows (y.key.receiver - 1) (r - 1) y lt)
         (λ e. (inl e.0, ap (λ (z : Letter). z.key.receiver - 1) e.0 ∙ e.1)) (λ e. (inr e.0, e.1)) (λ e. split e.0 e.1)
       where
         split : (x ≡ y) ⊎ IsIn x letters → x.key.receiver - 1 ≡ r - 1 → ((x ≡ y) × (y.key.receiver - 1 ≡ r - 1)) ⊎ (IsIn x letters × (x.key.receiver - 1 ≡ r - 1))
@@ -157,7 +157,7 @@ module _ (x : Letter) where
       in_stays : (slip : SlipView) (stays : List (Stay M)) → r - 1 < length slip.posted → IsIn x (list_of (with_stays slip stays).posted r) ↔ (IsIn x (list_of slip.posted r) ⊎ IsSent stays r x)
       in_stays slip [] lt = iff_none (λ (e : IsSent {M = M} [] r x). e.1)
       in_stays slip (t ∷ stays) lt =
-          iff_join (in_stays (with_letters slip t.letters) stays (subst (λ n. r - 1 < n) (sym (long_letters slip t.letters)) lt)) (in_letters slip t.letters lt)
+          iff_join (in_stays (with_letters slip t.letters) stays (subst (λ n. r - 1 < n) (sym (long_letters slip.posted t.letters)) lt)) (in_letters slip.posted t.letters lt)
           (λ e. (t, inl refl, e.0, e.1)) (sent_right (t ∷ []) stays r x) (λ e. apart (sent_split (t ∷ []) stays r x e))
         where
           apart : IsSent (t ∷ []) r x ⊎ IsSent stays r x → (IsIn x t.letters × (x.key.receiver - 1 ≡ r - 1)) ⊎ IsSent stays r x
@@ -193,11 +193,7 @@ module _ (x : Letter) where
 module _ {M : Type 0} where
   stays_mailboxes : (slip : SlipView) (stays : List (Stay M)) → (with_stays slip stays).mailboxes ≡ slip.mailboxes
   stays_mailboxes slip [] = refl
-  stays_mailboxes slip (t ∷ stays) = stays_mailboxes (with_letters slip t.letters) stays ∙ letters_mailboxes slip t.letters
-    where
-      letters_mailboxes : (slip : SlipView) (letters : List Letter) → (with_letters slip letters).mailboxes ≡ slip.mailboxes
-      letters_mailboxes slip [] = refl
-      letters_mailboxes slip (y ∷ letters) = letters_mailboxes (with_letter slip y) letters
+  stays_mailboxes slip (t ∷ stays) = stays_mailboxes (with_letters slip t.letters) stays
 
   slips_of : (mailboxes : List MailboxId) (all : List (List (Stay M))) → All (IsSlipOf mailboxes) (map (with_stays (unused mailboxes)) all)
   slips_of mailboxes [] = All-nil (IsSlipOf mailboxes)

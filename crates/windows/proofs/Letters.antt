@@ -1,16 +1,14 @@
 -- Events that a process causes in a window, as they are handed on.
-use Rattle.std.proofs.Common.{◌≡◌, ◌≢◌, ℕ, zero, suc, ◌-◌, refl, ap, sym, ◌∙◌, cond, not, List, [], ◌∷◌, ◌++◌, nat_eq, length, replicate, set, get_or, append_assoc, append-nil, arith}
+use Rattle.std.proofs.Common.{◌≡◌, ◌≢◌, ℕ, refl, ap, sym, ◌∙◌, cond, not, List, [], ◌∷◌, ◌++◌, nat_eq, length}
 use Rattle.std.proofs.lemmas.Bool.{eq-eqb, ne_eqb}
-use Rattle.std.proofs.lemmas.List.{length-replicate, length-set}
 use Rattle.std.proofs.lemmas.List.Elements.{filter-append}
 use Rattle.std.specs.FinMap as events
 use Rattle.process_api.specs.declared.message.Letter.{Letter}
 use Rattle.trace_laws.specs.Joins.{HaveJoined, Serves, StillServes}
 use Rattle.trace_laws.specs.Step.{Event, Events}
 use Rattle.trace_laws.specs.World.{joined}
-use Rattle.ledger.specs.Places.{each_with}
-use Rattle.mailboxes.specs.Mailboxes.{SlipView, filed, slip_of, with_letter, with_lists}
-use Rattle.windows.specs.Berth.{all_filed, with_letters}
+use Rattle.mailboxes.specs.Mailboxes.{filed}
+use Rattle.windows.specs.Berth.{all_filed}
 use Rattle.windows.specs.Inside.Outbox.{HandedOn, IsFor}
 use Rattle.windows.specs.declared.outbox.Outbox.{Outbox}
 use Rattle.window_laws.specs.Machine.{for_self, for_others}
@@ -39,34 +37,6 @@ module _ (p : ℕ) (x : Event) where
 pub filed_more : (lists : List (List Letter)) (xs ys : List Letter) → all_filed (all_filed lists xs) ys ≡ all_filed lists (xs ++ ys)
 filed_more lists [] ys = refl
 filed_more lists (x ∷ xs) ys = filed_more (filed lists x) xs ys
-
--- a letter is filed, and what was filed is posted, in one order or the other
-set_with : (rows lists : List (List Letter)) (k : ℕ) (x : Letter) → length lists ≡ length rows
-    → each_with (◌++◌) rows (set lists k (get_or lists k [] ++ x ∷ [])) ≡ set (each_with (◌++◌) rows lists) k (get_or (each_with (◌++◌) rows lists) k [] ++ x ∷ [])
-set_with [] [] k x e = refl
-set_with [] (l ∷ lists) k x e = absurd (omega (arith, e))
-set_with (r ∷ rows) [] k x e = absurd (omega (arith, e))
-set_with (r ∷ rows) (l ∷ lists) zero x e = ap (λ q. q ∷ each_with (◌++◌) rows lists) (sym (append_assoc r l (x ∷ [])))
-set_with (r ∷ rows) (l ∷ lists) (suc k) x e = ap (λ q. (r ++ l) ∷ q) (set_with rows lists k x (omega (arith, e)))
-
-all_with : (rows lists : List (List Letter)) (letters : List Letter) → length lists ≡ length rows → each_with (◌++◌) rows (all_filed lists letters) ≡ all_filed (each_with (◌++◌) rows lists) letters
-all_with rows lists [] e = refl
-all_with rows lists (x ∷ letters) e =
-    all_with rows (filed lists x) letters (length-set lists (x.key.receiver - 1) _ ∙ e) ∙ ap (λ q. all_filed q letters) (set_with rows lists (x.key.receiver - 1) x e)
-
-none_with : (rows : List (List Letter)) → each_with (◌++◌) rows (replicate (length rows) []) ≡ rows
-none_with [] = refl
-none_with (r ∷ rows) = λ i. append-nil r i ∷ none_with rows i
-
-letters_filed : (slip : SlipView) (letters : List Letter) → slip_of slip.mailboxes (all_filed slip.posted letters) ≡ with_letters slip letters
-letters_filed slip [] = refl
-letters_filed slip (x ∷ letters) = letters_filed (with_letter slip x) letters
-
--- the letters of a tray are posted
-pub posted_filed : (slip : SlipView) (n : ℕ) (letters : List Letter) → n ≡ length slip.posted → with_lists slip (all_filed (replicate n []) letters) ≡ with_letters slip letters
-posted_filed slip n letters e =
-    ap (slip_of slip.mailboxes) (all_with slip.posted (replicate n []) letters (length-replicate n [] ∙ e) ∙ ap (λ q. all_filed q letters) (ap (λ k. each_with (◌++◌) slip.posted (replicate k [])) e ∙ none_with slip.posted))
-    ∙ letters_filed slip letters
 
 -- an outbox, before events were handed to it and after
 module _ (old : Outbox) where

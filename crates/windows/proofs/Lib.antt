@@ -1,5 +1,6 @@
 pub mod Members
 pub mod Letters
+pub mod Posting
 pub mod Refused
 pub mod Places
 pub mod Opening

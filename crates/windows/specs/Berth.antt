@@ -11,7 +11,7 @@ use Rattle.steps.specs.Seat.{process_of, own_of, IsSeated}
 use Rattle.steps.specs.declared.seat.Seat.{Seat}
 use Rattle.trace_laws.specs.Step.{Event, Events, Process, Made, step}
 use Rattle.trace_laws.specs.World.{Pair, Has, entries}
-use Rattle.mailboxes.specs.Mailboxes.{SlipView, filed, with_letter}
+use Rattle.mailboxes.specs.Mailboxes.{SlipView, filed, slip_of}
 use Rattle.trace_laws.specs.Taken.{event_of}
 use Rattle.window_laws.specs.Machine.{for_others}
 use Rattle.window_laws.specs.Window.{BerthRun}
@@ -22,15 +22,14 @@ use Rattle.windows.specs.declared.berth.TheConstants.{MOST_IN_PART}
 abbrev pub most_in_part : ℕ
 most_in_part = MOST_IN_PART
 
--- a slip after further letters were posted by it, in this order
-abbrev pub with_letters : SlipView → List Letter → SlipView
-with_letters slip [] = slip
-with_letters slip (x ∷ letters) = with_letters (with_letter slip x) letters
-
 -- the lists of all receivers after further letters came into them, in this order
 abbrev pub all_filed : List (List Letter) → List Letter → List (List Letter)
 all_filed lists [] = lists
 all_filed lists (x ∷ letters) = all_filed (filed lists x) letters
+
+-- a slip after further letters were posted by it, in this order
+abbrev pub with_letters : SlipView → List Letter → SlipView
+with_letters slip letters = slip_of slip.mailboxes (all_filed slip.posted letters)
 
 -- just the letters of these events to others than process p came into the lists of their receivers, in order
 abbrev pub AreFiled : (p : ℕ) → List Event → (old new : List (List Letter)) → Type 0

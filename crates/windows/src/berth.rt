@@ -5,7 +5,7 @@ ghost use Rattle.process_api.specs.declared.message.Letter.{Letter};
 ghost use Rattle.steps.specs.Seat.{process_of, own_of, IsMindIn, IsSeated};
 ghost use Rattle.trace_laws.specs.World.{joined, opened};
 ghost use Rattle.mailboxes.specs.Mailboxes.{IsSlipOf};
-ghost use Rattle.windows.specs.Berth.{with_letters, made_in, most_in_part, AreFiled, IsBerth, IsBerthOf, IsLong, RanTo};
+ghost use Rattle.windows.specs.Berth.{all_filed, with_letters, made_in, most_in_part, AreFiled, IsBerth, IsBerthOf, IsLong, RanTo};
 ghost use Rattle.window_laws.specs.Machine.{for_self};
 ghost use Rattle.windows.specs.Refusals.{IsRefusalOfOne};
 
@@ -135,6 +135,40 @@ fn check_room(made: u64, left: u64) -> Result<(), RunError>
     Ok(())
 }
 
+/// As [`run_berth`], but the letters come into a tray, where they wait to be posted.
+///
+/// # Errors
+///
+/// As [`run_berth`].
+pub(crate) fn run_into<M: Process>(
+    berth: &mut Berth<M>,
+    end: u32,
+    streams: &Streams<'_>,
+    tray: &mut Tray,
+    left: u64,
+) -> Result<(), RunError>
+    requires berth { IsBerthOf M.mind streams.now berth.old }
+    requires tray { length tray.old ≡ streams.now.processes }
+
+    ensures tray { length tray.new ≡ length tray.old }
+    ensures ran { OnOk result ((p : ℕ) → own_of M.mind berth.old.seat ≡ p → (letters : List Letter)
+        × RanTo M.mind streams.now p end berth.old berth.new letters × (tray.new ≡ all_filed tray.old letters)) }
+    ensures berth { OnOk result ((p most : ℕ)
+        → IsBerth M.mind streams.now p most berth.old → IsBerth M.mind streams.now p most berth.new) }
+    ensures within { OnOk result (vec_len berth.new.part ≤ left) }
+    ensures errors { IfErr result IsRefusalOfOne }
+    ensures limit { IsErrOf result RunError.Limit → IsLong M.mind streams.now end left berth.old }
+{
+    if berth.part.len() as u64 > left {
+        return Err(RunError::Limit);
+    }
+    while let Some(event) = berth.pending.take_below(end)? {
+        check_room(berth.part.len() as u64, left)?;
+        berth.take(streams, tray, event)?;
+    }
+    Ok(())
+}
+
 /// Runs every pending event of a berth's process below tick `end`, the least key first. Events for the process itself
 /// join its pending ones, and each letter to another process that is due below the horizon is posted by the slip. The
 /// entries join the berth's part of the open window. It stops where that would be longer than `left` entries.
@@ -170,14 +204,8 @@ pub fn run_berth<M: Process, R: Wait>(
     ensures errors { IfErr result IsRefusalOfOne }
     ensures limit { IsErrOf result RunError.Limit → IsLong M.mind streams.now end left berth.old }
 {
-    if berth.part.len() as u64 > left {
-        return Err(RunError::Limit);
-    }
     let mut tray = slip.tray()?;
-    while let Some(event) = berth.pending.take_below(end)? {
-        check_room(berth.part.len() as u64, left)?;
-        berth.take(streams, &mut tray, event)?;
-    }
-    mailboxes.post_all(rt, slip, tray)?;
+    run_into(berth, end, streams, &mut tray, left)?;
+    mailboxes.post_all(rt, slip, &mut tray)?;
     Ok(())
 }

@@ -114,11 +114,13 @@ pub(crate) fn run_rest<M: Process, G: Gate, R: Wait>(
         → IsOneTooLong M.mind shared.now.window.now (all_put rest.old.own) }
 {
     let mut done = Vec::new(shared.alloc);
+    let mut tray = slip.tray()?;
     for _ in rt.forever() {
         let Some(berth) = rest.take_last() else {
             break;
         };
-        run_taken(rt, shared, 0, berth, &mut slip, &mut done)?;
+        run_taken(rt, shared, 0, berth, &mut slip, &mut tray, &mut done)?;
     }
+    shared.mailboxes.post_all(rt, &mut slip, &mut tray)?;
     Ok((done, slip))
 }

@@ -14,9 +14,10 @@
 //! The code runs it so. A [`Stage`] has a [`Berth`] for each process: its machine, its pending events, and its part of
 //! the trace. [`run_window`] takes a worker for each process that has an event below the window's end, but no more than
 //! the plan has, and deals these processes to the workers' deques in turn, by rising number. Then it starts the
-//! workers, each a thread. A worker takes a berth, tells the [`Gate`], and has [`run_berth`] run it to the window's
-//! end. It pops its own deque. When that is empty it steals from the others, the next one first, until it has found
-//! each of them empty. When all workers are joined, the starter takes what is left in the deques. Then the mailboxes
+//! workers, each a thread. A worker takes a berth, tells the [`Gate`], and runs it to the window's end as
+//! [`run_berth`] does, but for the letters: they wait in the worker's tray until it has run its last berth, or one with
+//! many entries. It pops its own deque. When that is empty it steals from the others, the next one first, until it has
+//! found each of them empty. When all workers are joined, the starter takes what is left in the deques. Then the mailboxes
 //! are emptied and the parts are merged, side by side where there is more than one worker and the parts are worth a
 //! thread, and each process takes its letters. Where several refusals are met, that of a thread is answered before that
 //! of memory, and this before that of a place in the trace. The merged part goes to a [`Sink`], and the next window

@@ -3,24 +3,28 @@
 ghost use Rattle.std.specs.Prelude.{◌≡◌, ◌≤◌, ◌⊎◌, ◌++◌, [], ◌∷◌, IfOk, IfErr, OnOk, IsErrOf, Ok, vec_len};
 ghost use Rattle.std.specs.List.{All};
 ghost use Rattle.std.specs.Thread.{IsSync};
-ghost use Rattle.mailboxes.specs.Mailboxes.{IsSlipOf};
+ghost use Rattle.mailboxes.specs.Mailboxes.{with_lists};
 ghost use Rattle.process_api.specs.declared.run_error.RunError.TheVariants.{Memory, Spawn};
 ghost use Rattle.windows.specs.Berth.{IsLong};
 ghost use Rattle.windows.specs.Plan.{most_workers};
 ghost use Rattle.windows.specs.Refusals.{rank_of, AreThere, IsFirstRefusal, IsRefusalOfOne};
-ghost use Rattle.windows.specs.Inside.Shared.{IsStart, IsAnswerTo, AreAnswers, RunsOneMore};
+ghost use Rattle.windows.specs.Inside.Shared.{ArePosting, IsStart, IsAnswerTo, AreAnswers, RunsOneMore};
 ghost use Rattle.windows.specs.Inside.Workers.{IsReady};
 
-use crate::berth::{Berth, run_berth};
+use crate::berth::{Berth, run_into};
 use crate::gate::Gate;
 use crate::shared::Shared;
 use deques::Hand;
-use mailboxes::Slip;
+use mailboxes::{Slip, Tray};
 use process_api::{Process, RunError};
 use std::alloc::AllocError;
 use std::snapshot::Snapshot;
 use std::sync::Wait;
 use std::thread::{Promise, PromisedHandle, Scope, Threads};
+
+/// A process with so many entries of a window has its letters posted when its turn ends. Those of smaller ones wait in
+/// the worker's tray until it has run its last process, so that more of them go to one receiver in a row.
+const MANY_ENTRIES: usize = 512;
 
 /// What a worker begins with: its hand, by which it takes berths, and its slip.
 #[derive(Drop)]
@@ -49,22 +53,28 @@ pub(crate) fn run_taken<M: Process, G: Gate, R: Wait>(
     worker: u16,
     mut berth: Berth<M>,
     slip: &mut Slip,
+    tray: &mut Tray,
     done: &mut Vec<Berth<M>>,
 ) -> Result<(), RunError>
     requires ready { IsReady M.mind shared.now.window.now.streams berth }
-    requires slip { IsSlipOf shared.now.mailboxes.now slip.old }
-    ensures ran { OnOk result (RunsOneMore M.mind shared.now berth slip.old slip.new done.old.items done.new.items) }
+    requires posting { ArePosting shared.now.mailboxes.now slip.old tray.old }
+
+    ensures posting { OnOk result (ArePosting shared.now.mailboxes.now slip.new tray.new) }
+    ensures ran { OnOk result (RunsOneMore M.mind shared.now berth (with_lists slip.old tray.old)
+        (with_lists slip.new tray.new) done.old.items done.new.items) }
     ensures errors { IfErr result IsRefusalOfOne }
     ensures limit { IsErrOf result RunError.Limit → IsLong M.mind shared.now.window.now.streams
         shared.now.window.now.end shared.now.window.now.left berth }
 {
     shared.gate.entered(rt, worker, berth.pid());
     let window = shared.window;
-    let streams = &window.streams;
-    let mailboxes = shared.mailboxes;
-    let left = window.left;
-    run_berth(rt, &mut berth, window.end, streams, mailboxes, slip, left)?;
+    run_into(&mut berth, window.end, &window.streams, tray, window.left)?;
+    let many = berth.part.len() >= MANY_ENTRIES;
     done.push(berth)?;
+    if !many {
+        return Ok(());
+    }
+    shared.mailboxes.post_all(rt, slip, tray)?;
     Ok(())
 }
 
@@ -89,13 +99,15 @@ pub(crate) fn run_berths<M: Process, G: Gate, R: Wait>(
     ensures { IsAnswerTo M.mind shared.now start result }
 {
     let Start { mut hand, mut slip } = start;
+    let mut tray = slip.tray()?;
     let mut done = Vec::new(shared.alloc);
     for _ in rt.forever() {
         let Some(berth) = hand.take(rt, shared.fronts) else {
             break;
         };
-        run_taken(rt, shared, worker, berth, &mut slip, &mut done)?;
+        run_taken(rt, shared, worker, berth, &mut slip, &mut tray, &mut done)?;
     }
+    shared.mailboxes.post_all(rt, &mut slip, &mut tray)?;
     Ok(Work { hand, slip, done })
 }
 

@@ -6,7 +6,8 @@ use Rattle.process_api.specs.Mind.{Mind}
 use Rattle.process_api.specs.declared.run_error.RunError.{RunError}
 use Rattle.process_api.specs.declared.run_error.RunError.TheVariants.{Limit}
 use Rattle.mailboxes.specs.Mailbox.{MailboxId}
-use Rattle.mailboxes.specs.Mailboxes.{SlipView}
+use Rattle.process_api.specs.declared.message.Letter.{Letter}
+use Rattle.mailboxes.specs.Mailboxes.{SlipView, IsSlipOf}
 use Rattle.deques.specs.Deques.{HandView, RestView}
 use Rattle.windows.specs.Refusals.{IsRefusal}
 use Rattle.windows.specs.Inside.Workers.{IsFresh, IsReady, IsWork, IsAnswer, IsRest, AreRun, AreRunBy, HasLong, HaveLong}
@@ -19,6 +20,12 @@ use Rattle.windows.specs.declared.workers.Work.{Work}
 -- a worker's hand and its slip are of this window, and unused
 abbrev pub IsFreshIn : {M G : Type 0} → Shared M G → Start M → Type 0
 IsFreshIn w s = IsFresh w.fronts.now.items w.mailboxes.now s.hand s.slip
+
+-- of these mailboxes are a slip and a tray, whose letters wait to be posted by the slip
+pub record ArePosting (mailboxes : List MailboxId) (slip : SlipView) (tray : List (List Letter)) : Type 0 where
+  pub by_slip : IsSlipOf mailboxes slip
+  pub posted : length slip.posted ≡ length mailboxes
+  pub waiting : length tray ≡ length mailboxes
 
 module _ {M : Type 0} (mind : M → Mind) where
   -- nothing was done in these berths for this window yet

@@ -2,24 +2,34 @@ use Rattle.std.proofs.Common.{rules, ◌≡◌, refl, sym, ap, ◌∙◌, subst}
 use Rattle.std.specs.List.{Contains}
 use Rattle.std.proofs.lemmas.List.Elements.{All-contains}
 use Rattle.deques.specs.Deques.{HandView}
+use Rattle.mailboxes.specs.Mailboxes.{SlipView}
 use Rattle.windows.specs.Inside.Shared.{IsWorkBy}
 use Rattle.windows.specs.Inside.Workers.{IsReady}
 use Rattle.windows.specs.declared.berth.Berth.{Berth}
+use Rattle.windows.proofs.Posting.{posting_opens}
 use Rattle.windows.proofs.Work.{work_begins, work_more}
 use Rattle.windows.proofs.Refused.{holds_of_none, not_err}
 use Rattle.windows.proofs.workers.run_berths.Goals as goal
 use Rattle.windows.proofs.workers.run_berths.Goals.{in-None, in-Some+in_default}
 
 pub loop-init : goal.loop-init
-loop-init g c = (work_begins g.M.Process.mind c.args.shared.now.window.now.streams c.args.shared.now.window.now.end c.args.shared.now.mailboxes.now c.args.shared.now.fronts.now.items _ _ _ c.requires.0 c.new-done.ensures.items, refl, refl)
+loop-init g c =
+    let w = c.args.shared.now in
+    let fresh = c.requires.0 in
+    let begins = posting_opens _ _ _ (ap (λ (s : SlipView). s.mailboxes) fresh.none_posted) c.in_ok-tray.ensures.fits c.in_ok-tray.ensures.empty in (
+      subst (λ s. IsWorkBy g.M.Process.mind w c.args.start.hand s c.new-done.result.items) (sym begins.1) (work_begins g.M.Process.mind w.window.now.streams w.window.now.end w.mailboxes.now w.fronts.now.items _ _ _ fresh c.new-done.ensures.items),
+      begins.0,
+      refl,
+      refl,
+    )
 
 pub run_taken-requires-clause-ready : goal.run_taken-requires-clause-ready
 run_taken-requires-clause-ready g c κs within =
     All-contains (IsReady g.M.Process.mind c.args.shared.now.window.now.streams) c.args.start.hand.known c.in-Some-take.berth c.requires.1
-    (subst (λ l. Contains l c.in-Some-take.berth) c.loop.invariant.1 c.in-Some-take.ensures.3)
+    (subst (λ l. Contains l c.in-Some-take.berth) c.loop.invariant.2 c.in-Some-take.ensures.3)
 
-pub run_taken-requires-clause-slip : goal.run_taken-requires-clause-slip
-run_taken-requires-clause-slip g c κs within = c.loop.invariant.0.run.of_mailboxes
+pub run_taken-requires-clause-posting : goal.run_taken-requires-clause-posting
+run_taken-requires-clause-posting g c κs within = c.loop.invariant.1
 
 pub loop-preserved : goal.loop-preserved
 loop-preserved g c =
@@ -27,8 +37,9 @@ loop-preserved g c =
     let took = c.in-Some-take.ensures in (
       work_more g.M.Process.mind c.args.shared.now.window.now.streams c.args.shared.now.window.now.end c.args.shared.now.mailboxes.now c.args.shared.now.fronts.now.items _ _ _ _ _ _ c.in-Some-take.berth inv.0 took
           (c.in_ok-run_taken.ensures.ran _ inv.0.run),
-      ap (λ (h : HandView (Berth _)). h.known) took.1 ∙ inv.1,
-      ap (λ (h : HandView (Berth _)). h.own) took.1 ∙ inv.2,
+      c.in_ok-run_taken.ensures.posting,
+      ap (λ (h : HandView (Berth _)). h.known) took.1 ∙ inv.2,
+      ap (λ (h : HandView (Berth _)). h.own) took.1 ∙ inv.3,
     )
 
 pub returns : goal.returns
@@ -38,8 +49,8 @@ returns g c =
       | in-Some+in_default w ↦
           let same : c.match-next.hand ≡ c.loop.hand = w.hand-is ∙ w.in_default.ensures in
           record {
-            own = ap (λ (h : HandView (Berth _)). h.own) same ∙ c.loop.invariant.2;
-            work = subst (λ h. IsWorkBy g.M.Process.mind c.args.shared.now h c.loop.slip c.loop.done.items) (sym same) c.loop.invariant.0;
+            own = ap (λ (h : HandView (Berth _)). h.own) same ∙ c.loop.invariant.3;
+            work = subst (λ (p : HandView (Berth _) × SlipView). IsWorkBy g.M.Process.mind c.args.shared.now p.0 p.1 c.loop.done.items) (λ i. (sym same i, sym c.in_ok-post_all.ensures.ok i)) c.loop.invariant.0;
             errors = tt;
             limit = λ is. absurd (not_err _ _ is);
           }
@@ -47,14 +58,14 @@ returns g c =
 
 pub returns-in_err-run_taken : goal.returns-in_err-run_taken
 returns-in_err-run_taken g c =
-    let no = holds_of_none c.from_residual.result c.from_residual.ensures.0 in
+    let no = holds_of_none c.from_residual-in_err-run_taken.result c.from_residual-in_err-run_taken.ensures.0 in
     record {
       own = no _;
       work = no _;
       errors = search rules;
       limit = λ is. (
         c.in-Some-take.berth,
-        subst (λ l. Contains l c.in-Some-take.berth) c.loop.invariant.1 c.in-Some-take.ensures.3,
+        subst (λ l. Contains l c.in-Some-take.berth) c.loop.invariant.2 c.in-Some-take.ensures.3,
         λ history after rest letters run. c.run_taken.ensures.limit (search rules) history after rest letters run,
       );
     }

@@ -1,8 +1,10 @@
 use Rattle.std.proofs.Common.{◌≡◌}
-use Rattle.windows.specs.Inside.Shared.{IsWorkBy}
+use Rattle.mailboxes.specs.Mailboxes.{with_lists}
+use Rattle.windows.specs.Inside.Shared.{ArePosting, IsWorkBy}
 use Rattle.windows.proofs.workers.run_berths.Given as goal
 
 abbrev pub invariant-loop : goal.invariant-loop
 invariant-loop g l =
-    IsWorkBy g.M.Process.mind l.shared l.hand l.slip l.done.items
+    IsWorkBy g.M.Process.mind l.shared l.hand (with_lists l.slip l.tray) l.done.items
+    × ArePosting l.shared.mailboxes.now l.slip l.tray
     × (l.hand.known ≡ l.initial.hand.known) × (l.hand.own ≡ l.initial.hand.own)

@@ -1,15 +1,36 @@
-use Rattle.std.proofs.Common.{refl}
+use Rattle.std.proofs.Common.{rules, refl, ◌∙◌}
+use Rattle.windows.proofs.Posting.{posting_more, posted_more, all_posted}
 use Rattle.windows.proofs.Work.{run_more}
 use Rattle.windows.proofs.workers.run_taken.Goals as goal
 
-pub run_berth-requires-clause-berth : goal.run_berth-requires-clause-berth
-run_berth-requires-clause-berth g c κs within = c.requires.ready.0
+pub run_into-requires-clause-berth : goal.run_into-requires-clause-berth
+run_into-requires-clause-berth g c κs within = c.requires.ready.0
 
-pub run_berth-requires-clause-boxes : goal.run_berth-requires-clause-boxes
-run_berth-requires-clause-boxes g c κs within = c.args.shared.now.boxes
+pub run_into-requires-clause-tray : goal.run_into-requires-clause-tray
+run_into-requires-clause-tray g c κs within = c.requires.posting.waiting ∙ c.args.shared.now.boxes
 
-pub returns-clause-ran : goal.returns-clause-ran
-returns-clause-ran g c =
+pub returns-then-not-many : goal.returns-then-not-many
+returns-then-not-many g c =
     let w = c.args.shared.now in
-    let ran = c.in_ok-run_berth.ensures.ran _ refl in
-    run_more g.M.Process.mind w.window.now.streams w.window.now.end w.mailboxes.now _ _ _ _ _ _ ran.0 (ran.1, c.in_ok-run_berth.ensures.berth) c.run_berth.ensures.slip ran.2 c.in_ok-push.ensures.items
+    let ran = c.in_ok-run_into.ensures.ran _ refl in
+    let now = posting_more _ _ _ c.requires.posting _ c.run_into.ensures.tray in
+    record {
+      posting = now;
+      ran = run_more g.M.Process.mind w.window.now.streams w.window.now.end w.mailboxes.now _ _ _ _ _ _ ran.0 (ran.1, c.in_ok-run_into.ensures.berth) now.by_slip
+          (posted_more _ _ _ c.requires.posting _ ran.0 ran.2) c.in_ok-push.ensures.items;
+      errors = tt;
+      limit = search rules;
+    }
+
+pub returns : goal.returns
+returns g c =
+    let w = c.args.shared.now in
+    let ran = c.in_ok-run_into.ensures.ran _ refl in
+    let now = all_posted _ _ _ (posting_more _ _ _ c.requires.posting _ c.run_into.ensures.tray) _ _ c.post_all.ensures.slip c.in_ok-post_all.ensures.ok c.in_ok-post_all.ensures.empty in
+    record {
+      posting = now.0;
+      ran = run_more g.M.Process.mind w.window.now.streams w.window.now.end w.mailboxes.now _ _ _ _ _ _ ran.0 (ran.1, c.in_ok-run_into.ensures.berth) now.0.by_slip
+          (now.1 ∙ posted_more _ _ _ c.requires.posting _ ran.0 ran.2) c.in_ok-push.ensures.items;
+      errors = tt;
+      limit = search rules;
+    }

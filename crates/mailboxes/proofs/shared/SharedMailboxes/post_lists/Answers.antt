@@ -44,5 +44,5 @@ loop-at-preserved g c =
 
 pub returns-clause-empty : goal.returns-clause-empty
 returns-clause-empty g c =
-    let rows = letters_in c.args.lists.now.items in
-    c.loop-at.invariant.2 ∙ all_emptied rows c.loop-at.at (length c.args.self.now) (length-map c.args.lists.now.items items_of ∙ c.requires.lists) (omega arith)
+    let lists = c.args.lists.now.items in
+    c.loop-at.invariant.2 ∙ all_emptied (letters_in lists) c.loop-at.at (length lists) (length-map lists items_of) (omega arith)
