@@ -180,21 +180,38 @@ horizon = 100
 lookahead = 1
 seed = 1
 algorithm = \"none\"
-detector = { kind = \"freshness\", watch = \"next\", eta = 5, delta = 4 }
+detector = { kind = \"freshness\", watch = \"next\", eta = 5, delta = DELTA }
 share = { period = 10 }
 link = { min = 1, max = 1 }
 links = [{ from = 1, to = 3, min = 4, max = 4 }, { from = 2, to = 3, min = SLOW, max = SLOW }]
 crash = [{ process = 2, at = 21 }]
 ";
 
-/// How long letters of process 2 take to process 3, and how long that one takes to detect its crash on layer 2.
+/// How long letters of process 2 take to process 3, the detector's `delta`, the place of a pair's row on layer 2, and how
+/// long its observer takes to detect the crash of process 2 on layer 2.
 ///
-/// Process 1 suspects it from tick 29 on, and process 3 hears of that at tick 34, by the share of tick 30. The last set
-/// of process 2 comes at tick 43, and process 3 trusts it again. The share of tick 40 comes at tick 44, just behind
-/// that set, and so process 3 suspects it from there on: `min` is taken off, or the share of tick 50 would be meant,
-/// which comes at tick 54. Where the last set comes one tick later, at tick 44, it comes behind the share of tick 40 in
-/// that tick, and the share of tick 50 is the first that comes behind it.
-const SHARED_JUST_BEHIND: [(&str, u32); 2] = [("23", 44 - 21), ("24", 54 - 21)];
+/// With a `delta` of 4 process 1 suspects it from tick 29 on. It hears of that itself at tick 31, by its share of tick
+/// 30, and process 3 hears of it at tick 34. With a `delta` of 5 process 1 suspects it from tick 30 on. The share of that
+/// tick doesn't have it yet, so that all hear of it ten ticks later.
+///
+/// Where the last set of process 2 comes to process 3 at tick 43, process 3 trusts it again. The share of tick 40 comes
+/// at tick 44, just behind that set, and so process 3 suspects it from there on: `min` is taken off, or the share of tick
+/// 50 would be meant, which comes at tick 54. Where the last set comes one tick later, at tick 44, it comes behind the
+/// share of tick 40 in that tick, and the share of tick 50 is the first that comes behind it.
+const SHARED_IN_TIME: [(&str, &str, usize, u32); 6] = [
+    ("1", "4", OF_ITSELF, 31 - 21),
+    ("1", "5", OF_ITSELF, 41 - 21),
+    ("1", "4", OF_ANOTHER, 34 - 21),
+    ("1", "5", OF_ANOTHER, 44 - 21),
+    ("23", "4", OF_ANOTHER, 44 - 21),
+    ("24", "4", OF_ANOTHER, 54 - 21),
+];
+
+/// The place of the row of processes 1 and 2 on layer 2, of which process 1 is the one that watches.
+const OF_ITSELF: usize = 6;
+
+/// The place of the row of processes 3 and 2 on layer 2.
+const OF_ANOTHER: usize = 11;
 
 /// What the observer of a run finds of the other process.
 fn found<R: Abort>(
@@ -232,19 +249,15 @@ fn one_tick_less_brings_a_mistake(rt: HostRuntime) {
 }
 
 #[test]
-fn shared_just_behind_the_last_set(rt: HostRuntime) {
+fn shared_in_time(rt: HostRuntime) {
     let alloc = rt.alloc();
-    for (slow, ticks) in &SHARED_JUST_BEHIND {
-        let scenario = scenario_of(&rt, alloc, &changed(&rt, alloc, SHARED, "SLOW", slow));
+    for (slow, delta, place, ticks) in &SHARED_IN_TIME {
+        let file = changed(&rt, alloc, SHARED, "SLOW", slow);
+        let scenario = scenario_of(&rt, alloc, &changed(&rt, alloc, &file, "DELTA", delta));
         let trace = trace_of(&rt, alloc, &scenario);
         let rows = measures(alloc, &scenario, &trace).expect(&rt, NO_MEMORY);
-        let row = rows.last().expect(&rt, "a pair is missing");
-        let came = (
-            row.layer,
-            row.observer.number(),
-            row.subject.number(),
-            row.detection,
-        );
-        same(&rt, &came, &(2, 3, 2, Detection::At(*ticks)));
+        let row = rows.get(*place).expect(&rt, "a pair is missing");
+        let came = (row.layer, row.subject.number(), row.detection);
+        same(&rt, &came, &(2, 2, Detection::At(*ticks)));
     }
 }
