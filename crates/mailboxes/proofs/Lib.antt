@@ -1,3 +1,1 @@
 pub mod Homes
-pub mod Emptied
-pub mod Rows

@@ -12,28 +12,24 @@ use trace_laws::Parcel;
 /// The owner's passes, and the lists with the letters.
 pub(crate) type Emptied = (Vec<Home>, Vec<Vec<Parcel>>);
 
-/// Moves the letters of each mailbox into a list of its own, in some order, once every slip is back. The mailboxes are
-/// as they were at first then. Answers the owner's passes, and the lists.
+/// Moves the letters of each mailbox into a list, in some order, once every slip is back. The mailboxes are as they were
+/// at first then. Answers the owner's passes, and the lists.
 pub(crate) fn empty_in_turn<R: Wait>(
     rt: &R,
     alloc: Global,
     boxes: &[Mailbox],
     homes: Vec<Home>,
-    lists: Vec<Vec<Parcel>>,
 ) -> Result<Emptied, AllocError>
-    requires { AreToEmpty boxes.now homes.items lists.items }
+    requires { AreToEmpty boxes.now homes.items }
     ensures { IfOk result (λ r. AreEmptied boxes.now homes.items r.0.items r.1.items) }
 {
     let mut emptied = Vec::with_capacity(alloc, homes.len())?;
     let mut filled = Vec::with_capacity(alloc, homes.len())?;
-    let mut empties = lists.into_iter();
     let mut at = 0;
     for home in homes {
-        let Some(mut list) = empties.next() else {
-            unreachable!()
-        };
-        emptied.push_reserved(boxes[at].empty(rt, home, &mut list)?);
-        filled.push_reserved(list);
+        let (home, letters) = boxes[at].empty(rt, alloc, home)?;
+        emptied.push(home)?;
+        filled.push(letters)?;
         at += 1;
     }
     Ok((emptied, filled))
@@ -47,29 +43,27 @@ pub(crate) fn empty_by<R: Threads + Wait + Sync>(
     threads: usize,
     boxes: &[Mailbox],
     mut homes: Vec<Home>,
-    mut lists: Vec<Vec<Parcel>>,
 ) -> Result<Emptied, AllocError>
-    requires { AreToEmpty boxes.now homes.items lists.items }
+    requires { AreToEmpty boxes.now homes.items }
     ensures { IfOk result (λ r. AreEmptied boxes.now homes.items r.0.items r.1.items) }
 {
     if threads <= 1 || boxes.len() < 2 {
-        return empty_in_turn(rt, alloc, boxes, homes, lists);
+        return empty_in_turn(rt, alloc, boxes, homes);
     }
     let rest = threads - threads / 2;
     let half = boxes.len() / 2;
     let (left, right) = boxes.split_at(half);
     let more_homes = homes.split_off(half)?;
-    let more_lists = lists.split_off(half)?;
     let (front, back) = join(
         rt,
         || -> Result<Emptied, AllocError>
-            requires { IsSync R.row × AreToEmpty left.now homes.items lists.items }
+            requires { IsSync R.row × AreToEmpty left.now homes.items }
             ensures { IfOk result (λ r. AreEmptied left.entry.now homes.items r.0.items r.1.items) }
-        { empty_by(rt, alloc, threads / 2, left, homes, lists) },
+        { empty_by(rt, alloc, threads / 2, left, homes) },
         || -> Result<Emptied, AllocError>
-            requires { IsSync R.row × AreToEmpty right.now more_homes.items more_lists.items }
+            requires { IsSync R.row × AreToEmpty right.now more_homes.items }
             ensures { IfOk result (λ r. AreEmptied right.entry.now more_homes.items r.0.items r.1.items) }
-        { empty_by(rt, alloc, rest, right, more_homes, more_lists) },
+        { empty_by(rt, alloc, rest, right, more_homes) },
     );
     both(front?, back?)
 }

@@ -159,19 +159,19 @@ impl Mailbox {
     pub(crate) fn empty<R: Wait>(
         &self,
         rt: &R,
+        alloc: Global,
         home: Home,
-        letters: &mut Vec<Parcel>,
-    ) -> Result<Home, AllocError>
+    ) -> Result<(Home, Vec<Parcel>), AllocError>
         requires home { home.mailbox ≡ self.now }
         requires out { home.out ≡ 0 }
-        requires letters { letters.old.items ≡ [] }
-        ensures home { IfOk result (λ h. h ≡ home_of home.mailbox 0 []) }
-        ensures letters { OnOk result (IsPermutation home.back letters.new.items) }
+        ensures home { IfOk result (λ r. r.0 ≡ home_of home.mailbox 0 []) }
+        ensures letters { IfOk result (λ r. IsPermutation home.back r.1.items) }
     {
         let Home { mut pass } = home;
-        drain(rt, &self.queue, &mut pass, letters)?;
+        let mut letters = Vec::new(alloc);
+        drain(rt, &self.queue, &mut pass, &mut letters)?;
         settle(&self.queue, &mut pass);
-        Ok(Home { pass })
+        Ok((Home { pass }, letters))
     }
 }
 

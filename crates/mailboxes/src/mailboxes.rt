@@ -9,7 +9,6 @@ use crate::emptying::{empty_by, empty_in_turn};
 use crate::mailbox::Home;
 use crate::shared::SharedMailboxes;
 use crate::slip::Slip;
-use crate::tray::empty_lists;
 use process_api::{Letter, RunError};
 use std::alloc::{AllocError, Global};
 use std::marker::Model;
@@ -135,32 +134,20 @@ impl Mailboxes {
             IsPermutation (posted_to slips.items r) (list_of (letters_in lists.items) r)) }
         ensures err { IfErr result (λ e. e ≡ Memory) }
     {
-        let lists = self.lists(alloc)?;
-        let (_mailboxes, parcels) = self.empty(rt, alloc, lists, slips)?;
+        let (_mailboxes, parcels) = self.empty(rt, alloc, slips)?;
         Ok(letters_of_all(alloc, parcels)?)
     }
 
-    /// An empty list for each receiver. The error is that memory was refused.
-    pub fn lists(&self, alloc: Global) -> Result<Vec<Vec<Parcel>>, AllocError>
-        ensures count { IfOk result (λ lists. vec_len lists ≡ length self.now.mailboxes) }
-        ensures empty { IfOk result (λ lists. All (λ l. l.items ≡ []) lists.items) }
-    {
-        empty_lists(alloc, self.homes.len())
-    }
-
-    /// As `collect`, into lists that are empty, one for each receiver, so that their room is used again. The mailboxes
-    /// are as they were at first then, with no slip and no letter, and are answered too.
+    /// As `collect`, but the letters stay parcels. The mailboxes are as they were at first then, with no slip and no
+    /// letter, and are answered too.
     pub fn empty<R: Wait>(
         self,
         rt: &R,
         alloc: Global,
-        lists: Vec<Vec<Parcel>>,
         slips: Vec<Slip>,
     ) -> Result<(Mailboxes, Vec<Vec<Parcel>>), RunError>
         requires all { vec_len slips ≡ self.slips }
         requires slips { All (IsSlipOf self.mailboxes) slips.items }
-        requires count { vec_len lists ≡ length self.mailboxes }
-        requires lists { All (λ l. l.items ≡ []) lists.items }
         ensures mailboxes { IfOk result (λ r. r.0 ≡ mailboxes_of self.mailboxes 0) }
         ensures count { IfOk result (λ r. vec_len r.1 ≡ length self.mailboxes) }
         ensures letters { IfOk result (λ r. (q : ℕ) → 1 ≤ q → q ≤ length self.mailboxes →
@@ -168,7 +155,7 @@ impl Mailboxes {
         ensures err { IfErr result (λ e. e ≡ Memory) }
     {
         let (shared, homes) = self.take_back(slips);
-        let (homes, letters) = empty_in_turn(rt, alloc, shared.boxes(), homes, lists)?;
+        let (homes, letters) = empty_in_turn(rt, alloc, shared.boxes(), homes)?;
         let mailboxes = Mailboxes {
             shared,
             homes,
@@ -188,13 +175,10 @@ impl Mailboxes {
         rt: &R,
         alloc: Global,
         threads: usize,
-        lists: Vec<Vec<Parcel>>,
         slips: Vec<Slip>,
     ) -> Result<(Mailboxes, Vec<Vec<Parcel>>), RunError>
         requires all { vec_len slips ≡ self.slips }
         requires slips { All (IsSlipOf self.mailboxes) slips.items }
-        requires count { vec_len lists ≡ length self.mailboxes }
-        requires lists { All (λ l. l.items ≡ []) lists.items }
         ensures mailboxes { IfOk result (λ r. r.0 ≡ mailboxes_of self.mailboxes 0) }
         ensures count { IfOk result (λ r. vec_len r.1 ≡ length self.mailboxes) }
         ensures letters { IfOk result (λ r. (q : ℕ) → 1 ≤ q → q ≤ length self.mailboxes →
@@ -202,7 +186,7 @@ impl Mailboxes {
         ensures err { IfErr result (λ e. e ≡ Memory) }
     {
         let (shared, homes) = self.take_back(slips);
-        let (homes, letters) = empty_by(rt, alloc, threads, shared.boxes(), homes, lists)?;
+        let (homes, letters) = empty_by(rt, alloc, threads, shared.boxes(), homes)?;
         let mailboxes = Mailboxes {
             shared,
             homes,

@@ -100,8 +100,8 @@ impl SharedMailboxes {
         let mut homes = Vec::with_capacity(alloc, usize::from(n))?;
         for _ in 0..n {
             let (mailbox, home) = Mailbox::open(alloc)?;
-            boxes.push_reserved(mailbox);
-            homes.push_reserved(home);
+            boxes.push(mailbox)?;
+            homes.push(home)?;
         }
         Ok((SharedMailboxes { boxes }, homes))
     }

@@ -106,9 +106,8 @@ fn empty<R: Abort + Wait>(
     ensures count { length result.0.mailboxes ≡ length mailboxes.mailboxes }
     ensures slips { result.0.slips ≡ 0 }
 {
-    let lists = mailboxes.lists(alloc).expect(rt, NO_MEMORY);
     let slips = vec![in alloc; slip].expect(rt, NO_MEMORY);
-    let emptied = mailboxes.empty(rt, alloc, lists, slips);
+    let emptied = mailboxes.empty(rt, alloc, slips);
     let (mailboxes, lists) = emptied.expect(rt, NO_MEMORY);
     (mailboxes, opened(alloc, lists).expect(rt, NO_MEMORY))
 }
@@ -236,9 +235,8 @@ fn post_and_empty_by<R: Abort + Threads + Wait + Sync>(
     post(rt, &mailboxes, &mut first, 5, 2);
     post(rt, &mailboxes, &mut second, 3, 3);
     post(rt, &mailboxes, &mut second, 2, 4);
-    let lists = mailboxes.lists(alloc).expect(rt, NO_MEMORY);
     let slips = vec![in alloc; first, second].expect(rt, NO_MEMORY);
-    let emptied = mailboxes.empty_by(rt, alloc, threads, lists, slips);
+    let emptied = mailboxes.empty_by(rt, alloc, threads, slips);
     let (mailboxes, lists) = emptied.expect(rt, NO_MEMORY);
     (mailboxes, opened(alloc, lists).expect(rt, NO_MEMORY))
 }

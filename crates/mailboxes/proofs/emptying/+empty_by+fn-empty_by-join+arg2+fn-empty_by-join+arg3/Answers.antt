@@ -1,18 +1,17 @@
 use Rattle.std.proofs.Common.{rules, ◌≡◌, ◌++◌, subst, IfOk}
 use Rattle.std.proofs.lemmas.Result.{IfOk-weaker}
 use Rattle.mailboxes.specs.Inside.Emptying.{AreToEmpty, AreEmptied}
-use Rattle.mailboxes.proofs.Emptied.{front_to_empty, back_to_empty, both_emptied}
+use Rattle.mailboxes.proofs.Homes.{front_to_empty, back_to_empty, both_emptied}
 use Rattle.mailboxes.proofs.emptying.+empty_by+fn-empty_by-join+arg2+fn-empty_by-join+arg3.Goals as goal
 
 pub join-front-requires-after_bounds : goal.join-front-requires-after_bounds
 join-front-requires-after_bounds g t c κs within =
     let parts = c.split_at.ensures in
     let homes = c.in_ok-more_homes.ensures in
-    let lists = c.in_ok-more_lists.ensures in
-    let front : AreToEmpty c.split_at.result.0.now c.split_off.new.self.items c.split_off-2.new.self.items =
-    front_to_empty _ c.args.boxes.now c.args.homes.items c.args.lists.items c.requires _ _ _ parts.front homes.items lists.items in
-    let back : AreToEmpty c.split_at.result.1.now c.in_ok-more_homes.more_homes.items c.in_ok-more_lists.more_lists.items =
-    back_to_empty _ c.args.boxes.now c.args.homes.items c.args.lists.items c.requires _ _ _ parts.back homes.tail lists.tail in
+    let front : AreToEmpty c.split_at.result.0.now c.split_off.new.self.items =
+    front_to_empty _ c.args.boxes.now c.args.homes.items c.requires _ _ parts.front homes.items in
+    let back : AreToEmpty c.split_at.result.1.now c.in_ok-more_homes.more_homes.items =
+    back_to_empty _ c.args.boxes.now c.args.homes.items c.requires _ _ parts.back homes.tail in
     search rules
 
 pub returns : goal.returns

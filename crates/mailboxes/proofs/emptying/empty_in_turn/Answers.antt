@@ -1,4 +1,4 @@
-use Rattle.std.proofs.Common.{rules, ◌≡◌, ◌≤◌, vec_len, ap, ◌∙◌, subst, map, sym, [], ◌∷◌, ◌++◌, List, length, get_or, arith, append-nil, append_assoc, length-append}
+use Rattle.std.proofs.Common.{rules, ◌≡◌, ap, ◌∙◌, subst, map, sym, [], ◌∷◌, ◌++◌, List, length, get_or, arith, append-nil, append_assoc, length-append}
 use Rattle.std.specs.Global.{Vec}
 use Rattle.std.specs.List.{All}
 use Rattle.std.specs.Vec.Iter.{into_iter_items}
@@ -7,8 +7,7 @@ use Rattle.std.proofs.lemmas.List.Elements.{All-nil, All-push, All-same, All-hea
 use Rattle.process_api.specs.declared.message.Letter.{Letter}
 use Rattle.mailboxes.specs.Mailbox.{HomeView}
 use Rattle.mailboxes.specs.Mailboxes.{letters_in}
-use Rattle.mailboxes.proofs.Homes.{mailbox_of, back_of, Even}
-use Rattle.mailboxes.proofs.Emptied.{IsBlank, IsIn}
+use Rattle.mailboxes.proofs.Homes.{mailbox_of, back_of, Even, IsIn}
 use Rattle.ledger.proofs.Lists.{Shuffled, Shuffled-refl, Shuffled-next}
 use Rattle.mailboxes.proofs.emptying.empty_in_turn.Goals as goal
 
@@ -16,7 +15,6 @@ pub loop-home-init : goal.loop-home-init
 loop-home-init g c =
     let hs = c.args.homes.items in
     let homes : into_iter_items c.into_iter-home-iterator.result ≡ hs = c.into_iter-home-iterator.ensures.into_iter_gives.0 in
-    let lists : into_iter_items c.into_iter-empties.result ≡ c.args.lists.items = search rules in
     let none = c.in_ok-emptied.ensures.items in
     let empty = c.in_ok-filled.ensures.items in
     record {
@@ -24,13 +22,7 @@ loop-home-init g c =
       boxes = λ i. map mailbox_of (none i) ++ map mailbox_of (homes i);
       out = subst (All IsIn) (sym homes) c.requires.1;
       none = All-same (Even 0) _ [] none (All-nil (Even 0));
-      same = ap length lists ∙ c.requires.2 ∙ sym (ap length homes);
-      blank = subst (All IsBlank) (sym lists) c.requires.3;
       letters = subst (Shuffled (map back_of hs)) (λ i. letters_in (sym empty i) ++ map back_of (sym homes i)) (Shuffled-refl (map back_of hs));
-      made = search rules;
-      count = search rules;
-      room = search rules;
-      space = search rules;
     }
 
 pub empty-requires-clause-home : goal.empty-requires-clause-home
@@ -46,25 +38,10 @@ empty-requires-clause-home g c =
 pub empty-requires-clause-out : goal.empty-requires-clause-out
 empty-requires-clause-out g c = All-head IsIn c.in-Some.home (into_iter_items c.next.new.self) (subst (All IsIn) c.in-Some.ensures.steps.0 c.loop-home.invariant.out)
 
-pub push_reserved-requires : goal.push_reserved-requires
-push_reserved-requires g c =
-    let i = c.loop-home.invariant in
-    omega (arith, i.made, i.room, ap length c.in-Some.ensures.steps.0)
-
-pub push_reserved-requires-in-loop-home : goal.push_reserved-requires-in-loop-home
-push_reserved-requires-in-loop-home g c =
-    let i = c.loop-home.invariant in
-    omega (arith, i.count, i.space, ap length c.in-Some.ensures.steps.0)
-
 pub bounds-boxes-at : goal.bounds-boxes-at
 bounds-boxes-at g c =
     let i = c.loop-home.invariant in
     omega (arith, i.place, ap length c.in-Some.ensures.steps.0, simp (length-append, length-map) at (ap length (i.boxes ∙ sym c.requires.0)))
-
-pub empty-requires-clause-letters : goal.empty-requires-clause-letters
-empty-requires-clause-letters g c =
-    let f : into_iter_items c.loop-home.empties ≡ c.in-Some-next.list ∷ into_iter_items c.next-in-loop-home.new.self = c.in-Some-next.ensures.items in
-    All-head IsBlank c.in-Some-next.list (into_iter_items c.next-in-loop-home.new.self) (subst (All IsBlank) f c.loop-home.invariant.blank)
 
 pub loop-home-preserved : goal.loop-home-preserved
 loop-home-preserved g c =
@@ -73,16 +50,13 @@ loop-home-preserved g c =
     let h = c.in-Some.home in
     let left = into_iter_items c.next.new.self in
     let e : into_iter_items c.loop-home.home-iterator ≡ h ∷ left = c.in-Some.ensures.steps.0 in
-    let list = c.in-Some-next.list in
-    let lists = into_iter_items c.next-in-loop-home.new.self in
-    let f : into_iter_items c.loop-home.empties ≡ list ∷ lists = c.in-Some-next.ensures.items in
     let done = c.loop-home.emptied.items in
-    let new = c.in_ok-empty.field-0 in
-    let is = c.in_ok-empty.ensures in
-    let more : c.push_reserved.new.self.items ≡ done ++ new ∷ [] = c.push_reserved.ensures.items in
+    let new = c.in_ok-home.home in
+    let is = c.in_ok-home.ensures in
+    let more : c.push.new.self.items ≡ done ++ new ∷ [] = c.in_ok-push.ensures.items in
     let filled = c.loop-home.filled.items in
-    let got = c.empty.new.letters in
-    let fuller : c.push_reserved-in-loop-home.new.self.items ≡ filled ++ got ∷ [] = c.push_reserved-in-loop-home.ensures.items in
+    let got = c.in_ok-home.letters in
+    let fuller : c.push-in-loop-home.new.self.items ≡ filled ++ got ∷ [] = c.in_ok-push-2.ensures.items in
     let items_of = λ (v : Vec Letter). v.items in
     record {
       place = omega (arith, i.place, ap length more, length-append done (new ∷ []));
@@ -93,18 +67,12 @@ loop-home-preserved g c =
           ∙ (ap (λ xs. map mailbox_of done ++ map mailbox_of xs) (sym e) ∙ i.boxes))));
       out = All-tail IsIn h left (subst (All IsIn) e i.out);
       none = subst (All (Even 0)) (sym more) (All-push (Even 0) done new i.none (ap (λ (x : HomeView). x.out) is.home, ap back_of is.home));
-      same = omega (arith, i.same, ap length e, ap length f);
-      blank = All-tail IsBlank list lists (subst (All IsBlank) f i.blank);
       letters =
           let was : Shuffled (map back_of hs) (letters_in filled ++ h.back ∷ map back_of left) = subst (λ xs. Shuffled (map back_of hs) (letters_in filled ++ map back_of xs)) e i.letters in
           let next : Shuffled (map back_of hs) (letters_in filled ++ got.items ∷ map back_of left) = Shuffled-next (map back_of hs) (letters_in filled) (map back_of left) h.back got.items was is.letters in
           subst (Shuffled (map back_of hs))
           (sym (ap (λ xs. letters_in xs ++ map back_of left) fuller
           ∙ (ap (λ xs. xs ++ map back_of left) (map-append items_of filled (got ∷ [])) ∙ append_assoc (letters_in filled) (got.items ∷ []) (map back_of left)))) next;
-      made = omega (arith, i.made, ap length e, c.push_reserved.ensures.len);
-      count = omega (arith, i.count, ap length e, c.push_reserved-in-loop-home.ensures.len);
-      room = subst (λ m. vec_len c.args.homes ≤ m) (sym c.push_reserved.ensures.capacity) i.room;
-      space = subst (λ m. vec_len c.args.homes ≤ m) (sym c.push_reserved-in-loop-home.ensures.capacity) i.space;
     }
 
 pub returns : goal.returns

@@ -1,4 +1,4 @@
-use Rattle.std.proofs.Common.{◌≡◌, ◌≤◌, ◌+◌, ◌++◌, [], length, map, vec_len, vec_capacity}
+use Rattle.std.proofs.Common.{◌≡◌, ◌++◌, [], length, map}
 use Rattle.std.specs.List.{All}
 use Rattle.std.specs.Vec.Iter.{into_iter_items}
 use Rattle.mailboxes.specs.Mailboxes.{letters_in}
@@ -9,17 +9,10 @@ use Rattle.mailboxes.proofs.emptying.empty_in_turn.Given as goal
 abbrev pub invariant-loop-home : goal.invariant-loop-home
 invariant-loop-home g l =
     let rest = into_iter_items l.home-iterator in
-    let empties = into_iter_items l.empties in
     record {
       place : l.at ≡ length l.emptied.items;
       boxes : map (λ h. h.mailbox) l.emptied.items ++ map (λ h. h.mailbox) rest ≡ map (λ h. h.mailbox) l.fn.homes.items;
       out : All (λ h. h.out ≡ 0) rest;
       none : All (λ h. (h.out ≡ 0) × (h.back ≡ [])) l.emptied.items;
-      same : length empties ≡ length rest;
-      blank : All (λ v. v.items ≡ []) empties;
       letters : Shuffled (map (λ h. h.back) l.fn.homes.items) (letters_in l.filled.items ++ map (λ h. h.back) rest);
-      made : vec_len l.emptied + length rest ≡ vec_len l.fn.homes;
-      count : vec_len l.filled + length rest ≡ vec_len l.fn.homes;
-      room : vec_len l.fn.homes ≤ vec_capacity l.emptied;
-      space : vec_len l.fn.homes ≤ vec_capacity l.filled;
     }

@@ -1,13 +1,10 @@
-use Rattle.std.proofs.Common.{◌∙◌, sym, ap, length}
-use Rattle.std.proofs.lemmas.List.{length-map}
-use Rattle.mailboxes.proofs.Homes.{mailbox_of}
-use Rattle.mailboxes.proofs.Emptied.{emptied_letters}
+use Rattle.std.proofs.Common.{◌∙◌, sym}
+use Rattle.mailboxes.proofs.Homes.{emptied_letters}
 use Rattle.mailboxes.proofs.mailboxes.Mailboxes.empty.Goals as goal
 
 pub empty_in_turn-requires : goal.empty_in_turn-requires
 empty_in_turn-requires g c =
-    let t = c.take_back-shared.ensures in
-    (c.boxes.ensures ∙ t.homes, t.out, sym c.args.lists.ok.0 ∙ c.requires.count ∙ sym (ap length t.shared) ∙ ap length t.homes ∙ length-map c.take_back-shared.result.1.items mailbox_of, c.requires.lists)
+    (c.boxes.ensures ∙ c.take_back-shared.ensures.homes, c.take_back-shared.ensures.out)
 
 pub invariant_of-mailboxes : goal.invariant_of-mailboxes
 invariant_of-mailboxes g c = (sym c.boxes.ensures ∙ c.in_ok-homes.ensures.0, c.in_ok-homes.ensures.1)

@@ -1,13 +1,11 @@
-use Rattle.std.proofs.Common.{rules, ◌∙◌, sym, ap, length}
-use Rattle.std.proofs.lemmas.List.{length-map}
-use Rattle.mailboxes.proofs.Homes.{mailbox_of}
-use Rattle.mailboxes.proofs.Emptied.{emptied_letters}
+use Rattle.std.proofs.Common.{rules, ◌∙◌, sym}
+use Rattle.mailboxes.proofs.Homes.{emptied_letters}
 use Rattle.mailboxes.proofs.mailboxes.Mailboxes.empty_by.Goals as goal
 
 pub empty_by-requires : goal.empty_by-requires
 empty_by-requires g c =
     let t = c.take_back-shared.ensures in
-    (search rules, (c.boxes.ensures ∙ t.homes, t.out, sym c.args.lists.ok.0 ∙ c.requires.count ∙ sym (ap length t.shared) ∙ ap length t.homes ∙ length-map c.take_back-shared.result.1.items mailbox_of, c.requires.lists))
+    (search rules, (c.boxes.ensures ∙ t.homes, t.out))
 
 pub invariant_of-mailboxes : goal.invariant_of-mailboxes
 invariant_of-mailboxes g c = (sym c.boxes.ensures ∙ c.in_ok-homes.ensures.0, c.in_ok-homes.ensures.1)

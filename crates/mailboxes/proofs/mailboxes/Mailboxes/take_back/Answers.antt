@@ -1,56 +1,62 @@
-use Rattle.std.proofs.Common.{◌≡◌, ◌<◌, ◌-◌, ℕ, [], length, get_or, sym, ap, ◌∙◌, vec_len, arith}
-use Rattle.std.specs.List.{flat_map}
-use Rattle.std.proofs.lemmas.Iterator.Adapters.{YieldsList-from_vec}
-use Rattle.std.proofs.lemmas.Iterator.Consumers.{YieldsList-turn, YieldsList-end}
-use Rattle.mailboxes.specs.Mailboxes.{MailboxesView, SlipView}
-use Rattle.mailboxes.proofs.Homes.{fold_back-more, fits-more, turn_mailboxes, turn_out, end_out, end_length, end_posted}
-use Rattle.std.proofs.lemmas.List.{map-id}
+use Rattle.std.proofs.Common.{◌≡◌, ◌<◌, ◌-◌, ◌++◌, ◌∷◌, ℕ, List, [], length, map, get_or, sym, ap, ◌∙◌, subst, arith, append_assoc, append-nil}
+use Rattle.std.specs.List.{All, flat_map}
+use Rattle.std.specs.Vec.Iter.{into_iter_items}
+use Rattle.std.proofs.lemmas.List.{nil_from_length}
+use Rattle.std.proofs.lemmas.List.Elements.{All-head, All-tail, All-weaker}
+use Rattle.process_api.specs.declared.message.Letter.{Letter}
+use Rattle.mailboxes.specs.Mailbox.{HomeView}
+use Rattle.mailboxes.specs.Mailboxes.{MailboxesView, SlipView, IsSlipOf}
+use Rattle.mailboxes.proofs.Homes.{mailbox_of, back_of, back-mailboxes, back-out, back-posted, none_back, Even}
 use Rattle.mailboxes.proofs.mailboxes.Mailboxes.take_back.Goals as goal
 
-pub take_back-requires-clause-homes : goal.take_back-requires-clause-homes
-take_back-requires-clause-homes c =
-    c.self.invariant.0 ∙ sym (turn_mailboxes c.self.inside.slips c.self.inside.homes.items c.loop-slip.yielded c.loop-slip.homes.items c.self.invariant.1 c.loop-slip.invariant.3 c.loop-slip.invariant.2)
+abbrev sent : ℕ → List SlipView → List Letter
+sent k ss = flat_map (λ s. get_or s.posted k []) ss
 
-few : (k n made slips : ℕ) → k < n → made ≡ n → made ≡ slips → k < slips
-few k n made slips lt e s = omega arith
+pub loop-slip-init : goal.loop-slip-init
+loop-slip-init c =
+    let hs = c.self.inside.homes.items in
+    let all : into_iter_items c.into_iter-slip-iterator.result ≡ c.args.slips.items = c.into_iter-slip-iterator.ensures.into_iter_gives.0 in
+    let of = ap (λ (m : MailboxesView). m.mailboxes) c.self.view_is in
+    record {
+      of = c.self.invariant.0;
+      slips = subst (All (IsSlipOf c.self.inside.shared)) (sym all) (subst (λ m. All (IsSlipOf m) c.args.slips.items) (sym of) c.requires.slips);
+      out = All-weaker (Even c.self.inside.slips) (λ h. h.out ≡ length (into_iter_items c.into_iter-slip-iterator.result))
+          (λ h even. omega (arith, even.0, ap (λ (m : MailboxesView). m.slips) c.self.view_is, c.requires.all, c.args.slips.ok.0, ap length all)) hs c.self.invariant.1;
+      letters = λ k. ap (λ l. l ++ sent k (into_iter_items c.into_iter-slip-iterator.result)) (none_back k hs (All-weaker (Even c.self.inside.slips) (λ h. h.back ≡ []) (λ h even. even.1) hs c.self.invariant.1)) ∙ ap (sent k) all;
+    }
+
+pub take_back-requires-clause-slip : goal.take_back-requires-clause-slip
+take_back-requires-clause-slip c = All-head (IsSlipOf c.self.inside.shared) c.in-Some.slip (into_iter_items c.next.new.self) (subst (All (IsSlipOf c.self.inside.shared)) c.in-Some.ensures.steps.0 c.loop-slip.invariant.slips)
 
 pub take_back-requires-clause-out : goal.take_back-requires-clause-out
 take_back-requires-clause-out c =
-    let b = c.into_iter-slip-iterator.ensures.into_iter_gives in
-    let ss = c.args.slips.items in
-    let ys = c.loop-slip.yielded in
-    let turn : (length ys < length ss) × (c.in-Some.slip ≡ get_or ss (length ys) c.in-Some.slip) =
-    YieldsList-turn (YieldsList-from_vec ss b.0 (b.1 ∙ c.args.slips.ok.0)) ys c.loop-slip.slip-iterator c.loop-slip.yielded_by c.next.result c.next.new.self c.in-Some.slip c.in-Some.is c.next.ensures.steps in
-    turn_out c.self.inside.slips c.self.inside.homes.items ys c.loop-slip.homes.items c.self.invariant.1 c.loop-slip.invariant.3 c.loop-slip.invariant.2
-    (few (length ys) (length ss) (vec_len c.args.slips) c.self.inside.slips turn.0 c.args.slips.ok.0 (c.requires.all ∙ ap (λ (m : MailboxesView). m.slips) (sym c.self.view_is)))
+    All-weaker (λ (h : HomeView). h.out ≡ length (into_iter_items c.loop-slip.slip-iterator)) (λ h. 0 < h.out) (λ h is. omega (arith, is, ap length c.in-Some.ensures.steps.0)) c.loop-slip.homes.items c.loop-slip.invariant.out
 
 pub loop-slip-preserved : goal.loop-slip-preserved
 loop-slip-preserved c =
-    let hs = c.self.inside.homes.items in
-    let ys = c.loop-slip.yielded in
+    let i = c.loop-slip.invariant in
+    let hs = c.loop-slip.homes.items in
     let s = c.in-Some.slip in
-    let fits : length s.posted ≡ length hs =
-    c.take_back.ensures.lists ∙ c.loop-slip.homes.ok.0 ∙ end_length c.self.inside.slips hs ys c.loop-slip.homes.items c.self.invariant.1 c.loop-slip.invariant.3 c.loop-slip.invariant.2 in (
-      tt,
-      tt,
-      fold_back-more hs c.loop-slip.homes.items c.take_back.new.homes.items ys s c.loop-slip.invariant.2 c.take_back.ensures.homes,
-      fits-more (length hs) ys s c.loop-slip.invariant.3 fits,
-    )
+    let rest = into_iter_items c.next.new.self in
+    let e : into_iter_items c.loop-slip.slip-iterator ≡ s ∷ rest = c.in-Some.ensures.steps.0 in
+    let is = c.take_back.ensures.homes in
+    let fits : length s.posted ≡ length hs = c.take_back.ensures.lists ∙ c.loop-slip.homes.ok.0 in
+    record {
+      of = i.of ∙ sym (ap (map mailbox_of) is ∙ back-mailboxes hs s.posted);
+      slips = All-tail (IsSlipOf c.self.inside.shared) s rest (subst (All (IsSlipOf c.self.inside.shared)) e i.slips);
+      out = subst (All (λ h. h.out ≡ length rest)) (sym is) (back-out _ (length rest) hs s.posted (ap length e) fits i.out);
+      letters = λ k.
+          ap (λ l. get_or (map back_of l) k [] ++ sent k rest) is ∙ ap (λ l. l ++ sent k rest) (back-posted k hs s.posted fits)
+          ∙ append_assoc (get_or (map back_of hs) k []) (get_or s.posted k []) (sent k rest) ∙ ap (λ l. get_or (map back_of hs) k [] ++ sent k l) (sym e) ∙ i.letters k;
+    }
 
 pub returns : goal.returns
 returns c =
-    let b = c.into_iter-slip-iterator.ensures.into_iter_gives in
-    let hs = c.self.inside.homes.items in
-    let now = c.loop-slip.homes.items in
-    let n = c.self.inside.slips in
-    let ss = c.args.slips.items in
-    let ys = c.loop-slip.yielded in
     let i = c.loop-slip.invariant in
-    let end = YieldsList-end (YieldsList-from_vec ss b.0 (b.1 ∙ c.args.slips.ok.0)) ys c.loop-slip.slip-iterator c.loop-slip.yielded_by c.next.result c.next.new.self c.in-None.is c.next.ensures.steps in
-    let all : ys ≡ ss = sym (map-id ys) ∙ end.0 in
+    let none : into_iter_items c.loop-slip.slip-iterator ≡ [] = nil_from_length _ (sym c.loop-slip.slip-iterator.rest.ok.0 ∙ c.in-None.ensures.steps.0) in
     record {
       shared = ap (λ (m : MailboxesView). m.mailboxes) c.self.view_is;
-      homes = c.self.invariant.0 ∙ sym (turn_mailboxes n hs ys now c.self.invariant.1 i.3 i.2);
-      out = end_out n hs ys now c.self.invariant.1 i.3 i.2 (ap length all ∙ sym c.args.slips.ok.0 ∙ c.requires.all ∙ ap (λ (m : MailboxesView). m.slips) (sym c.self.view_is));
-      letters = λ r. end_posted n hs ys now c.self.invariant.1 i.3 i.2 (r - 1) ∙ ap (flat_map (λ (s : SlipView). get_or s.posted (r - 1) [])) all;
+      homes = i.of;
+      out = subst (λ l. All (λ (h : HomeView). h.out ≡ length l) c.loop-slip.homes.items) none i.out;
+      letters = λ r. sym (append-nil _) ∙ ap (λ l. get_or (map back_of c.loop-slip.homes.items) (r - 1) [] ++ sent (r - 1) l) (sym none) ∙ i.letters (r - 1);
     }

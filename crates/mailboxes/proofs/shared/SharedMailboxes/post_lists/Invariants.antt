@@ -1,6 +1,6 @@
 use Rattle.std.proofs.Common.{◌≡◌, map, vec_len}
 use Rattle.mailboxes.specs.Mailboxes.{letters_in}
-use Rattle.mailboxes.proofs.Rows.{posted_to_place, emptied_to_place}
+use Rattle.mailboxes.proofs.Homes.{posted_to_place, emptied_to_place}
 use Rattle.mailboxes.proofs.shared.SharedMailboxes.post_lists.Given as goal
 
 abbrev pub invariant-loop-at : goal.invariant-loop-at
