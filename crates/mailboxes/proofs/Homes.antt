@@ -1,12 +1,11 @@
 -- What the owner's passes are while tickets go out and come back.
-use Rattle.std.proofs.Common.{◌≡◌, ℕ, zero, suc, ◌+◌, ◌-◌, ◌<◌, List, [], ◌∷◌, ◌++◌, length, map, replicate, fold, get_or, refl, sym, ap, ◌∙◌, subst, arith, append_assoc, append-nil, take, drop, ◌≤◌, set}
-use Rattle.std.specs.List.{All, flat_map}
+use Rattle.std.proofs.Common.{◌≡◌, ℕ, zero, suc, ◌+◌, ◌-◌, ◌<◌, List, [], ◌∷◌, ◌++◌, length, map, replicate, get_or, refl, sym, ap, ◌∙◌, subst, arith, append-nil, take, drop, ◌≤◌, set}
+use Rattle.std.specs.List.{All}
 use Rattle.std.proofs.lemmas.List.Elements.{All-nil, All-cons, All-head, All-tail, All-map, All-weaker, All-append, All-take, All-drop}
-use Rattle.std.proofs.lemmas.List.Sums.{fold-append}
 use Rattle.process_api.specs.declared.message.Letter.{Letter}
 use Rattle.mailboxes.specs.Mailbox.{MailboxId, TicketView, HomeView, ticket_of, one_out, one_back, all_back}
 use Rattle.mailboxes.specs.Mailboxes.{SlipView, slip_of, unused, posted_to, list_of, letters_in}
-use Rattle.ledger.proofs.Lists.{with-length, with-map, Shuffled, Shuffled-append, Shuffled-at, with-nil, mixed_at, mixed_more}
+use Rattle.ledger.proofs.Lists.{with-map, Shuffled, Shuffled-append, Shuffled-at, with-nil, mixed_at, mixed_more}
 use Rattle.std.specs.Global.{Vec}
 use Rattle.std.specs.List.Sorted.{IsPermutation}
 use Rattle.std.proofs.lemmas.List.{length-map, take-append-drop, map-append, take-map, drop-map, get_or-map, map-set, set-get_or, take_all, drop_all}

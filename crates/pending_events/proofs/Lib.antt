@@ -1,4 +1,2 @@
-pub mod Falling
 pub mod Rows
 pub mod Nearby
-pub mod Parted

@@ -1,3 +1,1 @@
-pub mod Rising
 pub mod Distinct
-pub mod Gathering

@@ -1,27 +1,72 @@
 -- Events in a row and events that wait, as one set.
 use Rattle.std.proofs.Common.{◌≡◌, ◌≢◌, ◌⊎◌, ◌≤◌, ◌<◌, ℕ, ◌+◌, inl, inr, refl, sym, ap, ◌∙◌, subst, List, [], ◌∷◌, ◌++◌, append-nil, append_assoc, min, arith, Less, Option, Some, None, MatchOption}
 use Rattle.std.specs.FinMap as events
-use Rattle.std.specs.List.{AllByRecursion}
+use Rattle.std.specs.List.{AllByRecursion, All}
 use Rattle.std.specs.Option.{option_or}
 use Rattle.std.proofs.lemmas.Bool.{cases_lt}
 use Rattle.process_api.specs.Order.{key_cmp}
 use Rattle.process_api.specs.declared.key.Key.{Key}
 use Rattle.process_api.specs.declared.message.StepInput.{StepInput}
-use Rattle.process_api.proofs.KeyOrder.{keys_total, exact_keys, same_or_not, ticks_rise}
+use Rattle.process_api.proofs.KeyOrder.{keys_total, exact_keys, same_or_not, ticks_rise, before_or_not}
 use Rattle.process_api.proofs.Lists.{both, weaker}
 use Rattle.trace_laws.specs.History.{IsIn}
 use Rattle.pending_events.specs.Inside.Buckets.{latest}
 use Rattle.pending_events.specs.Pending.{IsEmpty, IsLeastTick}
-use Rattle.pending_events.proofs.Falling.{none_latest}
-use Rattle.pending_events.proofs.Rows.{get_joined}
+use Rattle.pending_events.proofs.Rows.{none_latest, get_joined}
 use Rattle.trace_laws.specs.Step.{Event, Events}
 use Rattle.trace_laws.specs.World.{Has, IsLeast, NoneBelow, joined}
 use Rattle.trace_laws.proofs.Joining.{joined_one}
 use Rattle.trace_laws.proofs.Runs.{least_below}
-use Rattle.trace_laws.proofs.Sets.{insert_at, insert_other, joined_cases, remove_at, remove_other, removed}
+use Rattle.trace_laws.proofs.Sets.{insert_at, insert_other, joined_cases, remove_at, remove_other, removed, not_None}
 use Rattle.windows.specs.Inside.Agenda.{earlier_of, AreFrom, IsSoonestOf, SomeAt}
 use Rattle.windows.proofs.Letters.{joined_both}
-use Rattle.windows.proofs.Starts.{from_least}
+use Rattle.std.proofs.lemmas.List.Elements.{All-push}
+use Rattle.trace_laws.proofs.Steps.{in_left, in_right}
+use Rattle.windows.specs.Stage.{IsNextStart}
+use Rattle.windows.proofs.Places.{all_at, all_place}
+
+-- ---- The tick at which the next window opens.
+
+pub none_pending : (horizon : ℕ) → IsNextStart horizon [] horizon
+none_pending horizon = record { to_horizon = omega arith; late = all_at (NoneBelow horizon) [] (λ i m at. absurd (not_None m at)); least = inl refl }
+
+-- nothing is before the least tick
+pub from_least : (m : Events) (tick : ℕ) → IsLeastTick m tick → NoneBelow tick m
+from_least m tick least k y h = go (before_or_not k least.0)
+  where
+    go : (key_cmp k least.0 ≡ Less) ⊎ ((k ≡ least.0) ⊎ (key_cmp least.0 k ≡ Less)) → tick ≤ k.tick
+    go (inl before) = absurd (least.2.none_before k y h before)
+    go (inr (inl same)) = omega (arith, ap (λ (z : Key). z.tick) same, least.3)
+    go (inr (inr after)) = omega (arith, ticks_rise least.0 k after, least.3)
+
+none_earlier : (m : Events) (a b : ℕ) → a ≤ b → NoneBelow b m → NoneBelow a m
+none_earlier m a b le none k y h = omega (arith, le, none k y h)
+
+module _ (horizon : ℕ) (own : List Events) (m : Events) where
+  later_all : (a b : ℕ) → a ≤ b → All (NoneBelow b) own → All (NoneBelow a) own
+  later_all a b le all = all_at (NoneBelow a) own (λ i x at. none_earlier x a b le (all_place (NoneBelow b) own all i x at))
+
+  keeps : (next : ℕ) → (next ≡ horizon) ⊎ ((set : Events) × IsIn set own × IsLeastTick set next) → (next ≡ horizon) ⊎ ((set : Events) × IsIn set (own ++ m ∷ []) × IsLeastTick set next)
+  keeps next (inl at) = inl at
+  keeps next (inr r) = inr (r.0, in_left r.0 own (m ∷ []) r.1, r.2)
+
+  pub one_empty : (next : ℕ) → IsNextStart horizon own next → IsEmpty m → IsNextStart horizon (own ++ m ∷ []) next
+  one_empty next is none = record {
+    to_horizon = is.to_horizon;
+    late = All-push (NoneBelow next) own m is.late (λ k y h. absurd (none k y h));
+    least = keeps next is.least;
+  }
+
+  pub one_pending : (next tick : ℕ) → IsNextStart horizon own next → IsLeastTick m tick → IsNextStart horizon (own ++ m ∷ []) (min next tick)
+  one_pending next tick is at = record {
+    to_horizon = omega (arith, is.to_horizon);
+    late = All-push (NoneBelow (min next tick)) own m (later_all (min next tick) next (omega arith) is.late) (none_earlier m (min next tick) tick (omega arith) (from_least m tick at));
+    least = go (cases_lt tick next);
+  }
+    where
+      go : (tick < next) ⊎ (next ≤ tick) → (min next tick ≡ horizon) ⊎ ((set : Events) × IsIn set (own ++ m ∷ []) × IsLeastTick set (min next tick))
+      go (inl less) = inr (m, in_right m own (m ∷ []) (inl refl), subst (IsLeastTick m) (omega (arith, less)) at)
+      go (inr more) = subst (λ n. (n ≡ horizon) ⊎ ((set : Events) × IsIn set (own ++ m ∷ []) × IsLeastTick set n)) (omega (arith, more)) (keeps next is.least)
 
 -- ---- the least tick
 

@@ -1,13 +1,13 @@
 -- What the processes of a window make of a stage, and what the closing of the window leaves.
-use Rattle.std.proofs.Common.{◌≡◌, ◌⊎◌, ◌↔◌, ℕ, zero, suc, ◌+◌, ◌-◌, ◌*◌, ◌<◌, ◌≤◌, inl, inr, refl, sym, ap, ◌∙◌, subst, List, [], ◌∷◌, ◌++◌, Some, length, map, slice_get, arith, append_assoc, append-nil, length-append, vec_len, Bool, true, false, cond, not, nat_eq}
+use Rattle.std.proofs.Common.{◌≡◌, ◌⊎◌, ◌↔◌, ℕ, zero, suc, ◌+◌, ◌-◌, ◌*◌, ◌<◌, ◌≤◌, inl, inr, refl, sym, ap, ◌∙◌, subst, List, [], ◌∷◌, ◌++◌, Some, length, map, slice_get, arith, append_assoc, append-nil, length-append, vec_len, Bool, true, false, cond, not, nat_eq, ◌≢◌, Result, Ok, Err, IfErr, IsErrOf}
 use Rattle.std.specs.Prelude.{IsTrue}
 use Rattle.std.specs.FinMap as finmap
 use Rattle.std.specs.List.{All}
 use Rattle.std.proofs.lemmas.Option.{slice_get_within, get_or_from_slice_get}
-use Rattle.std.proofs.lemmas.List.{length-map}
+use Rattle.std.proofs.lemmas.List.{length-map, map-append}
 use Rattle.std.proofs.lemmas.List.Filters.{length-filter_both}
-use Rattle.std.proofs.lemmas.List.Elements.{All-append, All-weaker}
-use Rattle.std.proofs.lemmas.List.Sorted.{length_permutation, Contains-permutation, IsPermutation-sym}
+use Rattle.std.proofs.lemmas.List.Elements.{All-append, All-weaker, All-nil, All-cons}
+use Rattle.std.proofs.lemmas.List.Sorted.{length_permutation, Contains-permutation, IsPermutation-sym, IsPermutation-refl}
 use Rattle.process_api.specs.Bounds.{most_step_actions}
 use Rattle.process_api.specs.EntryRecord.{EntryRecord}
 use Rattle.process_api.specs.Mind.{Mind}
@@ -21,10 +21,11 @@ use Rattle.trace_laws.specs.History.{IsIn, Pair, pairs_of}
 use Rattle.pending_events.specs.Pending.{IsLeastTick}
 use Rattle.trace_laws.specs.ScenarioSetting.{setting_of}
 use Rattle.steps.specs.Seat.{process_of, own_of, IsSeated}
+use Rattle.steps.specs.declared.seat.Seat.{Seat}
 use Rattle.trace_laws.specs.Setting.{Setting, IsSound, IsProcess}
 use Rattle.trace_laws.specs.Reached.{IsReached}
 use Rattle.trace_laws.specs.Step.{Event, Events, Process}
-use Rattle.trace_laws.specs.World.{World, IsWorld, Has, NoneBelow, Run, taken, joined, entries, opening_process, IsTrace}
+use Rattle.trace_laws.specs.World.{World, IsWorld, Has, NoneBelow, Run, taken, joined, entries, opening_process, IsTrace, made}
 use Rattle.trace_laws.proofs.Closed.{closed_of_run}
 use Rattle.trace_laws.proofs.Pairs.{in_pairs}
 use Rattle.trace_laws.proofs.Reaching.{reached_next, reached_end}
@@ -32,7 +33,7 @@ use Rattle.trace_laws.proofs.Rising.{IsRising, rising_pairs, rising_entries}
 use Rattle.trace_laws.proofs.Runs.{run_exists, one_run}
 use Rattle.trace_laws.proofs.Sets.{joined_cases, one_input, not_None, same_Some}
 use Rattle.trace_laws.proofs.Sound.{setting_sound}
-use Rattle.mailboxes.specs.Mailboxes.{list_of}
+use Rattle.mailboxes.specs.Mailboxes.{list_of, SlipView, posted_to}
 use Rattle.trace_merge.specs.Parts.{all_of, AreDisjoint}
 use Rattle.trace_laws.specs.Taken.{event_of}
 use Rattle.windows.specs.Berth.{IsBerth}
@@ -48,10 +49,60 @@ use Rattle.window_laws.proofs.Outcome.{IsWhole, whole, own_run, pairs_are, rest_
 use Rattle.window_laws.proofs.Unions.{in_map, map_in, joined_back}
 use Rattle.window_laws.proofs.Whole.{run_on, one_merge}
 use Rattle.window_laws.proofs.Together.{h_stands, berths_run}
-use Rattle.windows.proofs.Places.{there, there_map, from_map, place_in, same_at, at_index, before_suc, by_place, at_nobody, at_delivered, all_at, all_place, disjoint_from, no_more, in_all, all_in, part_few, in_place}
-use Rattle.windows.proofs.Cut.{run_before}
-use Rattle.windows.proofs.Members.{contains_in, in_contains}
-use Rattle.windows.proofs.Ranked.{rises_counted}
+use Rattle.windows.proofs.Places.{none_there, there, there_map, from_map, stands_in, same_at, at_index, before_suc, by_place, at_nobody, at_delivered, all_at, all_place, disjoint_from, no_more, in_all, all_in, part_few, in_place, contains_in, in_contains, rises_counted}
+use Rattle.std.specs.List.Sorted.{IsPermutation}
+use Rattle.process_api.specs.Numbers.{numbers_to}
+use Rattle.steps.proofs.Openings.{number_at, length-numbers_to}
+use Rattle.windows.specs.Inside.Closing.{AreLettersOf, IsOutcomeBy, IsClosedBy}
+use Rattle.process_api.specs.declared.run_error.RunError.{RunError}
+use Rattle.process_api.specs.declared.run_error.RunError.TheVariants.{Limit, Spawn}
+use Rattle.trace_laws.proofs.Worlds.{taken_cases, made_sent, taken_world}
+use Rattle.windows.specs.Sink.{IsRefusalOfSink}
+
+-- ---- What the list does before a tick, and what it does from there on.
+
+module _ {Mind : Type 0} (S : Setting Mind) where
+  -- what is taken below a tick is of a tick before it
+  pub run_before : (end : ℕ) (h : List Pair) (w last : World Mind) → Run S end w h last → All (λ (e : EntryRecord). e.key.tick < end) (entries h)
+  run_before end [] w last r = All-nil (λ (e : EntryRecord). e.key.tick < end)
+  run_before end (s ∷ rest) w last r = All-cons (λ (e : EntryRecord). e.key.tick < end) s.0 (entries rest) r.1 (run_before end rest (taken S w s.0.key s.1) last r.3)
+
+  module _ (sound : IsSound S) (tick : ℕ) where
+    none_earlier : (w : World Mind) (k : Key) (x : StepInput) → IsWorld S w → NoneBelow tick w.pending → Has w.pending k x → NoneBelow tick (taken S w k x).pending
+    none_earlier w k x is none there q y h = go (taken_cases S w k x q y h)
+      where
+        go : IsIn (q, y) (made S w k x).added ⊎ ((q ≢ k) × Has w.pending q y) → tick ≤ q.tick
+        go (inl i) = omega (arith, none k x there, (made_sent S w k x sound is there (q, y) i).later)
+        go (inr old) = none q y old.1
+
+    -- where nothing is pending below a tick, nothing is taken below it
+    pub run_after : (end : ℕ) (h : List Pair) (w last : World Mind) → IsWorld S w → NoneBelow tick w.pending → Run S end w h last → All (λ (e : EntryRecord). tick ≤ e.key.tick) (entries h)
+    run_after end [] w last is none r = All-nil (λ (e : EntryRecord). tick ≤ e.key.tick)
+    run_after end (s ∷ rest) w last is none r =
+        let there = r.0.there in
+        All-cons (λ (e : EntryRecord). tick ≤ e.key.tick) s.0 (entries rest) (none s.0.key s.1 there)
+        (run_after end rest (taken S w s.0.key s.1) last (taken_world S w s.0.key s.1 sound is there) (none_earlier w s.0.key s.1 is none there) r.3)
+
+-- every trace has the entries so far at its front, and no other below the tick at which the next window starts
+pub stage_cut : {M : Type 0} (mind : M → Mind) (stage : Stage M) (trace : List EntryRecord) → IsStageAfter mind trace stage → (s : Record) → stage.scenario.now ≡ s → IsInRange s → (whole : List EntryRecord) → IsTrace (setting_of s) whole
+    → (rest : List EntryRecord) × (whole ≡ trace ++ rest) × All (λ (e : EntryRecord). stage.start ≤ e.key.tick) rest
+stage_cut mind stage trace is s same ranges whole full =
+    let S = setting_of stage.scenario.now in
+    let t = subst (λ z. IsTrace (setting_of z) whole) (sym same) full in
+    let before = is.reached.comes_by t.0 t.1 t.2 in (
+      entries before.0,
+      t.3 ∙ (ap entries before.1 ∙ (map-append (λ (x : Pair). x.0) is.reached.history before.0 ∙ ap (λ es. es ++ entries before.0) (sym is.reached.trace_is))),
+      run_after S (setting_sound stage.scenario.now (subst IsInRange (sym same) ranges)) stage.start S.horizon before.0 is.world t.1 is.is_world (is.stands 0).late before.2,
+    )
+
+-- a sink refuses no thread, and no place in the trace
+pub not_of_sink : {X : Type 0} (r : Result X RunError) → IfErr r IsRefusalOfSink → IsErrOf r Limit ⊎ IsErrOf r Spawn → ⊥
+not_of_sink (Ok x) h (inl e) = cc
+not_of_sink (Ok x) h (inr e) = cc
+not_of_sink (Err x) (inl m) (inl e) = cc
+not_of_sink (Err x) (inl m) (inr e) = cc
+not_of_sink (Err x) (inr m) (inl e) = cc
+not_of_sink (Err x) (inr m) (inr e) = cc
 
 pairs_rise : (p : ℕ) (l : List Pair) → IsRising l → IsRising (pairs_of p l)
 pairs_rise p [] r = tt
@@ -91,20 +142,28 @@ module _ {Mind : Type 0} (S : Setting Mind) where
       let m : length trace ≡ length was.history = ap length was.trace_is ∙ length-map _ _ in
       omega (arith, n, m, length-append was.history (list ++ more.0), length-append list more.0)
 
+-- the letters to each receiver in the order of the slips
+abbrev posted_lists : List SlipView → ℕ → List (List Letter)
+posted_lists slips n = map (posted_to slips) (numbers_to n)
+
+posted_are : (slips : List SlipView) (n : ℕ) → AreLettersOf slips n (posted_lists slips n)
+posted_are slips n = record {
+  count = length-map (numbers_to n) (posted_to slips) ∙ length-numbers_to n;
+  each = λ r low high.
+      let here : list_of (posted_lists slips n) r ≡ posted_to slips r = get_or_from_slice_get (posted_lists slips n) (r - 1) (posted_to slips r) [] (number_at (posted_to slips) n r low high) in
+      subst (IsPermutation (posted_to slips r)) (sym here) (IsPermutation-refl (posted_to slips r));
+}
+
 -- what put at most so much on each link put at most more
-more_put : {M : Type 0} (mind : M → Mind) (s : Record) (p less more : ℕ) (b : Berth M) → less ≤ more → IsBerth mind s p less b → IsBerth mind s p more b
-more_put mind s p less more b le is = record {
-  seated = record {
-    low = is.seated.low;
-    high = is.seated.high;
-    is_mind = is.seated.is_mind;
-    horizon = is.seated.horizon;
-    crash = is.seated.crash;
-    places = is.seated.places;
-    counts = λ q. omega (arith, is.seated.counts q, le);
-  };
-  is = is.is;
-  own = is.own;
+seated_more : {M : Type 0} (mind : M → Mind) (s : Record) (less more : ℕ) (seat : Seat M) → less ≤ more → IsSeated mind s less seat → IsSeated mind s more seat
+seated_more mind s less more seat le is = record {
+  low = is.low;
+  high = is.high;
+  is_mind = is.is_mind;
+  horizon = is.horizon;
+  crash = is.crash;
+  places = is.places;
+  counts = λ q. omega (arith, is.counts q, le);
 }
 
 module _ {M : Type 0} (mind : M → Mind) (old : Stage M) (ranges : IsInRange old.scenario.now) (trace_so_far : List EntryRecord) (is : IsStageAfter mind trace_so_far old) where
@@ -133,7 +192,9 @@ module _ {M : Type 0} (mind : M → Mind) (old : Stage M) (ranges : IsInRange ol
   part_at i b at = sym (at_index i (map (λ z. z.part.items) olds) b.part.items [] (there_map (λ z. z.part.items) olds i b at)) ∙ (is.stands 0).part (suc i)
 
   pub stage_ready : All (IsReady mind s) olds
-  stage_ready = all_at (IsReady mind s) olds (λ i b at. ((suc i, more_put mind s (suc i) _ _ b (omega (arith, is.within, ranges.limit_high)) (berth_at i b at)), part_at i b at))
+  stage_ready = all_at (IsReady mind s) olds (λ i b at. 
+      let was = berth_at i b at in
+      ((suc i, record { seated = seated_more mind s _ _ b.seat (omega (arith, is.within, ranges.limit_high)) was.seated; is = was.is; own = was.own }), part_at i b at))
 
   pub stage_rises : RiseBy (λ (b : Berth M). own_of mind b.seat) olds
   stage_rises = rises_counted (λ (b : Berth M). own_of mind b.seat) 1 olds (λ i b at. (berth_at i b at).is ∙ omega arith)
@@ -192,9 +253,6 @@ module _ {M : Type 0} (mind : M → Mind) (old : Stage M) (ranges : IsInRange ol
 
       news_many : length news ≡ s.processes
       news_many = ap length (sym o.news_are) ∙ (length-map o.stays (λ t. t.after) ∙ stays_many)
-
-      pub outcome_many : length lists ≡ length news
-      outcome_many = o.count ∙ sym news_many
 
       stay_at : (i : ℕ) → i < s.processes → (t : Stay M) × (slice_get o.stays i ≡ Some t)
       stay_at i l = there o.stays i (omega (arith, l, stays_many))
@@ -333,7 +391,7 @@ module _ {M : Type 0} (mind : M → Mind) (old : Stage M) (ranges : IsInRange ol
               let t = stay_at q (omega (arith, theirs.1)) in
               let x = in_map event_of (letters (suc q)) (k, y) j in
               let to_i : x.0.key.receiver - 1 ≡ suc i - 1 = ap (λ n. n - 1) (sym (ap (λ (z : Event). z.0.receiver) x.2) ∙ to) in
-              let sent = (o.letters (suc i) own.0 own.1 x.0).1 (t.0, place_in o.stays q t.0 t.1, subst (IsIn x.0) (letters_at q t.0 t.1) x.1, to_i) in
+              let sent = (o.letters (suc i) own.0 own.1 x.0).1 (t.0, stands_in o.stays q t.0 t.1, subst (IsIn x.0) (letters_at q t.0 t.1) x.1, to_i) in
               subst (λ z. IsIn z (map event_of l)) (sym x.2) (map_in event_of l x.0 (subst (IsIn x.0) list_is sent))
 
         own_is : (p : ℕ) → IsProcess S p → (k : Key) (y : StepInput) → Has (h.own p) k y ↔ (Has (rest p) k y ⊎ IsPosted S events_of p k y)
@@ -373,9 +431,6 @@ module _ {M : Type 0} (mind : M → Mind) (old : Stage M) (ranges : IsInRange ol
             go (inl r) = left_in p own k y r
             go (inr u) = (posted_in u.0 u.1 k y u.2, u.3)
 
-        no_event : (k : Key) (y : StepInput) → Has finmap.empty k y → ⊥
-        no_event k y i = not_None y (sym (finmap.get-empty key_cmp k) ∙ i)
-
         same_horizon : new.scenario.now.horizon ≡ S.horizon
         same_horizon = ap (λ (r : Record). r.horizon) same_scenario
 
@@ -388,7 +443,7 @@ module _ {M : Type 0} (mind : M → Mind) (old : Stage M) (ranges : IsInRange ol
                 let r = row j inside in
                 let here = there_map (λ b. b.pending) berths j r.1 r.3.berth in
                 all_place (NoneBelow new.start) (map (λ b. b.pending) berths) closed.start.late j r.1.pending here k y (subst (λ e. Has e k y) (at_index j _ r.1.pending finmap.empty here) m)) p own i
-            go (inr not) = absurd (no_event k y (subst (λ m. Has m k y) (nobody (λ b. b.pending) finmap.empty p not) i))
+            go (inr not) = absurd (none_there k y (subst (λ m. Has m k y) (nobody (λ b. b.pending) finmap.empty p not) i))
 
         from_end : end ≤ new.start
         from_end = go closed.start.least
@@ -417,14 +472,14 @@ module _ {M : Type 0} (mind : M → Mind) (old : Stage M) (ranges : IsInRange ol
         are_berths = record {
           berth = run_at;
           own = own_is;
-          others = λ p not k y i. no_event k y (subst (λ m. Has m k y) (nobody (λ b. b.pending) finmap.empty p not) i);
+          others = λ p not k y i. none_there k y (subst (λ m. Has m k y) (nobody (λ b. b.pending) finmap.empty p not) i);
           from_end = from_end;
           to_horizon = omega (arith, closed.start.to_horizon, same_horizon);
           late = none_late;
           part = new_part;
           status = λ p. ap (λ r. first_status (end_of (setting_of r) window new.start) (h.own p)) same_scenario;
-          tray = λ a. no_event;
-          mailbox = λ r. no_event;
+          tray = λ a. none_there;
+          mailbox = λ r. none_there;
         }
 
         stands_new : (window2 : ℕ) → StandsFor (setting_of new.scenario.now) window2 (stage_of mind window2 new) after
@@ -476,15 +531,7 @@ module _ {M : Type 0} (mind : M → Mind) (old : Stage M) (ranges : IsInRange ol
                   r.1,
                   subst (λ n. slice_get berths n ≡ Some r.1) (sym (before_suc i)) r.3.berth,
                   record {
-                    seated = subst (λ z. IsSeated mind s (most_step_actions * new.so_far + most_step_actions * length r.1.part.items) z) (sym r.3.seat) (record {
-                      low = was.seated.low;
-                      high = was.seated.high;
-                      is_mind = was.seated.is_mind;
-                      horizon = was.seated.horizon;
-                      crash = was.seated.crash;
-                      places = was.seated.places;
-                      counts = λ q. omega (arith, was.seated.counts q, more);
-                    });
+                    seated = subst (λ z. IsSeated mind s (most_step_actions * new.so_far + most_step_actions * length r.1.part.items) z) (sym r.3.seat) (seated_more mind s _ _ r.0.after.seat (omega (arith, more)) was.seated);
                     is = ap (own_of mind) r.3.seat ∙ was.is;
                     own = λ k y m. (own_in (suc i) (own_at i inside) k y (subst (λ e. Has e k y) (sym (at_index i _ r.1.pending finmap.empty (there_map (λ b. b.pending) berths i r.1 r.3.berth))) m)).1;
                   },
@@ -516,6 +563,40 @@ module _ {M : Type 0} (mind : M → Mind) (old : Stage M) (ranges : IsInRange ol
         pub outcome_next : IsStageAfter mind (trace_so_far ++ merged) new × IsWindowRun mind window old new merged
         outcome_next = (stage_new, (law.0, law.1, law.2, law.3, law.4, is_merge, closed.longer, from_end, subst (λ n. IsNextStart n (map (λ b. b.pending) berths) new.start) same_horizon closed.start))
 
+    -- where the letters are known as slips posted them
+    module _ (news : List (Berth M)) (slips : List SlipView) (by : IsOutcomeBy mind s end olds news slips) where
+      abbrev posted : List (List Letter)
+      posted = posted_lists slips s.processes
+
+      as_posted : IsOutcome mind s end olds news posted
+      as_posted = by posted (posted_are slips s.processes)
+
+      pub many_by : length news ≡ s.processes
+      many_by = news_many news posted as_posted
+
+      pub rising_by : All (λ b. IsTrue (is_rising b.part.items)) news
+      rising_by = outcome_rising news posted as_posted
+
+      pub disjoint_by : AreDisjoint (map (λ b. b.part.items) news)
+      disjoint_by = outcome_disjoint news posted as_posted
+
+      pub limit_by : (left : ℕ) → left + old.so_far ≡ s.limit → left < length (all_of (map (λ b. b.part.items) news)) → (trace : List EntryRecord) → IsTrace S trace → s.limit < length trace
+      limit_by = outcome_limit news posted as_posted
+
+      pub next_by : (new : Stage M) → new.scenario.now ≡ s → (left : ℕ) → left + old.so_far ≡ s.limit → (merged : List EntryRecord) → IsClosedBy mind left old.so_far news slips merged new
+          → IsStageAfter mind (trace_so_far ++ merged) new × IsWindowRun mind window old new merged
+      next_by new same left sum merged closed =
+          outcome_next news closed.0 (by closed.0 (subst (λ n. AreLettersOf slips n closed.0) many_by closed.1)) new same left sum merged closed.2
+
 -- at the horizon the entries so far are the trace
 pub stage_trace : {M : Type 0} (mind : M → Mind) (stage : Stage M) (trace : List EntryRecord) → IsStageAfter mind trace stage → stage.start ≡ stage.scenario.now.horizon → IsTrace (setting_of stage.scenario.now) trace
 stage_trace mind stage trace is at = reached_end (setting_of stage.scenario.now) is.world trace is.reached (λ k y i. omega (arith, at, (is.stands 0).late k y i))
+
+-- ---- for the code: the same facts of values that are equal
+
+pub sum_of : (limit most n : ℕ) → limit ≡ most → n ≤ most → (limit - n) + n ≡ most
+sum_of limit most n a le = omega arith
+
+-- what holds of three things holds of those that equal them
+pub of_same : {A B C : Type 0} (P : A → B → C → Type 0) (a a2 : A) (b b2 : B) (c c2 : C) → a ≡ a2 → b ≡ b2 → c ≡ c2 → P a b c → P a2 b2 c2
+of_same {A} {B} {C} P a a2 b b2 c c2 p q r = subst (λ (t : A × B × C). P t.0 t.1 t.2) (λ i. (p i, q i, r i))

@@ -1,30 +1,40 @@
 -- What is brought together after a window.
-use Rattle.std.proofs.Common.{◌≡◌, ◌⊎◌, ◌↔◌, ℕ, zero, suc, ◌-◌, ◌<◌, ◌≤◌, inl, inr, List, [], ◌∷◌, ◌++◌, length, map, replicate, set, get_or, refl, sym, ap, ◌∙◌, subst, append_assoc, append-nil, vec_len, arith}
-use Rattle.std.specs.List.{All, swap}
+use Rattle.std.proofs.Common.{◌≡◌, ◌⊎◌, ◌↔◌, ℕ, zero, suc, ◌-◌, ◌<◌, ◌≤◌, inl, inr, List, [], ◌∷◌, ◌++◌, length, map, replicate, set, get_or, refl, sym, ap, ◌∙◌, subst, append_assoc, append-nil, vec_len, arith, length-append, Bool, cond, filter, nat_eq, ⊎_elim, Option, Some, option_to_list, Result, Ok, Err, IfOk, IfErr, IsErrOf}
+use Rattle.std.specs.List.{All, swap, flat_map}
 use Rattle.std.specs.List.Sorted.{IsPermutation, IsNonDecreasingBy, apply_swaps, SwapsInRange}
 use Rattle.std.proofs.Math.Seq.{take-append_seam, drop-append_seam}
-use Rattle.std.proofs.lemmas.Bool.{cases_eq}
+use Rattle.std.proofs.lemmas.Bool.{cases_eq, eq-eqb, ne_eqb, eqb-true}
 use Rattle.std.proofs.lemmas.Grind.{get_or-set_at}
-use Rattle.std.proofs.lemmas.List.{map-append, map-set, length-map, length-set, length-replicate, get_or-set_other, get_or-map}
+use Rattle.std.proofs.lemmas.List.{map-append, map-set, length-map, length-set, length-replicate, get_or-set_other, get_or-map, get_or-replicate}
 use Rattle.std.proofs.lemmas.List.Concat.{flat_map-append}
-use Rattle.std.proofs.lemmas.List.Elements.{All-nil, All-cons, All-append, All-map, All-take, All-drop, Contains-append_left}
+use Rattle.std.proofs.lemmas.List.Elements.{All-nil, All-cons, All-append, All-map, All-take, All-drop, Contains-append_left, All-push, All-head, All-same, filter-append}
 use Rattle.std.proofs.lemmas.List.Sorted.{IsPermutation-refl, IsPermutation-trans, IsPermutation-sym, IsPermutation-middle, IsPermutation-append_left, IsPermutation-append_right, IsPermutation-push_more, IsPermutation-map, All-permutation, Contains-permutation}
 use Rattle.process_api.specs.Mind.{Mind}
 use Rattle.process_api.specs.declared.message.Letter.{Letter}
 use Rattle.scenario_record.specs.Record.{Record}
 use Rattle.mailboxes.specs.Mailbox.{MailboxId}
-use Rattle.mailboxes.specs.Mailboxes.{SlipView, IsSlipOf, unused, filed, list_of, posted_to}
+use Rattle.mailboxes.specs.Mailboxes.{SlipView, IsSlipOf, unused, slip_of, filed, list_of, posted_to}
 use Rattle.trace_laws.specs.History.{IsIn}
 use Rattle.steps.specs.Seat.{own_of}
 use Rattle.trace_laws.specs.World.{NoneBelow}
-use Rattle.window_laws.proofs.Unions.{iff_join}
-use Rattle.windows.proofs.Ranked.{in_permutation, rises_same, sorted_is}
+use Rattle.window_laws.proofs.Unions.{in_filter, filter_in}
+use Rattle.windows.proofs.Places.{in_permutation, rises_same, sorted_is}
 use Rattle.trace_laws.proofs.Steps.{in_append, in_left, in_right}
 use Rattle.windows.specs.Berth.{IsBerth, all_filed, with_letters}
-use Rattle.deques.specs.Deques.{DequeId, RestView, all_put}
-use Rattle.windows.specs.Inside.Workers.{Stay, stay, taken_in, left_in, all_stays, with_stays, IsSent, IsStay, IsReady, IsFresh, AreRunBy, AreWorks, AreRun, IsRest, HasLong, IsOutcome, RiseBy}
+use Rattle.deques.specs.Deques.{DequeId, RestView, all_put, HandView, TookOne}
+use Rattle.windows.specs.Inside.Workers.{Stay, stay, taken_in, left_in, all_stays, with_stays, IsSent, IsStay, IsReady, IsFresh, AreRunBy, AreWorks, AreRun, IsRest, HasLong, IsOutcome, RiseBy, IsWork}
 use Rattle.windows.specs.declared.workers.Start.{Start}
 use Rattle.windows.specs.declared.berth.Berth.{Berth}
+use Rattle.std.specs.Global.{Vec}
+use Rattle.process_api.specs.declared.run_error.RunError.{RunError}
+use Rattle.process_api.specs.declared.run_error.RunError.TheVariants.{Limit, Memory}
+use Rattle.deques.proofs.Deals.{map_push}
+use Rattle.windows.specs.Refusals.{AreThere, IsFirstRefusal, IsRefusal, IsRefusalOfOne}
+use Rattle.windows.specs.Inside.Shared.{IsWorkIn, IsAnswerTo, IsOneTooLong, KnowOneTooLong, AreAnswers}
+use Rattle.windows.specs.declared.shared.Shared.{Shared}
+use Rattle.windows.specs.declared.workers.Work.{Work}
+use Rattle.windows.proofs.Handed.{not_err}
+use Rattle.windows.proofs.Letters.{filed_more}
 
 -- ---- who waits
 
@@ -63,24 +73,6 @@ module _ {M : Type 0} (mind : M → Mind) (s : Record) (end : ℕ) (mailboxes : 
   pub works_taken : (taken taken' done : List (Berth M)) (slips : List SlipView) → AreWorks mind s end mailboxes taken done slips → IsPermutation taken taken' → AreWorks mind s end mailboxes taken' done slips
   works_taken taken taken' done slips are same = record { stays = are.stays; each = are.each; taken_are = IsPermutation-trans _ _ _ are.taken_are same; done_are = are.done_are; posted = are.posted }
 
--- ---- which letters the slips have
-
-iff_none : {A C : Type 0} → (C → ⊥) → A ↔ (A ⊎ C)
-iff_none {A} {C} none = ((λ a. inl a), back)
-  where
-    back : A ⊎ C → A
-    back (inl a) = a
-    back (inr c) = absurd (none c)
-
-none_there : (x : Letter) (n k : ℕ) → IsIn x (get_or (replicate n []) k []) → ⊥
-none_there x zero k i = absurd i
-none_there x (suc n) zero i = absurd i
-none_there x (suc n) (suc k) i = none_there x n k i
-
-long_letters : (rows : List (List Letter)) (letters : List Letter) → length (all_filed rows letters) ≡ length rows
-long_letters rows [] = refl
-long_letters rows (y ∷ letters) = long_letters (filed rows y) letters ∙ length-set rows (y.key.receiver - 1) (list_of rows y.key.receiver ++ y ∷ [])
-
 all_of_map : {X Y : Type 0} (P : Y → Type 0) (f : X → Y) (xs : List X) → All P (map f xs) → All (λ x. P (f x)) xs
 all_of_map P f xs h k d lt = subst P (get_or-map f xs k d (f d) lt) (h k (f d) (subst (λ n. k < n) (sym (length-map xs f)) lt))
 
@@ -109,9 +101,6 @@ module _ {M : Type 0} (stays more : List (Stay M)) (r : ℕ) (x : Letter) where
   sent_left : IsSent stays r x → IsSent (stays ++ more) r x
   sent_left (t, i, j, to) = (t, in_left t stays more i, j, to)
 
-  sent_right : IsSent more r x → IsSent (stays ++ more) r x
-  sent_right (t, i, j, to) = (t, in_right t stays more i, j, to)
-
   sent_split : IsSent (stays ++ more) r x → IsSent stays r x ⊎ IsSent more r x
   sent_split (t, i, j, to) = go (in_append t stays more i)
     where
@@ -119,88 +108,54 @@ module _ {M : Type 0} (stays more : List (Stay M)) (r : ℕ) (x : Letter) where
       go (inl i) = inl (t, i, j, to)
       go (inr i) = inr (t, i, j, to)
 
-module _ (x : Letter) where
-  in_both : (xs ys : List Letter) → IsIn x (xs ++ ys) ↔ (IsIn x xs ⊎ IsIn x ys)
-  in_both xs ys = (in_append x xs ys, back)
-    where
-      back : IsIn x xs ⊎ IsIn x ys → IsIn x (xs ++ ys)
-      back (inl i) = in_left x xs ys i
-      back (inr i) = in_right x xs ys i
+-- ---- which letters the slips have
 
-  in_row : (rows : List (List Letter)) (i k : ℕ) (y : Letter) → k < length rows → IsIn x (get_or (set rows i (get_or rows i [] ++ y ∷ [])) k []) ↔ (IsIn x (get_or rows k []) ⊎ ((x ≡ y) × (i ≡ k)))
-  in_row rows i k y lt = go (cases_eq k i)
-    where
-      one : k ≡ i → IsIn x (y ∷ []) → (x ≡ y) × (i ≡ k)
-      one e (inl same) = (same, sym e)
-      one e (inr none) = absurd none
-
-      go : (k ≡ i) ⊎ (k ≡ i → ⊥) → IsIn x (get_or (set rows i (get_or rows i [] ++ y ∷ [])) k []) ↔ (IsIn x (get_or rows k []) ⊎ ((x ≡ y) × (i ≡ k)))
-      go (inl e) = subst (λ l. IsIn x l ↔ (IsIn x (get_or rows k []) ⊎ ((x ≡ y) × (i ≡ k)))) (sym (get_or-set_at rows i k (get_or rows i [] ++ y ∷ []) [] e (omega arith)))
-          (subst (λ j. IsIn x (get_or rows j [] ++ y ∷ []) ↔ (IsIn x (get_or rows k []) ⊎ ((x ≡ y) × (i ≡ k)))) e
-          (iff_join (in_both (get_or rows k []) (y ∷ [])) (iff_none (λ (never : ⊥). never)) (λ never. absurd never) (one e) (λ d. inr (inl d.0))))
-      go (inr n) = subst (λ l. IsIn x l ↔ (IsIn x (get_or rows k []) ⊎ ((x ≡ y) × (i ≡ k)))) (sym (get_or-set_other rows i k (get_or rows i [] ++ y ∷ []) [] n)) (iff_none (λ d. n (sym d.1)))
-
-  module _ (r : ℕ) where
-    in_letters : (rows : List (List Letter)) (letters : List Letter) → r - 1 < length rows
-        → IsIn x (list_of (all_filed rows letters) r) ↔ (IsIn x (list_of rows r) ⊎ (IsIn x letters × (x.key.receiver - 1 ≡ r - 1)))
-    in_letters rows [] lt = iff_none (λ e. e.0)
-    in_letters rows (y ∷ letters) lt =
-        iff_join (in_letters (filed rows y) letters (subst (λ n. r - 1 < n) (sym (length-set rows (y.key.receiver - 1) (list_of rows y.key.receiver ++ y ∷ []))) lt))
-        (in_row rows (y.key.receiver - 1) (r - 1) y lt)
-        (λ e. (inl e.0, ap (λ (z : Letter). z.key.receiver - 1) e.0 ∙ e.1)) (λ e. (inr e.0, e.1)) (λ e. split e.0 e.1)
-      where
-        split : (x ≡ y) ⊎ IsIn x letters → x.key.receiver - 1 ≡ r - 1 → ((x ≡ y) × (y.key.receiver - 1 ≡ r - 1)) ⊎ (IsIn x letters × (x.key.receiver - 1 ≡ r - 1))
-        split (inl e) to = inl (e, ap (λ (z : Letter). z.key.receiver - 1) (sym e) ∙ to)
-        split (inr i) to = inr (i, to)
-
-    module _ {M : Type 0} where
-      in_stays : (slip : SlipView) (stays : List (Stay M)) → r - 1 < length slip.posted → IsIn x (list_of (with_stays slip stays).posted r) ↔ (IsIn x (list_of slip.posted r) ⊎ IsSent stays r x)
-      in_stays slip [] lt = iff_none (λ (e : IsSent {M = M} [] r x). e.1)
-      in_stays slip (t ∷ stays) lt =
-          iff_join (in_stays (with_letters slip t.letters) stays (subst (λ n. r - 1 < n) (sym (long_letters slip.posted t.letters)) lt)) (in_letters slip.posted t.letters lt)
-          (λ e. (t, inl refl, e.0, e.1)) (sent_right (t ∷ []) stays r x) (λ e. apart (sent_split (t ∷ []) stays r x e))
-        where
-          apart : IsSent (t ∷ []) r x ⊎ IsSent stays r x → (IsIn x t.letters × (x.key.receiver - 1 ≡ r - 1)) ⊎ IsSent stays r x
-          apart (inl (u, inl e, j, to)) = inl (subst (λ (v : Stay M). IsIn x v.letters) e j, to)
-          apart (inl (u, inr none, j, to)) = absurd none
-          apart (inr e) = inr e
-
-      slips_step : (mailboxes : List MailboxId) → r - 1 < length mailboxes → (stays : List (Stay M)) (all : List (List (Stay M)))
-          → IsIn x (posted_to (map (with_stays (unused mailboxes)) all) r) ↔ IsSent (all_stays all) r x
-          → IsIn x (posted_to (map (with_stays (unused mailboxes)) (stays ∷ all)) r) ↔ IsSent (all_stays (stays ∷ all)) r x
-      slips_step mailboxes lt stays all rest = ((λ i. now (both.0 i)), (λ e. both.1 (inr e)))
-        where
-          later : IsSent stays r x ⊎ IsSent (all_stays all) r x → IsSent stays r x ⊎ IsIn x (posted_to (map (with_stays (unused mailboxes)) all) r)
-          later (inl e) = inl e
-          later (inr e) = inr (rest.1 e)
-
-          both : IsIn x (posted_to (map (with_stays (unused mailboxes)) (stays ∷ all)) r) ↔ (IsIn x (list_of (unused mailboxes).posted r) ⊎ IsSent (stays ++ all_stays all) r x)
-          both = iff_join (in_both (list_of (with_stays (unused mailboxes) stays).posted r) (posted_to (map (with_stays (unused mailboxes)) all) r))
-              (in_stays (unused mailboxes) stays (subst (λ n. r - 1 < n) (sym (length-replicate (length mailboxes) [])) lt))
-              (sent_left stays (all_stays all) r x) (λ i. sent_right stays (all_stays all) r x (rest.0 i)) (λ e. later (sent_split stays (all_stays all) r x e))
-
-          now : IsIn x (list_of (unused mailboxes).posted r) ⊎ IsSent (stays ++ all_stays all) r x → IsSent (stays ++ all_stays all) r x
-          now (inl i) = absurd (none_there x (length mailboxes) (r - 1) i)
-          now (inr e) = e
-
-      -- each list of stays has its slip
-      pub in_slips : (mailboxes : List MailboxId) → r - 1 < length mailboxes → (all : List (List (Stay M))) → IsIn x (posted_to (map (with_stays (unused mailboxes)) all) r) ↔ IsSent (all_stays all) r x
-      in_slips mailboxes lt [] = ((λ i. absurd i), (λ e. absurd e.1))
-      in_slips mailboxes lt (stays ∷ all) = slips_step mailboxes lt stays all (in_slips mailboxes lt all)
-
--- ---- from works to a run
+-- a letter is to the receiver whose list is at this place
+abbrev is_to : ℕ → Letter → Bool
+is_to k x = nat_eq (x.key.receiver - 1) k
 
 module _ {M : Type 0} where
-  stays_mailboxes : (slip : SlipView) (stays : List (Stay M)) → (with_stays slip stays).mailboxes ≡ slip.mailboxes
-  stays_mailboxes slip [] = refl
-  stays_mailboxes slip (t ∷ stays) = stays_mailboxes (with_letters slip t.letters) stays
+  abbrev sent : List (Stay M) → List Letter
+  sent stays = flat_map (λ t. t.letters) stays
 
-  slips_of : (mailboxes : List MailboxId) (all : List (List (Stay M))) → All (IsSlipOf mailboxes) (map (with_stays (unused mailboxes)) all)
-  slips_of mailboxes [] = All-nil (IsSlipOf mailboxes)
-  slips_of mailboxes (stays ∷ all) = All-cons (IsSlipOf mailboxes) (with_stays (unused mailboxes) stays) (map (with_stays (unused mailboxes)) all) (stays_mailboxes (unused mailboxes) stays) (slips_of mailboxes all)
+  sent_in : (stays : List (Stay M)) (x : Letter) → IsIn x (sent stays) → (t : Stay M) × IsIn t stays × IsIn x t.letters
+  sent_in [] x i = absurd i
+  sent_in (t ∷ stays) x i = ⊎_elim (λ (j : IsIn x t.letters). (t, inl refl, j)) (λ (j : IsIn x (sent stays)). let r = sent_in stays x j in (r.0, inr r.1, r.2)) (in_append x t.letters (sent stays) i)
 
-place_in : (r n m : ℕ) → 1 ≤ r → r ≤ n → m ≡ n → r - 1 < m
-place_in r n m low high e = omega arith
+  in_sent : (stays : List (Stay M)) (t : Stay M) (x : Letter) → IsIn t stays → IsIn x t.letters → IsIn x (sent stays)
+  in_sent [] t x i j = absurd i
+  in_sent (u ∷ stays) t x (inl e) j = in_left x u.letters (sent stays) (subst (λ (v : Stay M). IsIn x v.letters) e j)
+  in_sent (u ∷ stays) t x (inr i) j = in_right x u.letters (sent stays) (in_sent stays t x i j)
+
+module _ (k : ℕ) where
+  one_filed : (rows : List (List Letter)) (y : Letter) → k < length rows → get_or (filed rows y) k [] ≡ get_or rows k [] ++ filter (is_to k) (y ∷ [])
+  one_filed rows y lt = go (cases_eq k (y.key.receiver - 1))
+    where
+      go : (k ≡ y.key.receiver - 1) ⊎ (k ≡ y.key.receiver - 1 → ⊥) → get_or (filed rows y) k [] ≡ get_or rows k [] ++ filter (is_to k) (y ∷ [])
+      go (inl e) = get_or-set_at rows (y.key.receiver - 1) k (list_of rows y.key.receiver ++ y ∷ []) [] e (omega (arith, e, lt)) ∙ (λ i. get_or rows (sym e i) [] ++ cond (sym (eq-eqb (y.key.receiver - 1) k (sym e)) i) (y ∷ []) [])
+      go (inr n) = get_or-set_other rows (y.key.receiver - 1) k (list_of rows y.key.receiver ++ y ∷ []) [] n ∙ sym (append-nil (get_or rows k [])) ∙ ap (λ b. get_or rows k [] ++ cond b (y ∷ []) []) (sym (ne_eqb (y.key.receiver - 1) k (λ e. n (sym e))))
+
+  all_filed_at : (rows : List (List Letter)) (letters : List Letter) → k < length rows → get_or (all_filed rows letters) k [] ≡ get_or rows k [] ++ filter (is_to k) letters
+  all_filed_at rows [] lt = sym (append-nil (get_or rows k []))
+  all_filed_at rows (y ∷ letters) lt =
+      all_filed_at (filed rows y) letters (subst (λ n. k < n) (sym (length-set rows (y.key.receiver - 1) (list_of rows y.key.receiver ++ y ∷ []))) lt) ∙ ap (λ l. l ++ filter (is_to k) letters) (one_filed rows y lt)
+      ∙ append_assoc (get_or rows k []) (filter (is_to k) (y ∷ [])) (filter (is_to k) letters) ∙ ap (λ l. get_or rows k [] ++ l) (sym (filter-append (is_to k) (y ∷ []) letters))
+
+  posted_at : {M : Type 0} (mailboxes : List MailboxId) → k < length mailboxes → (all : List (List (Stay M))) → flat_map (λ s. get_or s.posted k []) (map (with_stays (unused mailboxes)) all) ≡ filter (is_to k) (sent (all_stays all))
+  posted_at mailboxes lt [] = refl
+  posted_at mailboxes lt (stays ∷ all) =
+      let n = length mailboxes in
+      (λ i. (all_filed_at (replicate n []) (sent stays) (omega (arith, lt, length-replicate {A = List Letter} n [])) ∙ ap (λ l. l ++ filter (is_to k) (sent stays)) (get_or-replicate n k [] [] lt)) i ++ posted_at mailboxes lt all i)
+      ∙ sym (filter-append (is_to k) (sent stays) (sent (all_stays all))) ∙ ap (filter (is_to k)) (sym (flat_map-append (λ (t : Stay _). t.letters) stays (all_stays all)))
+
+-- each list of stays has its slip
+in_slips : {M : Type 0} (x : Letter) (r : ℕ) (mailboxes : List MailboxId) → r - 1 < length mailboxes → (all : List (List (Stay M))) → IsIn x (posted_to (map (with_stays (unused mailboxes)) all) r) ↔ IsSent (all_stays all) r x
+in_slips x r mailboxes lt all = subst (λ l. IsIn x l ↔ IsSent (all_stays all) r x) (sym (posted_at (r - 1) mailboxes lt all)) (
+  (λ i. let f = in_filter (is_to (r - 1)) x (sent (all_stays all)) i in let s = sent_in (all_stays all) x f.0 in (s.0, s.1, s.2, eqb-true _ _ f.1)),
+  (λ s. filter_in (is_to (r - 1)) x (sent (all_stays all)) (in_sent (all_stays all) s.0 x s.1 s.2) (eq-eqb _ _ s.3)),
+)
+
+-- ---- from works to a run
 
 module _ {M : Type 0} (mind : M → Mind) (s : Record) (end : ℕ) (mailboxes : List MailboxId) where
   pub run_of_works : (taken put done : List (Berth M)) (slips : List SlipView) → AreWorks mind s end mailboxes taken done slips → IsPermutation put taken → length mailboxes ≡ s.processes
@@ -210,8 +165,8 @@ module _ {M : Type 0} (mind : M → Mind) (s : Record) (end : ℕ) (mailboxes : 
     each = works.each;
     olds_are = IsPermutation-trans _ _ _ works.taken_are (IsPermutation-sym put taken same);
     news_are = works.done_are;
-    of_mailboxes = subst (All (IsSlipOf mailboxes)) works.posted (slips_of mailboxes works.stays);
-    posted = λ r low high x. subst (λ l. IsIn x (posted_to l r) ↔ IsSent (all_stays works.stays) r x) works.posted (in_slips x r mailboxes (place_in r s.processes (length mailboxes) low high count) works.stays);
+    of_mailboxes = subst (All (IsSlipOf mailboxes)) works.posted (All-map (IsSlipOf mailboxes) (with_stays (unused mailboxes)) works.stays (λ k d l. refl));
+    posted = λ r low high x. subst (λ l. IsIn x (posted_to l r) ↔ IsSent (all_stays works.stays) r x) works.posted (in_slips x r mailboxes (omega (arith, low, high, count)) works.stays);
   }
 
   abbrev idle : List (Berth M) → List (Stay M)
@@ -327,3 +282,115 @@ module _ {M : Type 0} (mind : M → Mind) (s : Record) (end : ℕ) where
       let run : AreRunBy mind s end m rest.rest slip mine = subst (λ l. AreRunBy mind s end l rest.rest slip mine) e2 rest.run in
       let all : AreWorks mind s end m new.taken done' slips' = works_more mind s end m slip mine rest.rest old.taken new.taken done done' slips slips' are run rest.taken d p in
       run_of_works mind s end m new.taken put done' slips' all (subst (λ l. IsPermutation l new.taken) same rest.same) count
+
+-- ---- A worker's work grows by one berth at a time.
+
+module _ {M : Type 0} where
+  stays_more : (slip : SlipView) (stays : List (Stay M)) (t : Stay M) → with_letters (with_stays slip stays) t.letters ≡ with_stays slip (stays ++ t ∷ [])
+  stays_more slip stays t = ap (slip_of slip.mailboxes) (filed_more slip.posted (sent stays) t.letters
+      ∙ ap (all_filed slip.posted) (sym (flat_map-append (λ (u : Stay M). u.letters) stays (t ∷ []) ∙ ap (λ l. sent stays ++ l) (append-nil t.letters))))
+
+  module _ (mind : M → Mind) (s : Record) (end : ℕ) (mailboxes : List MailboxId) where
+    pub run_begins : (taken : List (Berth M)) (slip : SlipView) (done : List (Berth M)) → taken ≡ [] → slip ≡ unused mailboxes → done ≡ [] → AreRunBy mind s end mailboxes taken slip done
+    run_begins taken slip done t p d = record {
+      of_mailboxes = ap (λ (v : SlipView). v.mailboxes) p;
+      stays = [];
+      each = All-nil (IsStay mind s end);
+      taken_are = subst (IsPermutation []) (sym t) (IsPermutation-refl []);
+      done_are = sym d;
+      posted = p;
+    }
+
+    pub run_more : (slip slip' : SlipView) (done done' : List (Berth M)) (before after : Berth M) (letters : List Letter) → IsStay mind s end (stay before after letters) → IsSlipOf mailboxes slip' → slip' ≡ with_letters slip letters
+        → done' ≡ done ++ after ∷ [] → (taken : List (Berth M)) → AreRunBy mind s end mailboxes taken slip done → AreRunBy mind s end mailboxes (taken ++ before ∷ []) slip' done'
+    run_more slip slip' done done' before after letters one of posts adds taken run = record {
+      of_mailboxes = of;
+      stays = run.stays ++ stay before after letters ∷ [];
+      each = All-push (IsStay mind s end) run.stays (stay before after letters) run.each one;
+      taken_are = subst (λ l. IsPermutation l (taken ++ before ∷ [])) (sym (map-append (λ (t : Stay M). t.before) run.stays (stay before after letters ∷ [])))
+          (IsPermutation-append_left (before ∷ []) _ _ run.taken_are);
+      done_are = map-append (λ (t : Stay M). t.after) run.stays (stay before after letters ∷ []) ∙ ap (λ l. l ++ after ∷ []) run.done_are ∙ sym adds;
+      posted = posts ∙ ap (λ v. with_letters v letters) run.posted ∙ stays_more (unused mailboxes) run.stays (stay before after letters);
+    }
+
+    module _ (deques : List DequeId) where
+      pub work_begins : (hand : HandView (Berth M)) (slip : SlipView) (done : List (Berth M)) → IsFresh deques mailboxes hand slip → done ≡ [] → IsWork mind s end deques mailboxes hand slip done
+      work_begins hand slip done fresh none = record { of_deques = fresh.of_deques; run = run_begins hand.taken slip done fresh.none_taken fresh.none_posted none }
+
+      pub work_more : (hand hand' : HandView (Berth M)) (slip slip' : SlipView) (done done' : List (Berth M)) (b : Berth M) → IsWork mind s end deques mailboxes hand slip done → TookOne hand hand' b
+          → AreRunBy mind s end mailboxes (hand.taken ++ b ∷ []) slip' done' → IsWork mind s end deques mailboxes hand' slip' done'
+      work_more hand hand' slip slip' done done' b work (taken, is, takes, among) run = record {
+        of_deques = ap (λ (h : HandView (Berth M)). h.deques) is ∙ work.of_deques;
+        run = record { of_mailboxes = run.of_mailboxes; stays = run.stays; each = run.each; taken_are = IsPermutation-trans _ _ _ run.taken_are (subst (IsPermutation (hand.taken ++ b ∷ [])) (sym (ap (λ (h : HandView (Berth M)). h.taken) is)) takes); done_are = run.done_are; posted = run.posted };
+      }
+
+-- ---- What workers answer together, one worker more.
+
+pub popped : {X : Type 0} (xs ys : List X) (o : Option X) (x : X) → xs ≡ ys ++ option_to_list o → o ≡ Some x → xs ≡ ys ++ x ∷ []
+popped xs ys o x e is = e ∙ ap (λ r. ys ++ option_to_list r) is
+
+pub answer_at : {M G : Type 0} (mind : M → Mind) (w w' : Shared M G) (start start' : Start M) (r : Result (Work M) RunError) → w ≡ w' → start ≡ start' → IsAnswerTo mind w start r → IsAnswerTo mind w' start' r
+answer_at mind w w' start start' r e is answer = subst (λ v. IsAnswerTo mind v start' r) e (subst (λ s. IsAnswerTo mind w s r) is answer)
+
+same_err : {A : Type 0} (e d : RunError) → ◌≡◌ {A = Result A RunError} (Err e) (Err d) → e ≡ d
+same_err e d is = cc
+
+not_limit : (e : RunError) → e ≡ Memory → e ≡ Limit → ⊥
+not_limit e memory limit = cc
+
+by_three : {A B C D : Type 0} → (A → D) → (B → D) → (C → D) → A ⊎ (B ⊎ C) → D
+by_three f g h (inl a) = f a
+by_three f g h (inr (inl b)) = g b
+by_three f g h (inr (inr c)) = h c
+
+of_one : (e : RunError) → IsRefusalOfOne e → IsRefusal e
+of_one e (inl limit) = inl limit
+of_one e (inr memory) = inr (inl memory)
+
+module _ {M G : Type 0} (mind : M → Mind) (w : Shared M G) (starts starts' : List (Start M)) (start : Start M) (first : starts ≡ starts' ++ start ∷ [])
+    (rest : Result (Vec (Work M)) RunError) (mine : Result (Work M) RunError) (are : AreAnswers mind w starts' rest) (answer : IsAnswerTo mind w start mine) where
+  module _ (works before : Vec (Work M)) (work : Work M) (rest_is : rest ≡ Ok before) (mine_is : mine ≡ Ok work) (more : works.items ≡ before.items ++ work ∷ []) where
+    all_worked : AreAnswers mind w starts (Ok works)
+    all_worked =
+        let few : vec_len before ≡ length starts' = subst (λ r. IfOk r (λ v. vec_len v ≡ length starts')) rest_is are.count in
+        let theirs : map (λ (x : Work M). x.hand.own) before.items ≡ map (λ (b : Start M). b.hand.own) starts' = subst (λ r. IfOk r (λ v. map (λ (x : Work M). x.hand.own) v.items ≡ map (λ (b : Start M). b.hand.own) starts')) rest_is are.own in
+        let ours : work.hand.own ≡ start.hand.own = subst (λ r. IfOk r (λ (x : Work M). x.hand.own ≡ start.hand.own)) mine_is answer.own in
+        let worked : All (IsWorkIn mind w) before.items = subst (λ r. IfOk r (λ v. All (IsWorkIn mind w) v.items)) rest_is are.works in
+        record {
+          count = omega (arith, few, works.ok.0, before.ok.0, ap length more, ap length first, length-append before.items (work ∷ []), length-append starts' (start ∷ []));
+          own = map_push (λ (x : Work M). x.hand.own) before.items works.items work more ∙ (λ i. theirs i ++ ours i ∷ []) ∙ sym (map_push (λ (b : Start M). b.hand.own) starts' starts start first);
+          works = All-same (IsWorkIn mind w) works.items (before.items ++ work ∷ []) more (All-push (IsWorkIn mind w) before.items work worked (subst (λ r. IfOk r (IsWorkIn mind w)) mine_is answer.work));
+          errors = tt;
+          limit = λ is. absurd (not_err works Limit is);
+        }
+
+  their_limit : rest ≡ Err Limit → KnowOneTooLong mind w starts
+  their_limit is known all = are.limit is known (all_front (λ (b : Start M). b.hand.known ≡ known) starts' (start ∷ []) (subst (All (λ (b : Start M). b.hand.known ≡ known)) first all))
+
+  our_limit : mine ≡ Err Limit → KnowOneTooLong mind w starts
+  our_limit is known all =
+      let last = all_back (λ (b : Start M). b.hand.known ≡ known) starts' (start ∷ []) (subst (All (λ (b : Start M). b.hand.known ≡ known)) first all) in
+      subst (IsOneTooLong mind w.window.now) (All-head (λ (b : Start M). b.hand.known ≡ known) start [] last) (answer.limit is)
+
+  all_refused : (e : RunError) → (e ≡ Memory) ⊎ (IsErrOf rest e ⊎ IsErrOf mine e) → AreAnswers mind w starts (Err e)
+  all_refused e why = record {
+    count = tt;
+    own = tt;
+    works = tt;
+    errors = by_three (λ (memory : e ≡ Memory). inr (inl memory)) (λ (theirs : rest ≡ Err e). subst (λ r. IfErr r IsRefusal) theirs are.errors)
+        (λ (ours : mine ≡ Err e). of_one e (subst (λ r. IfErr r IsRefusalOfOne) ours answer.errors)) why;
+    limit = λ is.
+        let same : e ≡ Limit = same_err e Limit is in
+        by_three (λ (memory : e ≡ Memory). absurd (not_limit e memory same)) (λ (theirs : rest ≡ Err e). their_limit (theirs ∙ ap Err same)) (λ (ours : mine ≡ Err e). our_limit (ours ∙ ap Err same)) why;
+  }
+
+  -- the refusal is one of theirs or ours, or that of memory
+  one_of : (e : RunError) → IsFirstRefusal rest mine e ⊎ ((e ≡ Memory) × AreThere rest mine) → (e ≡ Memory) ⊎ (IsErrOf rest e ⊎ IsErrOf mine e)
+  one_of e (inl first) = inr first.one
+  one_of e (inr last) = inl last.0
+
+  -- where one worker more answers, after those that began before it
+  pub answers_more : (r : Result (Vec (Work M)) RunError) → IfOk r (λ works. (before : Vec (Work M)) × (work : Work M) × (rest ≡ Ok before) × (mine ≡ Ok work) × (works.items ≡ before.items ++ work ∷ []))
+      → IfErr r (λ e. IsFirstRefusal rest mine e ⊎ ((e ≡ Memory) × AreThere rest mine)) → AreAnswers mind w starts r
+  answers_more (Ok works) ok err = all_worked works ok.0 ok.1 ok.2 ok.3 ok.4
+  answers_more (Err e) ok err = all_refused e (one_of e err)

@@ -51,8 +51,7 @@ fn empty_all<R: Threads + Wait + Sync>(
         AreLettersOf slips.items (length mailboxes.mailboxes) (letters_in r.1.items)) }
     ensures errors { IfErr result (λ e. e ≡ Memory) }
 {
-    let lists = mailboxes.lists(alloc)?;
-    mailboxes.empty_by(rt, alloc, threads, lists, slips)
+    mailboxes.empty_by(rt, alloc, threads, slips)
 }
 
 /// Merges the parts, and empties the mailboxes: at once, by so many threads, the caller's among them, of which one

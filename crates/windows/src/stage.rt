@@ -71,19 +71,7 @@ fn berths_of<M: Process>(
     Ok(berths)
 }
 
-/// A berth gives its part of the window, and keeps an empty one.
-fn take_part<M>(alloc: Global, berth: &mut Berth<M>) -> Result<Vec<Entry>, AllocError>
-    ensures seat { OnOk result (berth.new.seat ≡ berth.old.seat) }
-    ensures pending { OnOk result (berth.new.pending ≡ berth.old.pending) }
-    ensures empty { OnOk result (berth.new.part.items ≡ []) }
-    ensures entries { IfOk result (λ v. v.items ≡ berth.old.part.items) }
-{
-    // as much room as this window's part took
-    let next = Vec::with_capacity(alloc, berth.part.len())?;
-    Ok(replace(&mut berth.part, next))
-}
-
-/// Each berth gives its part of the window. Answers the berths, and the parts in the same order.
+/// Each berth gives its part of the window, and keeps an empty one. Answers the berths, and the parts in the same order.
 fn take_parts<M: Process>(
     alloc: Global,
     berths: Vec<Berth<M>>,
@@ -96,7 +84,9 @@ fn take_parts<M: Process>(
     let mut done = Vec::with_capacity(alloc, berths.len())?;
     let mut parts = Vec::with_capacity(alloc, berths.len())?;
     for mut berth in berths {
-        parts.push(take_part(alloc, &mut berth)?)?;
+        // as much room as this window's part took
+        let next = Vec::with_capacity(alloc, berth.part.len())?;
+        parts.push(replace(&mut berth.part, next))?;
         done.push(berth)?;
     }
     Ok((done, parts))

@@ -41,8 +41,7 @@ module _ {M : Type 0} where
 
   -- a slip after the letters of these runs were posted by it
   abbrev pub with_stays : SlipView → List (Stay M) → SlipView
-  with_stays slip [] = slip
-  with_stays slip (t ∷ stays) = with_stays (with_letters slip t.letters) stays
+  with_stays slip stays = with_letters slip (flat_map (λ t. t.letters) stays)
 
   -- a letter to receiver r is one of these runs
   abbrev pub IsSent : List (Stay M) → (r : ℕ) → Letter → Type 0

@@ -2,7 +2,7 @@ use Rattle.std.proofs.Common.{◌∙◌, ◌+◌, ap, sym, subst}
 use Rattle.std.specs.FinMap as events
 use Rattle.trace_laws.specs.World.{joined}
 use Rattle.pending_events.specs.Inside.Calendar.{IsParted}
-use Rattle.pending_events.proofs.Parted.{filled, filled_same, filled_some, no_event, none_filled}
+use Rattle.pending_events.proofs.Nearby.{filled, filled_same, filled_some, no_event, none_filled}
 use Rattle.pending_events.proofs.pending.fill.Goals as goal
 
 pub returns-in_err-bucket-clause-parted : goal.returns-in_err-bucket-clause-parted

@@ -4,7 +4,7 @@ use Rattle.std.proofs.lemmas.List.Sorted.{IsPermutation-trans}
 use Rattle.process_api.specs.EntryRecord.{EntryRecord}
 use Rattle.trace_merge.specs.declared.by_tick.Lane.{Lane}
 use Rattle.trace_merge.specs.Parts.{all_of}
-use Rattle.trace_merge.proofs.Gathering.{items_of, rest_of, still, still_fewer}
+use Rattle.trace_merge.proofs.Distinct.{items_of, rest_of, still, still_fewer}
 use Rattle.trace_merge.proofs.by_tick.gather.Goals as goal
 
 abbrev rests : List Lane → List EntryRecord

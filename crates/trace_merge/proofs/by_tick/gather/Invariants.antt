@@ -1,6 +1,6 @@
 use Rattle.std.proofs.Common.{◌≡◌, ◌++◌, [], map, None, IsPermutation}
 use Rattle.trace_merge.specs.Parts.{all_of}
-use Rattle.trace_merge.proofs.Gathering.{still}
+use Rattle.trace_merge.proofs.Distinct.{still}
 use Rattle.trace_merge.proofs.by_tick.gather.Given as goal
 
 abbrev pub invariant-loop-at : goal.invariant-loop-at

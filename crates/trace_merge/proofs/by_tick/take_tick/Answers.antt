@@ -3,7 +3,7 @@ use Rattle.std.specs.Option.{unwrap_or}
 use Rattle.std.proofs.lemmas.List.{length-set, take_more_set}
 use Rattle.std.proofs.lemmas.List.Sorted.{IsPermutation-trans}
 use Rattle.trace_merge.specs.Parts.{all_of}
-use Rattle.trace_merge.proofs.Gathering.{rest_of, one_moved, all_of-more, later_least, later_same}
+use Rattle.trace_merge.proofs.Distinct.{rest_of, one_moved, all_of-more, later_least, later_same}
 use Rattle.trace_merge.proofs.by_tick.take_tick.Goals.{in-Some, in_default}
 use Rattle.trace_merge.proofs.by_tick.take_tick.Goals as goal
 

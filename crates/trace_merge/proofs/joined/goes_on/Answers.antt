@@ -2,7 +2,7 @@ use Rattle.std.proofs.Common.{◌≡◌, ◌-◌, true, sym, ap, ◌∙◌, subs
 use Rattle.std.proofs.lemmas.Option.{slice_get_within, get_or_from_slice_get}
 use Rattle.process_api.specs.Order.{is_before}
 use Rattle.process_api.specs.EntryRecord.{EntryRecord}
-use Rattle.trace_merge.proofs.Rising.{Before, rising_more, rising_of_test, test_of_rising}
+use Rattle.trace_merge.proofs.Distinct.{Before, rising_more, rising_of_test, test_of_rising}
 use Rattle.trace_merge.proofs.joined.goes_on.Goals as goal
 
 pub returns-in-Some : goal.returns-in-Some

@@ -1,7 +1,6 @@
 use Rattle.std.proofs.Common.{rules}
 use Rattle.std.proofs.lemmas.List.Sorted.{IsPermutation-trans, answers_always}
-use Rattle.trace_merge.proofs.Distinct.{merged_rising}
-use Rattle.trace_merge.proofs.Gathering.{items_of}
+use Rattle.trace_merge.proofs.Distinct.{merged_rising, items_of}
 use Rattle.trace_merge.proofs.merging.merge.Goals as goal
 
 pub returns-clause-same : goal.returns-clause-same

@@ -1,4 +1,4 @@
-use Rattle.std.proofs.Common.{◌≡◌, ◌∙◌, ◌++◌, [], ap, map, sym, subst}
+use Rattle.std.proofs.Common.{◌∙◌, ◌++◌, map, sym, subst}
 use Rattle.std.specs.FinMap as events
 use Rattle.process_api.specs.Order.{key_cmp}
 use Rattle.trace_laws.specs.Taken.{event_of}

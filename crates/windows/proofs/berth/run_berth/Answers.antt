@@ -1,6 +1,6 @@
 use Rattle.std.proofs.Common.{ap, ◌∙◌}
 use Rattle.windows.specs.Berth.{with_letters}
-use Rattle.windows.proofs.Posting.{posting_opens, posted_more}
+use Rattle.windows.proofs.Letters.{posting_opens, posted_more}
 use Rattle.windows.proofs.berth.run_berth.Goals as goal
 
 pub run_into-requires-clause-tray : goal.run_into-requires-clause-tray

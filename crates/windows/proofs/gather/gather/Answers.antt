@@ -8,7 +8,7 @@ use Rattle.deques.specs.Deques.{HandView, deques_of}
 use Rattle.windows.specs.Inside.Workers.{IsWork}
 use Rattle.windows.specs.declared.workers.Work.{Work}
 use Rattle.deques.proofs.Deals.{map_turn, flat_push}
-use Rattle.windows.proofs.Ended.{ends}
+use Rattle.windows.proofs.Places.{ends}
 use Rattle.windows.proofs.Gathered.{works_none, works_more, works_taken}
 use Rattle.windows.proofs.gather.gather.Goals as goal
 

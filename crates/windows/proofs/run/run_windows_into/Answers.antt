@@ -6,10 +6,8 @@ use Rattle.trace_laws.specs.ScenarioSetting.{setting_of}
 use Rattle.trace_laws.specs.World.{IsTrace}
 use Rattle.windows.specs.Stage.{IsStageAfter}
 use Rattle.window_laws.specs.Theorems.{end_to_end}
-use Rattle.windows.proofs.Closing.{stage_trace}
-use Rattle.windows.proofs.Handed.{took_more, end_to_end_more, on_err, trace_within}
-use Rattle.windows.proofs.Cut.{stage_cut, not_of_sink}
-use Rattle.windows.proofs.Refused.{not_err}
+use Rattle.windows.proofs.Closing.{stage_trace, stage_cut, not_of_sink}
+use Rattle.windows.proofs.Handed.{took_more, end_to_end_more, on_err, trace_within, not_err}
 use Rattle.windows.proofs.run.run_windows_into.Goals as goal
 
 pub returns-in_err-stage-clause-front : goal.returns-in_err-stage-clause-front

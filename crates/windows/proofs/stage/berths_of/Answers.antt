@@ -10,7 +10,7 @@ use Rattle.trace_laws.specs.Step.{Process}
 use Rattle.trace_laws.specs.World.{opened}
 use Rattle.windows.specs.Stage.{start_event, IsOpened}
 use Rattle.windows.specs.declared.berth.Berth.{Berth}
-use Rattle.windows.proofs.Ended.{ends, opens}
+use Rattle.windows.proofs.Places.{ends, opens}
 use Rattle.windows.proofs.stage.berths_of.Goals as goal
 
 pub loop-machine-init : goal.loop-machine-init

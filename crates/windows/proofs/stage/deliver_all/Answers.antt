@@ -4,7 +4,7 @@ use Rattle.std.proofs.lemmas.List.{nil_from_length}
 use Rattle.mailboxes.specs.Mailboxes.{letters_in}
 use Rattle.windows.specs.Stage.{delivered}
 use Rattle.windows.specs.declared.berth.Berth.{Berth}
-use Rattle.windows.proofs.Ended.{ends, opens}
+use Rattle.windows.proofs.Places.{ends, opens}
 use Rattle.windows.proofs.stage.deliver_all.Goals as goal
 
 pub loop-berth-init : goal.loop-berth-init

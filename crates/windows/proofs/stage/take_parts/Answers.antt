@@ -1,4 +1,4 @@
-use Rattle.std.proofs.Common.{◌≡◌, ◌∷◌, [], ◌++◌, sym, ◌∙◌, subst}
+use Rattle.std.proofs.Common.{◌≡◌, ◌∷◌, [], ◌++◌, sym, ◌∙◌, subst, refl, ap}
 use Rattle.std.specs.List.{All}
 use Rattle.std.specs.Vec.Iter.{into_iter_items}
 use Rattle.std.proofs.lemmas.List.Elements.{All-nil, All-push, All-same}
@@ -6,7 +6,7 @@ use Rattle.std.specs.Global.{Vec}
 use Rattle.process_api.specs.declared.entry.Entry.{Entry}
 use Rattle.deques.proofs.Deals.{map_turn}
 use Rattle.windows.specs.declared.berth.Berth.{Berth}
-use Rattle.windows.proofs.Ended.{ends, opens}
+use Rattle.windows.proofs.Places.{ends, opens}
 use Rattle.windows.proofs.stage.take_parts.Goals as goal
 
 pub loop-berth-init : goal.loop-berth-init
@@ -24,17 +24,16 @@ loop-berth-preserved g c =
     let rest = into_iter_items c.loop-berth.berth-iterator in
     let left = into_iter_items c.next.new.self in
     let old = c.in-Some.berth in
-    let new = c.take_part.new.berth in
+    let new : Berth _ = record { seat = old.seat; pending = old.pending; part = c.replace.new.dest; actions = old.actions } in
     let e : rest ≡ old ∷ left = c.in-Some.ensures.steps.0 in
     let done = c.loop-berth.done.items in
     let more : c.push-in-loop-berth.new.self.items ≡ done ++ new ∷ [] = c.in_ok-push-2.ensures.items in
     let items_of = λ (v : Vec Entry). v.items in
-    let taken = c.in_ok-take_part.ensures in
     record {
-      seats = map_turn seat_of seat_of done c.push-in-loop-berth.new.self.items new rest left old _ more e taken.seat i.seats;
-      pending = map_turn pending_of pending_of done c.push-in-loop-berth.new.self.items new rest left old _ more e taken.pending i.pending;
-      empty = subst (All (λ b. b.part.items ≡ [])) (sym more) (All-push (λ b. b.part.items ≡ []) done new i.empty taken.empty);
-      parts = map_turn items_of part_of c.loop-berth.parts.items _ c.in_ok-take_part.field-0 rest left old _ c.in_ok-push.ensures.items e taken.entries i.parts;
+      seats = map_turn seat_of seat_of done c.push-in-loop-berth.new.self.items new rest left old _ more e refl i.seats;
+      pending = map_turn pending_of pending_of done c.push-in-loop-berth.new.self.items new rest left old _ more e refl i.pending;
+      empty = subst (All (λ b. b.part.items ≡ [])) (sym more) (All-push (λ b. b.part.items ≡ []) done new i.empty (ap items_of c.replace.ensures.after ∙ c.in_ok-next.ensures.items));
+      parts = map_turn items_of part_of c.loop-berth.parts.items _ _ rest left old _ c.in_ok-push.ensures.items e (ap items_of c.replace.ensures.value) i.parts;
     }
 
 pub returns : goal.returns

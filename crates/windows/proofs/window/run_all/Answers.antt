@@ -1,4 +1,4 @@
-use Rattle.std.proofs.Common.{rules, arith, length, sym, ap, ◌∙◌, subst}
+use Rattle.std.proofs.Common.{rules, arith, sym, subst}
 use Rattle.std.specs.List.{All}
 use Rattle.std.proofs.lemmas.List.Sorted.{IsNonDecreasingBy-from_sort_by_key}
 use Rattle.steps.specs.Seat.{own_of}
@@ -10,9 +10,6 @@ use Rattle.windows.proofs.window.run_all.Goals as goal
 
 pub returns-in_err-done-clause-limit : goal.returns-in_err-done-clause-limit
 returns-in_err-done-clause-limit g c is = c.run_berths_of.ensures.limit (search rules)
-
-pub returns-clause-boxes : goal.returns-clause-boxes
-returns-clause-boxes g c = ap length c.in_ok-done.ensures.mailboxes ∙ c.requires.boxes
 
 pub returns-clause-slips : goal.returns-clause-slips
 returns-clause-slips g c = subst (λ m. All (IsSlipOf m) c.in_ok-done.slips.items) (sym c.in_ok-done.ensures.mailboxes) c.in_ok-done.ensures.run.of_mailboxes

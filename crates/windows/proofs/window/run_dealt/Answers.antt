@@ -3,7 +3,7 @@ use Rattle.std.proofs.lemmas.Result.{IfOk-weaker}
 use Rattle.deques.specs.Deques.{deques_of, all_put}
 use Rattle.windows.specs.Inside.Shared.{AreReady, IsOneTooLong, HadWindow}
 use Rattle.windows.specs.Inside.Workers.{dealt_to}
-use Rattle.windows.proofs.Refused.{one_refused}
+use Rattle.windows.proofs.Handed.{one_refused}
 use Rattle.windows.proofs.window.run_dealt.Goals as goal
 
 pub in_threads-requires-clause-starts : goal.in_threads-requires-clause-starts
@@ -16,9 +16,6 @@ bring_together-requires-clause-deques g c κs within = c.requires.deques ∙ ap 
 pub bring_together-requires-clause-ready : goal.bring_together-requires-clause-ready
 bring_together-requires-clause-ready g c κs within =
     subst (λ l. AreReady g.M.Process.mind c.args.shared.now.window.now (all_put l)) (sym c.in_ok-works.ensures.own) c.requires.ready
-
-pub bring_together-requires-clause-works : goal.bring_together-requires-clause-works
-bring_together-requires-clause-works g c κs within = c.in_ok-works.ensures.works
 
 pub returns-clause-run : goal.returns-clause-run
 returns-clause-run g c =

@@ -1,4 +1,4 @@
-use Rattle.std.proofs.Common.{rules, ◌≡◌, ◌+◌, ◌-◌, min, sym, ap, ◌∙◌, subst}
+use Rattle.std.proofs.Common.{rules, ◌≡◌, ◌+◌, ◌-◌, min, sym, ap, ◌∙◌, subst, arith}
 use Rattle.std.specs.Global.{Vec}
 use Rattle.std.specs.List.{All}
 use Rattle.std.proofs.lemmas.Result.{IfOk-weaker}
@@ -10,9 +10,8 @@ use Rattle.windows.specs.Inside.Closing.{IsOutcomeBy}
 use Rattle.windows.specs.Stage.{IsCountOfWorkers}
 use Rattle.windows.specs.Inside.Workers.{IsReady, RiseBy, HasLong}
 use Rattle.windows.specs.declared.berth.Berth.{Berth}
-use Rattle.windows.proofs.Closing.{stage_ready, stage_rises, long_limit}
-use Rattle.windows.proofs.Posted.{sum_of, of_same, many_by, rising_by, disjoint_by, limit_by, next_by}
-use Rattle.windows.proofs.Refused.{one_refused}
+use Rattle.windows.proofs.Closing.{stage_ready, stage_rises, long_limit, sum_of, of_same, many_by, rising_by, disjoint_by, limit_by, next_by}
+use Rattle.windows.proofs.Handed.{one_refused}
 use Rattle.windows.proofs.window.run_window.Goals as goal
 
 pub run_all-requires-clause-ready : goal.run_all-requires-clause-ready
@@ -38,27 +37,22 @@ returns-in_err-ran-clause-limit g c is =
     long_limit mind old c.processes-processes.ensures.ranges c.requires.stage.0 c.requires.stage.1 c.args.plan.now.window c.requires.plan left sum
     (of_same (λ s e bs. HasLong mind s e left bs) _ _ _ _ _ _ c.new-streams.ensures end (ap (λ (v : Vec _). v.items) c.replace-berths.ensures.value) (c.run_all.ensures.limit (search rules)))
 
-pub close-requires-clause-boxes : goal.close-requires-clause-boxes
-close-requires-clause-boxes g c κs within =
+pub close-requires : goal.close-requires
+close-requires g c κs within =
     let old = c.args.stage.now in
+    let mind = g.M.Process.mind in
     let end : c.min-end.result ≡ end_of (setting_of old.scenario.now) c.args.plan.now.window old.start = c.min-end.ensures ∙ (λ i. min (old.start + c.window.ensures.value i) (c.horizon.ensures.value i)) in
-    let by = of_same (λ s e bs. IsOutcomeBy g.M.Process.mind s e bs c.in_ok-ran.ran.berths.items c.in_ok-ran.ran.slips.items) _ _ _ _ _ _ c.new-streams.ensures end (ap (λ (v : Vec _). v.items) c.replace-berths.ensures.value) c.in_ok-ran.ensures.outcome in
-    let many = many_by g.M.Process.mind old c.processes-processes.ensures.ranges c.requires.stage.0 c.requires.stage.1 c.args.plan.now.window c.requires.plan _ _ by in
-    c.in_ok-ran.ensures.boxes ∙ (ap (λ (r : Record). r.processes) c.new-streams.ensures ∙ (sym many ∙ sym c.in_ok-ran.ran.berths.ok.0))
-
-pub close-requires-clause-rising : goal.close-requires-clause-rising
-close-requires-clause-rising g c κs within =
-    let old = c.args.stage.now in
-    let end : c.min-end.result ≡ end_of (setting_of old.scenario.now) c.args.plan.now.window old.start = c.min-end.ensures ∙ (λ i. min (old.start + c.window.ensures.value i) (c.horizon.ensures.value i)) in
-    let by = of_same (λ s e bs. IsOutcomeBy g.M.Process.mind s e bs c.in_ok-ran.ran.berths.items c.in_ok-ran.ran.slips.items) _ _ _ _ _ _ c.new-streams.ensures end (ap (λ (v : Vec _). v.items) c.replace-berths.ensures.value) c.in_ok-ran.ensures.outcome in
-    rising_by g.M.Process.mind old c.processes-processes.ensures.ranges c.requires.stage.0 c.requires.stage.1 c.args.plan.now.window c.requires.plan _ _ by
-
-pub close-requires-clause-disjoint : goal.close-requires-clause-disjoint
-close-requires-clause-disjoint g c κs within =
-    let old = c.args.stage.now in
-    let end : c.min-end.result ≡ end_of (setting_of old.scenario.now) c.args.plan.now.window old.start = c.min-end.ensures ∙ (λ i. min (old.start + c.window.ensures.value i) (c.horizon.ensures.value i)) in
-    let by = of_same (λ s e bs. IsOutcomeBy g.M.Process.mind s e bs c.in_ok-ran.ran.berths.items c.in_ok-ran.ran.slips.items) _ _ _ _ _ _ c.new-streams.ensures end (ap (λ (v : Vec _). v.items) c.replace-berths.ensures.value) c.in_ok-ran.ensures.outcome in
-    disjoint_by g.M.Process.mind old c.processes-processes.ensures.ranges c.requires.stage.0 c.requires.stage.1 c.args.plan.now.window c.requires.plan _ _ by
+    let by = of_same (λ s e bs. IsOutcomeBy mind s e bs c.in_ok-ran.ran.berths.items c.in_ok-ran.ran.slips.items) _ _ _ _ _ _ c.new-streams.ensures end (ap (λ (v : Vec _). v.items) c.replace-berths.ensures.value) c.in_ok-ran.ensures.outcome in
+    let many = many_by mind old c.processes-processes.ensures.ranges c.requires.stage.0 c.requires.stage.1 c.args.plan.now.window c.requires.plan _ _ by in
+    record {
+      few = c.in_ok-ran.ensures.few;
+      all = c.in_ok-ran.ensures.all;
+      slips = c.in_ok-ran.ensures.slips;
+      boxes = c.in_ok-ran.ensures.boxes ∙ (ap (λ (r : Record). r.processes) c.new-streams.ensures ∙ (sym many ∙ sym c.in_ok-ran.ran.berths.ok.0));
+      rising = rising_by mind old c.processes-processes.ensures.ranges c.requires.stage.0 c.requires.stage.1 c.args.plan.now.window c.requires.plan _ _ by;
+      disjoint = disjoint_by mind old c.processes-processes.ensures.ranges c.requires.stage.0 c.requires.stage.1 c.args.plan.now.window c.requires.plan _ _ by;
+      room = omega (arith, c.requires.stage.1.within, c.limit.ensures.value);
+    }
 
 pub returns : goal.returns
 returns g c =

@@ -1,7 +1,7 @@
 use Rattle.std.proofs.Common.{IfSome, subst}
 use Rattle.std.proofs.lemmas.List.Elements.{All-pop}
 use Rattle.windows.specs.Inside.Shared.{IsStart}
-use Rattle.windows.proofs.Joined.{popped, answer_at, answers_more}
+use Rattle.windows.proofs.Gathered.{popped, answer_at, answers_more}
 use Rattle.windows.proofs.workers.+start_workers.Goals as goal
 
 pub start_worker-requires-after_bounds : goal.start_worker-requires-after_bounds

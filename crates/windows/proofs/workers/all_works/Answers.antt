@@ -1,5 +1,5 @@
 use Rattle.std.proofs.Common.{rules}
-use Rattle.windows.proofs.Refused.{first_of, last_of}
+use Rattle.windows.proofs.Handed.{first_of, last_of}
 use Rattle.windows.proofs.workers.all_works.Goals as goal
 
 pub returns-clause-ok : goal.returns-clause-ok

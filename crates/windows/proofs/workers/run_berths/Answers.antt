@@ -6,9 +6,9 @@ use Rattle.mailboxes.specs.Mailboxes.{SlipView}
 use Rattle.windows.specs.Inside.Shared.{IsWorkBy}
 use Rattle.windows.specs.Inside.Workers.{IsReady}
 use Rattle.windows.specs.declared.berth.Berth.{Berth}
-use Rattle.windows.proofs.Posting.{posting_opens}
-use Rattle.windows.proofs.Work.{work_begins, work_more}
-use Rattle.windows.proofs.Refused.{holds_of_none, not_err}
+use Rattle.windows.proofs.Letters.{posting_opens}
+use Rattle.windows.proofs.Gathered.{work_begins, work_more}
+use Rattle.windows.proofs.Handed.{holds_of_none, not_err}
 use Rattle.windows.proofs.workers.run_berths.Goals as goal
 use Rattle.windows.proofs.workers.run_berths.Goals.{in-None, in-Some+in_default}
 
@@ -27,9 +27,6 @@ pub run_taken-requires-clause-ready : goal.run_taken-requires-clause-ready
 run_taken-requires-clause-ready g c κs within =
     All-contains (IsReady g.M.Process.mind c.args.shared.now.window.now.streams) c.args.start.hand.known c.in-Some-take.berth c.requires.1
     (subst (λ l. Contains l c.in-Some-take.berth) c.loop.invariant.2 c.in-Some-take.ensures.3)
-
-pub run_taken-requires-clause-posting : goal.run_taken-requires-clause-posting
-run_taken-requires-clause-posting g c κs within = c.loop.invariant.1
 
 pub loop-preserved : goal.loop-preserved
 loop-preserved g c =

@@ -3,7 +3,7 @@ use Rattle.std.specs.FinMap as events
 use Rattle.pending_events.specs.Inside.Calendar.{all_in}
 use Rattle.pending_events.specs.Pending.{IsEmpty}
 use Rattle.trace_laws.specs.World.{IsLeast}
-use Rattle.pending_events.proofs.Parted.{least_in, taken_least, taken_parted, taken_removed}
+use Rattle.pending_events.proofs.Nearby.{least_in, taken_least, taken_parted, taken_removed}
 use Rattle.pending_events.proofs.pending.Pending.take_least.Goals as goal
 
 pub invariant_of-self : goal.invariant_of-self

@@ -1,13 +1,11 @@
 use Rattle.std.proofs.Common.{List, ◌≡◌, ◌∙◌, ◌++◌, ◌∷◌, [], ◌<◌, ◌≤◌, ap, map, sym, subst, append-nil, arith, Some}
 use Rattle.std.specs.FinMap as events
-use Rattle.process_api.specs.Order.{key_cmp}
 use Rattle.process_api.specs.declared.message.Letter.{Letter}
 use Rattle.process_api.proofs.Lists.{both}
 use Rattle.trace_laws.specs.Step.{Event}
 use Rattle.trace_laws.specs.Taken.{event_of}
 use Rattle.trace_laws.specs.World.{Has, joined}
 use Rattle.trace_laws.proofs.Joining.{joined_one}
-use Rattle.trace_laws.proofs.Sets.{not_None}
 use Rattle.windows.specs.Inside.Agenda.{earlier_of, waiting, AreFrom, IsSoonestOf}
 use Rattle.windows.proofs.Agendas.{insert_past, of_joined, soonest_more}
 use Rattle.windows.proofs.agenda.Agenda.join.Goals as goal

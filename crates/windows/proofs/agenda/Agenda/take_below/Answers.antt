@@ -1,8 +1,8 @@
-use Rattle.std.proofs.Common.{◌≡◌, ◌∙◌, ◌++◌, ◌<◌, [], ap, sym, subst, append-nil, map, MatchOption}
+use Rattle.std.proofs.Common.{◌≡◌, ◌∙◌, ◌++◌, ◌<◌, ap, sym, subst, append-nil, map, MatchOption}
 use Rattle.std.specs.FinMap as events
 use Rattle.trace_laws.specs.Taken.{event_of}
 use Rattle.trace_laws.specs.World.{IsLeast, NoneBelow, joined}
-use Rattle.windows.specs.Inside.Agenda.{all_in, waiting, AreFrom}
+use Rattle.windows.specs.Inside.Agenda.{waiting, AreFrom}
 use Rattle.windows.proofs.Agendas.{taken_below, taken_least, taken_removed}
 use Rattle.windows.proofs.agenda.Agenda.take_below.Goals as goal
 

@@ -8,8 +8,7 @@ use Rattle.trace_merge.specs.Parts.{all_of}
 use Rattle.windows.specs.Inside.Closing.{AreLettersOf}
 use Rattle.windows.specs.Stage.{delivered}
 use Rattle.windows.specs.declared.berth.Berth.{Berth}
-use Rattle.windows.proofs.Ended.{same_length}
-use Rattle.windows.proofs.Places.{all_at, all_place, same_at}
+use Rattle.windows.proofs.Places.{same_length, all_at, all_place, same_at}
 use Rattle.windows.proofs.stage.Stage.close.Goals as goal
 
 pub empty_and_merge-requires-clause-rising : goal.empty_and_merge-requires-clause-rising

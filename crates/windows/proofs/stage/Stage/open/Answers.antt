@@ -1,7 +1,7 @@
 use Rattle.std.proofs.Common.{map, ap, ◌∙◌, refl, None}
 use Rattle.trace_laws.specs.World.{opened}
 use Rattle.steps.proofs.Openings.{machines_open}
-use Rattle.windows.proofs.Opening.{opening_stands, opening_stage}
+use Rattle.windows.proofs.Places.{opening_stands, opening_stage}
 use Rattle.windows.proofs.stage.Stage.open.Goals as goal
 
 pub berths_of-requires-after_bounds : goal.berths_of-requires-after_bounds
