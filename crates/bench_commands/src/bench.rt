@@ -22,9 +22,9 @@ pub enum Mode {
     Windows(Plan),
 }
 
-/// Runs a scenario in a mode, over machines that are made here, and writes what is asked for. What goes out doesn't
-/// depend on the mode. By the event list no thread is started, so none is refused; by windows a worker tells the gate
-/// of each process that it takes.
+/// Runs a scenario in a mode, over machines that are made here, and writes what is asked for. The output doesn't depend
+/// on the mode. By the event list no thread is started, so none is refused; by windows a worker tells the gate of each
+/// process that it takes.
 pub fn bench<R: Threads + Wait + Sync, G: Gate, O: Outlet>(
     rt: &R,
     alloc: Global,

@@ -23,7 +23,8 @@ pub fn same_bytes(left: &[u8], right: &[u8]) -> bool
     left == right
 }
 
-/// Both texts of a run in a mode, in memory. A growth that the outlet is refused is want of memory.
+/// Both texts of a run in a mode, in memory. Where the outlet is refused a growth, the error is that memory was
+/// refused.
 fn written_by<R: Threads + Wait + Sync, G: Gate>(
     rt: &R,
     alloc: Global,

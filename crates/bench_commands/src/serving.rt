@@ -41,7 +41,7 @@ fn path_in<'a>(order: &Order<'a>) -> &'a str
 ///
 /// # Errors
 ///
-/// The first fault, in the order file, scenario, plan, machines, run. What went out then `specs/Answer.antt` says.
+/// The first fault, in the order file, scenario, plan, machines, run. `specs/Answer.antt` says what went out then.
 pub fn carry_out<R: Files + Threads + Wait + Sync, G: Gate, I: Read, O: Outlet>(
     rt: &R,
     alloc: Global,

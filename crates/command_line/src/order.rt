@@ -73,7 +73,7 @@ fn number_at(found: &ArgMatches<'_>, id: &str) -> Option<u64>
     found.get_one::<u64>(id)
 }
 
-/// What a word says is printed.
+/// Which texts a word asks for.
 #[tactic(auto, unfolding(crate::specs::Order::choice_of))]
 fn choice(word: &str) -> PrintChoice
     ensures { result ≡ choice_of word.now }

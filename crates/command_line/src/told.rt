@@ -21,7 +21,7 @@ pub enum Told {
     Memory,
 }
 
-/// What is told of words that were refused so. A text that finds no room is want of memory.
+/// What is told of words that were refused so. Where a text finds no room, memory was refused.
 pub fn told_of(alloc: Global, error: &WordsError) -> Told
     ensures told { Tells error.now result }
     ensures help { IsHelp result → (words : List Text) → Explains words error.now → AsksHelp words }

@@ -77,8 +77,8 @@ impl Read for Failing {
     }
 }
 
-/// A read that fails is the last, of whatever kind: one that was interrupted, or one for want of memory, too. It may
-/// come after a part of a file. Of an input without end no more is read than shows that it is too long.
+/// A read that fails is the last, whatever its kind: also one that was interrupted, and one for which memory was
+/// refused. It may come after a part of a file. Of an input without end no more is read than shows that it is too long.
 #[test]
 fn failing_reads(rt: HostRuntime) {
     for (left, kind, line) in [

@@ -46,7 +46,7 @@ IsBest n of_sender e =
     (q : ℕ) × (1 ≤ q) × (q ≤ n) × (of_sender q ≡ Some e)
     × ((p : ℕ) → 1 ≤ p → p ≤ n → (d : Estimate) → of_sender p ≡ Some d → IsBehind e q p d)
 
--- what is chosen is that
+-- every estimate that is chosen is the best
 abbrev pub ChoosesBest : Type 0
 ChoosesBest = (n : ℕ) (of_sender : ℕ → Option Estimate) (e : Estimate)
     → best_to n of_sender ≡ Some e → IsBest n of_sender e

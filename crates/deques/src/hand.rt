@@ -14,7 +14,7 @@ pub struct Hand<T> {
     /// The place of its own deque among all.
     pub(crate) place: usize,
     pub(crate) owner: Owner<T>,
-    /// A permit for each deque, in their order. That for its own is never used.
+    /// A permit for each deque, in their order. The permit for its own deque is never used.
     pub(crate) permits: Vec<Permit<T>>,
 }
 

@@ -27,7 +27,7 @@ abbrev pub IsMeantIn : Finding → (meant : Option (Bor (List ℕ))) → Type 0
 IsMeantIn (finding.At at (fault.UnknownKey u)) meant = IsMeant (fields_of u.fields.now) u.key.now meant
 IsMeantIn _ meant = meant ≡ None
 
--- what is told of a file's document breaks the rule of the refusal; nothing is told only where it has a table
+-- a reason told of a file's document breaks the refusal's rule; no reason is told only where it has a table
 abbrev pub IsReason : ScenarioError → Option Members → Reason → Type 0
 IsReason e None (no_toml n) = e ≡ error.NotToml
 IsReason e (Some file) (found its meant) = Breaks e file its × IsMeantIn its meant
@@ -78,7 +78,7 @@ pub record RefusesFor (bytes : List ℕ) (r : Refused) : Type 0 where
   pub placed : HasPlace bytes its
   pub told : string_bytes r.line ≡ told_text r.refusal its
 
--- what is said of the file is so
+-- the diagnosis is true of the file
 abbrev pub IsDiagnosisOf : List ℕ → Diagnosis → Type 0
 IsDiagnosisOf bytes (diagnosis.Accepted a) = AcceptsAs bytes a
 IsDiagnosisOf bytes (diagnosis.Refused r) = RefusesFor bytes r

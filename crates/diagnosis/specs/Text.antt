@@ -1,5 +1,5 @@
--- What is said of a refused file, in words: the refusal's name, the place, and what is wrong with what is there. What is
--- quoted from the file is printed on one line, without control characters.
+-- What is said of a refused file, in words: the refusal's name, the place, and what is wrong with what is there. A
+-- quote from the file is printed on one line, without control characters.
 use Rattle.std.specs.Prelude.{ℕ, ℤ, List, [], ◌++◌, Bool, true, false, ◌&&◌, ◌||◌, Option, Some, None, if◌then◌else◌, codes, decimal, string_bytes}
 use Rattle.std.specs.Borrow.{Bor}
 use Rattle.std.specs.List.{flat_map}

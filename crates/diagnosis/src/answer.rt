@@ -48,7 +48,7 @@ pub enum Diagnosis {
     Refused(Refused),
 }
 
-/// Whether a refusal is for want of memory.
+/// Whether a file is refused because memory was refused.
 fn is_memory(refusal: &ScenarioError) -> bool
     ensures { result ≡ is_for_memory refusal.now }
 {

@@ -40,8 +40,8 @@ pub(crate) fn ticks_of(scenario: &Scenario, from: u32, until: u32) -> Result<Tic
     Err(DrawError::Ticks)
 }
 
-/// Tells before there is a run whether the ticks from `from` to `until - 1` of it can be drawn. Whether there are too
-/// many letters isn't known then.
+/// Tells before there is a run whether the ticks from `from` to `until - 1` of it can be drawn. It isn't known then
+/// whether there are too many letters.
 ///
 /// # Errors
 ///

@@ -124,11 +124,11 @@ impl<M: Process> EventList<M> {
 
 /// Runs machines by one event list, up to the horizon, and tells the follower of each entry as it comes, and the
 /// listener of each letter to another process as it is put on its link: nothing of the trace is held. There is one
-/// machine for each process, of process 1 first, and each opens as the scenario says. What the follower was told is,
-/// after what it had, the scenario's trace, in its order; keys rise, each entry but the starts has one cause, an earlier
-/// entry, and each event that a step adds below the horizon is one entry. What the listener heard is, after what it had
-/// heard, the letters of the scenario's run: those of its steps in their order, which is that of the tick of sending,
-/// then of the sender, and of one step those of its actions in their order.
+/// machine for each process, of process 1 first, and each opens as the scenario says. After what it had, the follower
+/// was told the scenario's trace, in its order: keys rise, each entry but the starts has one cause, which is an earlier
+/// entry, and each event that a step adds below the horizon is one entry. After what it had heard, the listener heard
+/// the letters of the scenario's run. Steps come in the order of the tick of sending, then of the sender; the letters
+/// of one step come in the order of its actions.
 ///
 /// # Errors
 ///

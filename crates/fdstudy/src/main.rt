@@ -24,7 +24,7 @@ use study_commands::fault::Fault;
 use study_commands::progress_line::ProgressLine;
 use study_commands::serve::serve;
 
-/// The fault of words of which one is no text. Which one isn't known.
+/// The fault of words of which one is no text. It isn't known which one that is.
 fn no_text(alloc: Global) -> Fault {
     Fault::of_words(format!(in alloc; "fdstudy: words: NoText: a word is not UTF-8\n"))
 }

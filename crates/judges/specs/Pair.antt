@@ -8,7 +8,7 @@ use Rattle.judges.specs.declared.pair.Pair.{Pair}
 abbrev pub opened : {K : Type 0} → (end : ℕ) → (kept : K) → Pair K
 opened end kept = record { end = end; current = false; kept = kept }
 
--- what is kept goes on from its tick up to another, through which there is suspicion or there is none
+-- `passed` takes the kept value on from its tick up to another, through which there is suspicion or there is none
 module _ {K : Type 0} (passed : (until : ℕ) → (suspected : Bool) → (end : ℕ) → K → K) where
   -- only a change moves what is kept
   abbrev pub turned : (tick : ℕ) → (suspected : Bool) → Pair K → Pair K

@@ -149,7 +149,7 @@ impl Follower for RunningOutcomes {
 /// In the trace of a scenario with the rotating coordinator, no two outcomes have different values, each value was
 /// proposed by some process, no process ends with no value, and each notes at most one decision: under any detector
 /// settings, delays, losses and crashes. These are agreement, validity and integrity of Chandra and Toueg (Journal of
-/// the ACM 43(2), 1996). That anybody decides is not promised.
+/// the ACM 43(2), 1996). It isn't promised that anybody decides.
 ///
 /// # Errors
 ///

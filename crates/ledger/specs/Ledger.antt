@@ -53,7 +53,7 @@ module _ {T : Type 0} where
   told_in None = []
   told_in (Some all) = all
 
-  -- what a pass takes is among what it was told
+  -- each item that a pass takes is among those that it was told
   abbrev pub AreTold : Account T → List T → Type 0
   AreTold a xs = (all : List T) → a.told ≡ Some all → All (Contains all) xs
 
@@ -84,7 +84,7 @@ module _ {T : Type 0} where
   abbrev pub taken_by_all : List (Account T) → List T
   taken_by_all passes = flat_map (λ a. a.taken) passes
 
-  -- what they were told is what all have put
+  -- they were told just the items that all have put
   abbrev pub IsToldRight : List (Account T) → Type 0
   IsToldRight passes =
       (port : ℕ) (a : Account T) (all : List T) → get_elem? passes port ≡ some a → a.parts ≢ 0 → a.told ≡ Some all

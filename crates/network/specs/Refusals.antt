@@ -64,7 +64,7 @@ pub record IsTableOf (k : TableKind) (t : Members) : Type 0 where
   pub values : has_fault (fields_in k) t ≡ false
   pub together : fault_of k t ≡ None
 
--- what a file has at the key of a kind is as it should be
+-- the value of a file at the key of a kind is as it should be
 pub record AreTablesOf (k : TableKind) (file : Members) : Type 0 where
   pub shape : option_map_or (is_of kind.Tables) (get_member (key_of k) file) true ≡ true
   pub few : length (tables_at (key_of k) file) ≤ most_tables
@@ -100,7 +100,7 @@ pub record HasFaultAt (fields : List Field) (key : List ℕ) (its : ValueFault) 
   pub named : field.key ≡ key
   pub fault : fault_at field t ≡ Some its
 
--- what the refusal says is so
+-- the refusal is true of the file
 abbrev pub Refuses : NetworkError → (file : Members) → Type 0
 Refuses (error.UnknownTable key) file = HasOther file_keys file (string_bytes key)
 Refuses (error.NotTables k) file = option_map_or (is_of kind.Tables) (get_member (key_of k) file) true ≡ false

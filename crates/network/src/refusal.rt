@@ -53,7 +53,7 @@ pub enum TableFault {
     },
 }
 
-/// Why a network file is refused. What it says is true of the file (`Refuses`, `specs/Refusals.antt`), of which other
+/// Why a network file is refused. The refusal is true of the file (`Refuses`, `specs/Refusals.antt`), in which other
 /// things may be wrong besides. `Memory` may come at any point.
 #[derive(Debug, Drop, Error)]
 pub enum NetworkError {
@@ -63,7 +63,7 @@ pub enum NetworkError {
         /// The key.
         key: String,
     },
-    /// What the file has at the key of a kind is no array of tables.
+    /// The file's value at the key of a kind is no array of tables.
     #[error("no array of tables")]
     NotTables {
         /// The kind.

@@ -8,7 +8,7 @@ ghost use Rattle.network.specs.Inside.Coming.{to_come};
 
 use crate::words::SourceWords;
 
-/// How many ticks a gap or an outage lasts, as it is drawn. What a draw gives is `ticks_of` (`specs/Spells.antt`).
+/// How many ticks a gap or an outage lasts, as it is drawn. `ticks_of` (`specs/Spells.antt`) says what a draw gives.
 #[derive(Drop)]
 pub enum Spell {
     /// Always so many ticks, 1 to 10,000,000.

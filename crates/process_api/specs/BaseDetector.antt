@@ -1,5 +1,5 @@
--- The laws of a base detector, whichever kind it is. What stands above a base detector rests on these, and on the
--- definition of no kind.
+-- The laws of a base detector, whichever kind it is. All that stands above a base detector rests on these, and not on
+-- the definition of any kind.
 use Rattle.std.specs.Prelude.{◌≡◌, ◌⊎◌, ℕ, ◌+◌, ◌≤◌, Bool, true, false, IsTrue, List, length}
 use Rattle.std.specs.List.{AllByRecursion}
 use Rattle.std.specs.FinSet as set

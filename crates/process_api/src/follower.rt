@@ -7,7 +7,7 @@ use std::alloc::AllocError;
 
 /// Is told the entries of a run as they come, so that no trace has to be held.
 pub trait Follower {
-    /// What it holds is so for these entries, told in this order, if it began as the first of the two.
+    /// The first of the two, after it was told these entries in this order, is the second.
     ghost followed: { Self → Self → List EntryRecord → Type 0 };
 
     /// One more entry.

@@ -10,7 +10,7 @@ use crate::message::StepInput;
 use crate::pid::Pid;
 use std::alloc::AllocError;
 
-/// A machine: one process of the simulated system. What it means is its mind.
+/// A machine: one process of the simulated system. Its meaning is its mind.
 pub trait Process: Send + Drop {
     /// What the machine is, as plain data.
     ghost mind: { Self → Mind };

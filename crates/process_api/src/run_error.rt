@@ -16,7 +16,7 @@ pub enum RunError {
     /// The start of a thread was refused.
     #[error("a thread was refused")]
     Spawn,
-    /// What was printed couldn't be written.
+    /// The output couldn't be written.
     #[error("writing failed")]
     Write,
 }

@@ -89,8 +89,8 @@ module _ (S : Record) (print : PrintChoice) {O : Type 0} (told : O → Option Te
     pub is_trace : IsTrace (setting_of S) trace
     -- a put failed
     pub write : reason ≡ Write → WrotePart told failed old new (printed print S trace)
-    -- no put failed: where the trace is asked for, its header and whole rows went out, or nothing for want of memory at
-    -- the opening; of the report alone nothing did
+    -- no put failed: where the trace is asked for, its header and whole rows went out, or nothing did because memory
+    -- was refused at the opening; where the report alone is asked for, nothing went out
     pub others : reason ≢ Write → (IsTrue (prints_trace print) × WroteRows trace)
         ⊎ (WroteNothing told failed old new × ((reason ≡ Memory) ⊎ (print ≡ choice.Report)))
     -- the limit is the reason only where the trace is longer

@@ -43,7 +43,8 @@ fn open_layers(alloc: Global, scenario: &Scenario, listed: bool) -> Result<Layer
     }
 }
 
-/// Nothing was told. How long each mistake was is kept where it is to be listed.
+/// Opens followers of all that is measured, which were told no entry. They keep the length of each mistake where
+/// `listed` is true.
 pub(crate) fn open_measuring(
     alloc: Global,
     scenario: &Scenario,

@@ -215,6 +215,6 @@ Breaks e file (finding.TwicePair from to number earlier) =
 Breaks e file (finding.TwiceProcess process number earlier) =
     (e ≡ error.CrashLine) × AreTwice (tables_at (array_key array.Crash) file) number earlier (is_of_process process)
 
--- what is found with a refusal, if anything is, breaks its rule
+-- the finding of a refusal, if there is one, breaks its rule
 abbrev pub Finds : (file : Members) → (found : Option Finding) → ScenarioError → Type 0
 Finds file found e = IfSome found (Breaks e file)

@@ -10,7 +10,7 @@ use Rattle.scenario.specs.declared.error.ScenarioError.{ScenarioError}
 use Rattle.scenario.specs.declared.error.ScenarioError.TheVariants as error
 
 -- A rule of a file's document, which is its table, or none where the bytes are no TOML. `number` says which refusal the
--- rule gives. Which rule is tried before which is another matter: its place in the list of rules
+-- rule gives. The order in which rules are tried is that of the list of rules
 pub record Rule : Type 0 where
   pub number : ℕ
   pub applies : Option Members → Bool

@@ -67,7 +67,8 @@ pub enum Finding<'a> {
 pub struct Refused<'a> {
     /// The refusal.
     pub error: ScenarioError,
-    /// What is wrong, and where. None where memory was refused; of other files none is known for which it's none.
+    /// What is wrong, and where. It is `None` where memory was refused. No other refused file is known for which it is
+    /// `None`.
     pub finding: Option<Finding<'a>>,
 }
 

@@ -86,8 +86,9 @@ fn twice_process(tables: &[&Table], i: usize) -> Option<Finding<'static>>
     None
 }
 
-/// What is wrong with tables of `links` or of `crash`, of which one is of what an earlier one is of: a fault that it or
-/// a later one has by itself, or else just this.
+/// What is wrong with tables of `links` or of `crash`, where one, at place `i`, has the same pair or process as an
+/// earlier one. It is the first fault that this one or a later one has by itself; where there is none, it is the
+/// repetition.
 pub(crate) fn find_twice(
     array: TableArray,
     tables: &[&Table],

@@ -9,7 +9,8 @@ use crate::outage::Outage;
 use std::alloc::{AllocError, Global};
 use std::marker::Model;
 
-/// The outages of one link, in the order of their tables. Whether a tick is one of them is found in logarithmic time.
+/// The outages of one link, in the order of their tables. It is found in logarithmic time whether a tick is one of
+/// them.
 #[derive(Drop)]
 pub struct LinkOutages {
     tables: Vec<Outage>,

@@ -11,7 +11,7 @@ use std::rt::Env;
 pub enum NoWords {
     /// Memory was refused.
     Memory,
-    /// A word isn't text. Which one isn't known.
+    /// A word isn't text. It isn't known which one that is.
     NoText,
 }
 

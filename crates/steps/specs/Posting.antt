@@ -58,7 +58,7 @@ module _ {Mind : Type 0} (S : Setting Mind) where
       (history : List Pair) × (last : World Mind) × Run S S.horizon (opening S) history last
       × (letters ≡ posted_along (opening S) history)
 
-  -- the letters of the whole list were heard, after what was heard before, in their order and nothing else. What it
-  -- means that letters made the one listener of the other is `heard`
+  -- the letters of the whole list were heard, after what was heard before, in their order and nothing else. `heard`
+  -- says what it means that letters made the one listener of the other
   abbrev pub WereHeard : {L : Type 0} (heard : L → List Posted → L → Type 0) (old new : L) → Type 0
   WereHeard heard old new = (letters : List Posted) × ArePosted letters × HaveJoined heard old new letters

@@ -172,7 +172,7 @@ is_memory _ = false
 
 -- ---- what is asked of the code
 
--- the error is want of memory, or why what words say is refused
+-- the error says that memory was refused, or it is the fault of the words
 abbrev pub IsFault : Option AxisError → AxisError → Type 0
 IsFault fault e = is_memory e ≡ false → fault ≡ Some e
 
@@ -193,6 +193,6 @@ AddsValue row old new = (length (map settings_in old.items) < 1000000)
 abbrev pub AddsTo : Entry → (old new : Vec (Vec Setting)) → Type 0
 AddsTo e old new = Adds (map settings_in old.items) (map settings_in new.items) e
 
--- the error is want of memory, or why the entry's values can't stand after these
+-- the error says that memory was refused, or why the entry's values can't stand after these
 abbrev pub CannotAdd : Entry → Vec (Vec Setting) → AxisError → Type 0
 CannotAdd e old = IsFault (fault_within (1000000 - length (map settings_in old.items)) e)

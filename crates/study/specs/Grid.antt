@@ -159,7 +159,7 @@ abbrev pub is_memory : GridError → Bool
 is_memory (error.Memory m) = true
 is_memory _ = false
 
--- no reason but want of memory is one against this grid
+-- there is no reason against this grid, other than that memory was refused
 abbrev pub NoneApplies : (vary over deal : List Axis) (first last : ℕ) → Type 0
 NoneApplies vary over deal first last = refusal vary over deal first last ≡ None
 

@@ -76,8 +76,8 @@ items_from (d ∷ ds) = item d (items_from ds)
 abbrev pub values_in : Data → List Data
 values_in d = option_map_or listed (as_array d) []
 
--- with the values of the array of tables at a key changed; there are none where there is no such key. What is no array
--- of tables stays as it is
+-- with the values of the array of tables at a key changed; there are none where there is no such key. A value that is
+-- no array of tables stays as it is
 unfoldable pub with_tables : (key : List ℕ) → (List Data → List Data) → Members → Members
 with_tables key change t =
     option_map_or (λ d. if is_of kind.Tables d then put key (array (items_from (change (values_in d)))) t else t)

@@ -128,7 +128,7 @@ is_memory _ = false
 
 -- ---- what is asked of the code
 
--- the error is want of memory, or why there is no such value
+-- the error says that memory was refused, or why there is no such value
 abbrev pub IsRefused : {A : Type 0} → Result A PlaceError → PlaceError → Type 0
 IsRefused meant e = is_memory e ≡ false → meant ≡ Err e
 
@@ -139,6 +139,6 @@ Table = BTreeMap (String Global) Value
 abbrev pub Puts : FilePath → Data → (old new : Table) → Type 0
 Puts path d old new = set_in_file path d (table_view old) ≡ Ok (table_view new)
 
--- the error is want of memory, or why the table can't have the value at the path
+-- the error says that memory was refused, or why the table can't have the value at the path
 abbrev pub CannotPut : FilePath → Data → Table → PlaceError → Type 0
 CannotPut path d old = IsRefused (set_in_file path d (table_view old))

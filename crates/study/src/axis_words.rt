@@ -182,8 +182,8 @@ fn read_keys(alloc: Global, words: &str) -> Result<Vec<Key>, KeyError>
 }
 
 impl Axis {
-    /// The axis that words say: `KEY=V,V,..`. What stands before the first `=` is the key ([`Key::parse`]). Each V is
-    /// an integer; a range of integers, `A..=B` or `A..=B:STEP`, which is A, A + STEP, .. up to B; or else a text. A
+    /// The axis that words say: `KEY=V,V,..`. The text before the first `=` is the key ([`Key::parse`]). Each V is an
+    /// integer; a range of integers, `A..=B` or `A..=B:STEP`, which is A, A + STEP, .. up to B; or else a text. A
     /// number is decimal, after a minus sign or none, and fits 64 bits with a sign. There are at most 1,000,000 values.
     ///
     /// `KEY,KEY,..=V:V:..,V:V:..,..` ties keys: each value has a part for each of them, in their order, which is an

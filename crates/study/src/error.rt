@@ -119,7 +119,7 @@ pub enum AxisError {
     /// There is no `=`.
     #[error("there is no =")]
     NoEquals,
-    /// What stands before the first `=`, or a part of it between commas, is no key.
+    /// The text before the first `=`, or a part of it between commas, is no key.
     #[error("no key stands before the =")]
     Key(KeyError),
     /// A value of tied keys hasn't one part for each of them.
@@ -155,7 +155,7 @@ pub enum AssignmentError {
     /// There is no `=`.
     #[error("there is no =")]
     NoEquals,
-    /// What stands before the first `=` is no key.
+    /// The text before the first `=` is no key.
     #[error("no key stands before the =")]
     Key(KeyError),
     /// Nothing stands after it.

@@ -21,9 +21,9 @@ fn value_in(alloc: Global, word: &str) -> Result<Value, AllocError>
 }
 
 impl Assignment {
-    /// The assignment that words say: `KEY=VALUE`. What stands before the first `=` is the key ([`Key::parse`]). The
-    /// value is any value of TOML, as `[1, 2, 3]` or `{kind = "freshness", eta = 100, delta = 50}`; a word that is none
-    /// is a text, as `es`.
+    /// The assignment that words say: `KEY=VALUE`. The text before the first `=` is the key ([`Key::parse`]). The value
+    /// is any value of TOML, as `[1, 2, 3]` or `{kind = "freshness", eta = 100, delta = 50}`; a word that is none is a
+    /// text, as `es`.
     ///
     /// # Errors
     ///

@@ -47,7 +47,7 @@ accepted_line a =
     accepted_text a.processes a.horizon a.limit a.window a.estimate.entries a.estimate.seconds a.estimate.in_window
 
 -- these are the scenario's processes, its horizon, its limit and its longest window, which has its share of the entries.
--- How near the estimate of all entries comes isn't said. After that comes what no run of the scenario breaks
+-- It isn't said how near the estimate of all entries comes. After that come the bounds that no run breaks
 pub record TellsOf (s : Record) (piece : List ℕ) : Type 0 where
   pub entries : ℕ
   pub seconds : ℕ
@@ -67,7 +67,7 @@ study_begin points runs =
     codes "ok: " ++ (decimal points ++ (codes " points of " ++ (decimal runs ++ codes " runs each")))
 
 -- all runs of the study that can be swept can be run, of the shard's points where one is named, and the text
--- begins with how many points and runs these are. What is reckoned of them, and of their limits, isn't said
+-- begins with how many points and runs these are. It isn't said what is reckoned of them, and of their limits
 pub record IsStudyCheck (input : Option (List ℕ)) (texts : SourceTexts) (study : StudyTexts) (piece : List ℕ) : Type 0 where
   pub sources : SourcesRecord
   pub grid : GridRecord

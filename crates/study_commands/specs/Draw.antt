@@ -136,8 +136,8 @@ pub record IsRefusedPicture (input : Option (List ℕ)) (texts : SourceTexts) (n
   pub refused : IsRefused named scenario of (first_tick from) (end_of_ticks scenario until) error
   pub says : Says line (picture_line texts.path.now scenario error)
 
--- `draw` stops for its words, for its files, for a picture or a run of their scenario that is refused, for want of
--- memory or at a failed write
+-- `draw` stops for its words, for its files, for a picture or a run of their scenario that is refused, because memory
+-- was refused, or at a failed write
 abbrev pub StopsPicture : Option (List ℕ) → SourceTexts → Picture → (from until : Option ℕ) → Option Word → Fault
     → Type 0
 StopsPicture input texts named from until word (Words line) = NamesNone named word ⊎ SaysNoSources texts no_axes

@@ -12,7 +12,7 @@ use Rattle.process_api.specs.EntryRecord.{EntryRecord}
 use Rattle.scenario_record.specs.Record.{Record}
 use Rattle.study_line.specs.declared.order.SourceTexts.{SourceTexts}
 
--- a run by the event list is refused for its limit or for want of memory
+-- a run by the event list is refused for its limit, or because memory was refused
 abbrev pub fault_of_run : RunError → Fault
 fault_of_run error.Limit = Limit
 fault_of_run _ = Memory
@@ -27,8 +27,8 @@ IsOfRun s Limit = IsTooLong s
 IsOfRun s Memory = Unit {0}
 IsOfRun s _ = ⊥
 
--- `letters` stops for its words, for its files, for a run of its scenario that is longer than the limit, for want of memory or at a
--- failed write
+-- `letters` stops for its words, for its files, for a run of its scenario that is longer than the limit, because memory
+-- was refused, or at a failed write
 abbrev pub StopsLetters : Option (List ℕ) → SourceTexts → Fault → Type 0
 StopsLetters input texts Limit = (s : Record) × IsScenario input texts s × IsTooLong s
 StopsLetters input texts Write = Unit {0}

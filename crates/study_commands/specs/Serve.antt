@@ -81,7 +81,7 @@ IsWhy input words = Why status_of line_of (IsReason input words)
 abbrev pub IsAsked : List (List ℕ) → Type 0
 IsAsked words = (asked : Order) × States words asked
 
--- what is told of words is no fault: help, or the version
+-- the text told of the words is no fault: it is help, or the version
 abbrev pub IsNoFault : WordsError → List ℕ → Type 0
 IsNoFault (refusal.Help text) piece = Unit {0}
 IsNoFault refusal.Version piece = piece ≡ version_text

@@ -11,7 +11,7 @@ use Rattle.study_line.specs.declared.order.GridTexts.{GridTexts}
 use Rattle.study_line.specs.declared.order.SourceTexts.{SourceTexts}
 use Rattle.sweep.specs.StudyText.{point_at, run_at}
 
--- what counts from 1 has this place, counted from 0, among so many
+-- a number that counts from 1 has this place, counted from 0, among so many
 pub record IsPlace (number count place : ℕ) : Type 0 where
   pub number_is : number ≡ place + 1
   pub is_low : place < count

@@ -27,7 +27,7 @@ use Rattle.sweep.specs.StudyText.{point_at, run_at}
 use Rattle.sweep.specs.declared.error.SweepError.{SweepError}
 use Rattle.study.specs.Sources.{SourcesRecord}
 
--- a command over a study stops for its words, for its files or a run of it, for want of memory or at a failed write
+-- a command over a study stops for its words, its files or a run, because memory was refused, or at a failed write
 abbrev pub IsOfStudy : (OfWords : Type 0) (OfFile : Option (String Global) → Type 0) → Fault → Type 0
 IsOfStudy OfWords OfFile (Words line) = OfWords
 IsOfStudy OfWords OfFile WordsMemory = Unit {0}
@@ -55,7 +55,7 @@ IsOfText r Memory = Unit {0}
 IsOfText r _ = ⊥
 
 module _ (input : Option (List ℕ)) (texts : SourceTexts) where
-  -- `check` stops for its words, for its files, for want of memory or at a failed write
+  -- `check` stops for its words, for its files, because memory was refused, or at a failed write
   abbrev pub StopsCheck : Fault → Type 0
   StopsCheck Write = Unit {0}
   StopsCheck fault = IsOfFile input texts fault

@@ -143,6 +143,6 @@ pub record SetTwice (words : List Word) (g : GridRecord) : Type 0 where
 abbrev pub SaysNoSources : SourceTexts → GridRecord → Type 0
 SaysNoSources texts g = HasNoAssignment (set_words texts) ⊎ (SetTwice (set_words texts) g ⊎ NameInputTwice texts)
 
--- what counts from 1 isn't among so many
+-- a number that counts from 1 isn't among so many
 abbrev pub IsOutside : (number count : ℕ) → Type 0
 IsOutside number count = (number ≡ 0) ⊎ (count < number)

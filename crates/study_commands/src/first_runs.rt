@@ -19,7 +19,8 @@ use toml::Table;
 /// How many points are read at a time.
 const BATCH: u64 = 4096;
 
-/// What is looked at of a run with this table. As its scenario was read before, there is one but for want of memory.
+/// What is looked at of a run with this table. Its scenario was read before, so this fails only where memory was
+/// refused.
 fn run_of(alloc: Global, table: &Table) -> Result<FirstRun, AllocError>
     ensures { IfOk result (IsRunOf (table_view table.now)) }
 {
@@ -36,7 +37,7 @@ fn run_of(alloc: Global, table: &Table) -> Result<FirstRun, AllocError>
     })
 }
 
-/// The table of a point's first run. As it was made before, there is one but for want of memory.
+/// The table of a point's first run. It was made before, so this fails only where memory was refused.
 fn first_table(
     alloc: Global,
     sources: &Sources,

@@ -134,7 +134,7 @@ fn picture_of(
 }
 
 /// Answers `draw`: a picture of the run of the files' scenario, as SVG; where nothing is said, from tick 0 to the
-/// horizon. What its processes and these ticks refuse is told before the run is made.
+/// horizon. A refusal for its processes or for these ticks is told before the run is made.
 pub(crate) fn serve_draw<R: Files, I: Read>(
     rt: &R,
     alloc: Global,

@@ -171,7 +171,7 @@ impl<C: Clock, W: Write + Drop> Watcher for ProgressLine<'_, C, W> {
         self.clear();
     }
 
-    /// Writes the line of the point. What is shown is taken away before.
+    /// Takes away what is shown, and then writes the line of the point.
     fn limited(&mut self, sources: &Sources, grid: &Grid, point: u64, count: u64) {
         self.hide();
         if let Ok(line) = line_of_limited(self.alloc, sources, grid, point, count) {

@@ -75,7 +75,7 @@ fn combinations(axes: &[Axis]) -> u64
         .max(1)
 }
 
-/// The scenario of a run of a point, both from 0. As it was read before, there is one but for want of memory.
+/// The scenario of a run of a point, both from 0. It was read before, so this fails only where memory was refused.
 fn scenario_of(
     alloc: Global,
     sources: &Sources,

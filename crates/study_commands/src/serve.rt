@@ -174,8 +174,8 @@ fn answer_words<R: Files + Threads + Sync + Clock, I: Read, O: Outlet, W: Warned
 /// points may have gone out. With 4 a front part of the text went out.
 ///
 /// The watcher hears how far a `sweep` has come. After all scenarios of a study were read, and before its first run, it
-/// is told in lines what may mislead of it; of the files of a lone `check` too. What it shows is taken away before a
-/// fault is told.
+/// is told in lines what may mislead of that study. It is told the same of the files of a lone `check`. It takes away
+/// what it shows before a fault is told.
 pub fn serve<R: Files + Threads + Sync + Clock, I: Read, O: Outlet, F: Outlet, W: Warned>(
     rt: &R,
     alloc: Global,

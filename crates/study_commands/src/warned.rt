@@ -9,7 +9,7 @@ pub trait Warned: Watcher {
     /// The first, after it was told these lines in this order, is the second.
     ghost warned: { Self → List (List ℕ) → Self → Type 0 };
 
-    /// Tells a line, which ends with a line feed. What is shown is taken away before.
+    /// Takes away what is shown, and then tells a line, which ends with a line feed.
     fn warn(&mut self, line: &str)
         ensures told { HaveJoined warned self.old self.new (line.now ∷ []) }
         ensures hidden { Self.shows self.new ≡ false };

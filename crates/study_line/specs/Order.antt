@@ -177,6 +177,6 @@ Lacks {X} IsStated refusal.Form = (stated : X) → IsStated stated → ⊥
 Lacks IsStated refusal.Memory = Unit {0}
 Lacks IsStated _ = ⊥
 
--- what may be stated was read, or why it wasn't
+-- something was read that may be stated, or the error says why nothing was
 abbrev pub Reads : {X : Type 0} → (X → Type 0) → Result X WordsError → Type 0
 Reads IsStated read = IfOk read IsStated × IfErr read (Lacks IsStated)

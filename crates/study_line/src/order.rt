@@ -127,7 +127,7 @@ pub enum WordsError {
     Help(String),
     /// They ask for the version.
     Version,
-    /// `clap` refuses them, and says why. What it quotes of them has no control characters.
+    /// `clap` refuses them, and says why. Its quotes of them have no control characters.
     Mistake(String),
     /// `clap` takes them, but no picture is named so.
     NoPicture(String),

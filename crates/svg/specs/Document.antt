@@ -15,7 +15,7 @@ head_text style width height =
     ++ (view_box_text width height
     ++ (flat_map attribute ((codes "width", width) ∷ (codes "height", height) ∷ []) ++ (codes ">\n" ++ style)))
 
--- the text is a head, the shapes in their order, and the end. How its style sheet paints each class isn't said
+-- the text is a head, the shapes in their order, and the end. It isn't said how its style sheet paints each class
 pub record IsDocument (width height : ℕ) (shapes : List Shape) (text : List ℕ) : Type 0 where
   pub style : List ℕ
   pub text_is : text ≡ head_text style width height ++ (flat_map shape_text shapes ++ codes "</svg>\n")

@@ -13,8 +13,8 @@ most_runs = 1000000000000
 abbrev pub most_values : ℕ
 most_values = 2 ^ 120
 
--- what is added up of so many runs is at most this: each has fewer than 2^17 measures on a layer, each below 2^64, and
--- the square of its mistakes is below 2^88
+-- each sum over so many runs is at most this: each has fewer than 2^17 measures on a layer, each below 2^64, and the
+-- square of its mistakes is below 2^88
 abbrev pub most_of : (runs : ℕ) → ℕ
 most_of runs = runs * 2 ^ 88
 

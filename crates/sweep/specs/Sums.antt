@@ -104,14 +104,14 @@ AreOfFindings group layer S summary found pairs lasted trusts n = (trace : List 
     → AreTrusts S.processes trace trusts
     → AreLayerNumbers group layer (done_run S trace ∷ []) n
 
--- what was counted of any runs, as long as they aren't too many, is then counted of them and of one more
+-- the old counts of any runs, as long as they aren't too many, give the new counts of these runs and of one more
 abbrev pub CountsOneMore : LayerNumbers → (old new : LayerValues) → Type 0
 CountsOneMore run old new = (group : Group) (layer : ℕ) (trials : List Trial) (trial : Trial)
     → length trials < most_runs → length (all_detections group layer trials) ≤ most_pairs (length trials)
     → AreLayerValues group layer trials old → AreLayerNumbers group layer (trial ∷ []) run
     → AreLayerValues group layer (trials ++ trial ∷ []) new
 
--- what was added up on a layer, where the one more has this number
+-- the same of the sums on a layer, where the one more has this number
 abbrev pub TotalsOneMore : (number : ℕ) → LayerNumbers → (old new : LayerTotals) → Type 0
 TotalsOneMore number run old new = (group : Group) (layer first : ℕ) (trials : List Trial) (trial : Trial)
     → length trials < most_runs → number ≡ first + length trials → AreLayerTotals group layer trials first old

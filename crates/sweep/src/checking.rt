@@ -162,8 +162,8 @@ fn check_runs<R: Threads + Sync + Clock, W: Watcher>(
 }
 
 /// Reads the scenarios of all runs of a shard's points, by so many threads. They have the processes that the layout's
-/// groups name. The watcher hears how many are read: that
-/// none is, and then ever more, up to all of them. What it shows is taken away at the end.
+/// groups name. The watcher hears how many are read: none, and then ever more, up to all of them. At the end it takes
+/// away what it shows.
 ///
 /// # Errors
 ///

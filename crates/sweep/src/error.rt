@@ -15,7 +15,7 @@ pub enum SweepError {
         point: u64,
         /// The run of the point, from 0.
         run: u64,
-        /// Why it is refused; never for want of memory.
+        /// Why it is refused, which is never because memory was refused.
         reason: ReadError,
     },
     /// A group of pairs names a process that a run doesn't have.

@@ -45,7 +45,7 @@ fn measure_scenario(
     }
 }
 
-/// What the run of this number gives. Its scenario was read before: what refuses it now is want of memory.
+/// What the run of this number gives. Its scenario was read before, so it is refused now only where memory was refused.
 fn measure_run(
     alloc: Global,
     sources: &Sources,

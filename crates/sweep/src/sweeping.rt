@@ -88,7 +88,7 @@ fn write_points<R: Threads + Sync + Clock, O: Outlet, W: Watcher>(
 }
 
 /// Runs all runs of the points of a shard of a study, of which all scenarios were read before, as [`check_study`] does,
-/// and writes their rows, as [`sweep`] tells. What the watcher shows is taken away at the end.
+/// and writes their rows, as [`sweep`] tells. At the end the watcher takes away what it shows.
 ///
 /// # Errors
 ///
@@ -135,7 +135,7 @@ pub fn run_study<R: Threads + Sync + Clock, O: Outlet, W: Watcher>(
 ///
 /// The watcher hears of how many of the shard's runs the scenarios are read, from none up to all of them, and then how
 /// many are run. It is told when rows are to go out, and before that of each point of whose runs some passed their
-/// limit. What it shows is taken away as the sweep ends.
+/// limit. It takes away what it shows as the sweep ends.
 ///
 /// # Errors
 ///

@@ -41,8 +41,8 @@ pub trait Watcher {
     fn hear(&mut self, standing: Standing)
         ensures { HaveJoined heard self.old self.new (stands standing ∷ []) };
 
-    /// The last run of a point of this study, from 0, is in, and so many of the point's runs passed their limit. What
-    /// is shown is taken away before that is told.
+    /// The last run of a point of this study, from 0, is in, and so many of the point's runs passed their limit. The
+    /// watcher takes away what it shows before it tells that.
     fn limited(&mut self, sources: &Sources, grid: &Grid, point: u64, count: u64)
         requires { point < length (points grid.now) }
         ensures told { HaveJoined heard self.old self.new (limits point count ∷ []) }

@@ -8,8 +8,8 @@ use std::alloc::{AllocError, Global};
 use std::marker::Model;
 use std::mem::replace;
 
-/// What the receiver of an event takes, in 24 bytes. Who sent a letter stands in the event's key alone. What few bytes
-/// don't hold lies aside.
+/// What the receiver of an event takes, in 24 bytes. The sender of a letter stands in the event's key alone. A payload
+/// that doesn't fit into so few bytes lies aside.
 #[derive(Drop)]
 enum Taken {
     Start,
@@ -53,7 +53,7 @@ impl Taken {
         }
     }
 
-    /// What a letter says. What is left in its place then means nothing.
+    /// What a letter says. The payload that is left in its place means nothing.
     #[inline(always)]
     fn letter(alloc: Global, payload: &mut Payload) -> Result<Taken, AllocError>
         ensures input { IfOk result (λ taken.
@@ -92,7 +92,7 @@ impl Taken {
         Ok(taken)
     }
 
-    /// The same, as the receiver's machine takes it. What is left then means nothing.
+    /// The same, as the receiver's machine takes it. The value that is left means nothing.
     #[inline(always)]
     fn take_input(&mut self, sender: Pid) -> StepInput
         ensures { result ≡ input_of sender self.old }
@@ -171,8 +171,8 @@ impl Event {
         }
     }
 
-    /// The event that a letter becomes: its sender is that of its key. What it says is read in its place, and moved out
-    /// of it where it is large: what is left there means nothing.
+    /// The event that a letter becomes: its sender is that of its key. The payload is read in its place, and moved out
+    /// of it where it is large. The payload that is left there means nothing.
     ///
     /// # Errors
     ///
@@ -197,7 +197,7 @@ impl Event {
         self.key
     }
 
-    /// The event, moved out of its place. What is left there means nothing.
+    /// The event, moved out of its place. The event that is left there means nothing.
     #[inline(always)]
     pub fn take(&mut self) -> Event
         ensures { result ≡ self.old }
@@ -208,7 +208,8 @@ impl Event {
         }
     }
 
-    /// Its key, and what the receiver's machine takes, moved out of its place. What is left there means nothing.
+    /// Its key, and what the receiver's machine takes, moved out of its place. The event that is left there means
+    /// nothing.
     #[inline(always)]
     pub fn take_parts(&mut self) -> (Key, StepInput)
         ensures { result ≡ self.old }

@@ -29,8 +29,8 @@ impl Model for Parcel {
 }
 
 impl Parcel {
-    /// A letter, put together. What it says is read in its place, and moved out of it where it is large: what is left
-    /// there means nothing.
+    /// A letter, put together. The payload is read in its place, and moved out of it where it is large. The payload
+    /// that is left there means nothing.
     ///
     /// # Errors
     ///

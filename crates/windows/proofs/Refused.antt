@@ -19,7 +19,7 @@ one_refused (Ok x) h = h
 one_refused (Err e) (inl limit) = inl limit
 one_refused (Err e) (inr memory) = inr (inl memory)
 
--- why two answers aren't put together: the first of their refusals, or want of memory where both are there
+-- why two answers aren't put together: the first of their refusals, or that memory was refused where both are there
 module _ {X A B : Type 0} (left : Result A RunError) (right : Result B RunError) where
   pub first_of : (r : Result X RunError) → IfErr r (IsFirstRefusal left right) → IfErr r (λ e. IsFirstRefusal left right e ⊎ ((e ≡ Memory) × AreThere left right))
   first_of (Ok x) h = tt

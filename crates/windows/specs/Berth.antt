@@ -54,7 +54,7 @@ module _ {M : Type 0} (mind : M → Mind) (s : Record) where
     pub is : own_of mind berth.seat ≡ p
     pub own : (key : Key) (input : StepInput) → Has berth.pending key input → key.receiver ≡ p
 
-  -- a process of the scenario in its berth. What it put on its links before the window leaves room for a part
+  -- a process of the scenario in its berth. The letters on its links before the window leave room for a part
   abbrev pub IsBerthOf : Berth M → Type 0
   IsBerthOf berth = (p : ℕ) × IsBerth p (most_step_actions * most_in_part) berth
 

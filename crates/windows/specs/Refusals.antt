@@ -3,11 +3,11 @@ use Rattle.std.specs.Prelude.{◌≡◌, ◌⊎◌, ◌≤◌, ℕ, Result, Ok, 
 use Rattle.process_api.specs.declared.run_error.RunError.{RunError}
 use Rattle.process_api.specs.declared.run_error.RunError.TheVariants.{Limit, Memory, Spawn, Write}
 
--- one process is refused for want of a place in the trace, or of memory
+-- one process is refused because the trace has no place left, or because memory was refused
 abbrev pub IsRefusalOfOne : RunError → Type 0
 IsRefusalOfOne e = (e ≡ Limit) ⊎ (e ≡ Memory)
 
--- a window is refused for that, or for want of a thread
+-- a window is refused for that, or because a thread was refused
 abbrev pub IsRefusal : RunError → Type 0
 IsRefusal e = (e ≡ Limit) ⊎ (e ≡ Memory) ⊎ (e ≡ Spawn)
 

@@ -8,7 +8,7 @@ use Rattle.process_api.specs.declared.run_error.RunError.{RunError}
 use Rattle.process_api.specs.declared.run_error.RunError.TheVariants.{Limit, Memory, Spawn, Write}
 use Rattle.window_laws.specs.Theorems.{end_to_end}
 
--- a sink refuses a part for want of memory, or because it can't be written
+-- a sink refuses a part because memory was refused, or because the part can't be written
 abbrev pub IsRefusalOfSink : RunError → Type 0
 IsRefusalOfSink e = (e ≡ Memory) ⊎ (e ≡ Write)
 

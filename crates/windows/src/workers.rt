@@ -81,9 +81,9 @@ pub(crate) fn run_taken<M: Process, G: Gate, R: Wait>(
 /// The work of one worker, which has the number `worker` in this window: it takes berths until every deque was found
 /// empty, and runs each. It holds no lock.
 ///
-/// Nothing is put into a deque once the workers have begun, so one that was found empty stays empty. That a worker goes
-/// on until then stands in no clause, since an empty deque leaves no record: a test shows that the starter finds
-/// nothing left.
+/// Nothing is put into a deque once the workers have begun, so one that was found empty stays empty. No clause says
+/// that a worker goes on until then, since an empty deque leaves no record. A test shows that the starter finds nothing
+/// left.
 ///
 /// # Errors
 ///

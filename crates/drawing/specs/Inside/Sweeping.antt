@@ -51,7 +51,7 @@ after test t u = if nat_le t.tick u then t.suspected else test u
 abbrev pub after_all : (ℕ → Bool) → List Turn → ℕ → Bool
 after_all test turns = fold after test turns
 
--- what was found is what there is of a test, which from now on is what it is now
+-- all stretches of a test so far are found; from now on the test stays as it is now
 pub record IsSwept (test : ℕ → Bool) (from : ℕ) (s : Sweep) : Type 0 where
   pub low : from ≤ s.tick
   pub found : found_of s ≡ found test from (s.tick - from)

@@ -23,7 +23,7 @@ struct Counting {
     handed: Vec<(usize, u64)>,
     inputs: Arc<AtomicU64, Global>,
     most: usize,
-    // whether it refuses because it can't write, and not for want of memory
+    // whether it refuses because it can't write, and not because memory was refused
     writes: bool,
     failures: u64,
 }

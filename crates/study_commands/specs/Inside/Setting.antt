@@ -21,7 +21,7 @@ CannotSet assigned files (Refused line) = IsUnsetIn assigned files
 CannotSet assigned files Memory = Unit {0}
 CannotSet assigned files _ = ⊥
 
--- why files stand for no scenario, other than for want of memory
+-- why files stand for no scenario, other than that memory was refused
 pub record HasNone (sources : SourcesRecord) : Type 0 where
   pub reason : ReadError
   pub other : is_memory reason ≡ false
