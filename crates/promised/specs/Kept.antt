@@ -1,5 +1,5 @@
 -- What the numbers of a scenario say of its traces, on layer 1.
-use Rattle.std.specs.Prelude.{◌≡◌, ◌↔◌, ℕ, ◌+◌, ◌<◌, ◌≤◌, true, false, List, [], Some}
+use Rattle.std.specs.Prelude.{◌≡◌, ◌↔◌, ℕ, ◌+◌, ◌-◌, ◌<◌, ◌≤◌, true, false, List, [], Some}
 use Rattle.process_api.specs.EntryRecord.{EntryRecord}
 use Rattle.process_api.specs.declared.numbers.DetectorNumbers.{DetectorNumbers}
 use Rattle.process_api.specs.declared.numbers.DetectorNumbers.TheVariants.{Timeout, Freshness}
@@ -9,8 +9,8 @@ use Rattle.trace_laws.specs.World.{IsTrace}
 use Rattle.judges.specs.Meaning.{IsCorrect, From, Suspects}
 use Rattle.judges.specs.Verdicts.{strong_accuracy}
 use Rattle.detector_bounds.specs.Bounds.{HasNoMistake}
-use Rattle.detector_bounds.specs.Detected.{trusts}
-use Rattle.detector_bounds.specs.Watched.{Watches, IsReliable}
+use Rattle.detector_bounds.specs.Detected.{detected_by, trusts}
+use Rattle.detector_bounds.specs.Watched.{Watches, IsReliable, IsTimely}
 use Rattle.promised.specs.Links.{watched_link}
 use Rattle.promised.specs.Promised.{is_reliable, latency, patience}
 use Rattle.promised.specs.declared.bounds.PromisedBounds.{PromisedBounds}
@@ -19,6 +19,17 @@ use Rattle.promised.specs.declared.bounds.PromisedBounds.{PromisedBounds}
 abbrev pub HasNotGrown : DetectorNumbers → (trusts : ℕ) → Type 0
 HasNotGrown (Timeout its) trusts = trusts ≡ 0
 HasNotGrown (Freshness its) trusts = Unit {0}
+
+-- the detector with a `delta` or `timeout` of so many ticks
+abbrev pub waiting : DetectorNumbers → (ticks : ℕ) → DetectorNumbers
+waiting (Timeout its) ticks = Timeout (record {
+  period = its.period;
+  check = its.check;
+  timeout = ticks;
+  grow = its.grow;
+  watch = its.watch;
+})
+waiting (Freshness its) ticks = Freshness (record { eta = its.eta; delta = ticks; watch = its.watch })
 
 module _ (S : Record) where
   -- process p crashes at tick c, and q is correct and watches it
@@ -32,6 +43,12 @@ module _ (S : Record) where
   abbrev pub AlwaysSuspects : (q p t : ℕ) → Type 0
   AlwaysSuspects q p t = (trace : List EntryRecord) → IsTrace (setting_of S) trace
       → HasNotGrown S.detector (trusts trace q p) → From S (Suspects S trace 1 q p) t
+
+  -- q watches p over a link that has no loss and no outage
+  pub record IsLossless (q p : ℕ) : Type 0 where
+    pub watches : Watches S q p
+    pub no_loss : (link S p q).loss ≡ 0
+    pub no_outage : outages_on S p q ≡ []
 
   pub record KeepsPromises (b : PromisedBounds) : Type 0 where
     -- the links that count as reliable are those that the bounds call so
@@ -49,9 +66,22 @@ module _ (S : Record) where
     -- and so many ticks are at most those that are told
     pub at_most : (q p l : ℕ) → Watches S q p → latency S.detector (watched_link S q p) ≡ Some l
         → (most : ℕ) × (b.detection ≡ Some most) × (l ≤ most)
+    -- nor are more told: the bound of some crash that is to be detected is just so many after it, or by then where that is 0
+    pub attained : (most : ℕ) → b.detection ≡ Some most
+        → (q p c : ℕ) × IsToDetect q p c × (most ≡ detected_by S.detector (link S p q) 0 c - c)
     -- before the horizon, where no detection is late
     pub in_time : b.is_late ≡ false → (q p c l : ℕ) → IsToDetect q p c
         → latency S.detector (watched_link S q p) ≡ Some l → c + l < S.horizon
+    -- and one is late only where the bound of some such crash isn't before the horizon
+    pub late : b.is_late ≡ true
+        → (q p c : ℕ) × IsToDetect q p c × (S.horizon ≤ detected_by S.detector (link S p q) 0 c)
     -- a `delta` or `timeout` of so many ticks makes each link reliable that has no loss and no outage
     pub needed : (ticks : ℕ) → b.needed ≡ Some ticks → ticks ≤ patience S.detector → (q p : ℕ) → Watches S q p
         → (link S p q).loss ≡ 0 → outages_on S p q ≡ [] → IsReliable S p q
+    -- with so many each such link is timely, and where there is one, so many are told
+    pub suffices : (q p : ℕ) → IsLossless q p
+        → (ticks : ℕ) × (b.needed ≡ Some ticks) × IsTimely (waiting S.detector ticks) (link S p q)
+    -- nor are more told: some such link isn't timely with fewer
+    pub least : (ticks : ℕ) → b.needed ≡ Some ticks
+        → (q p : ℕ) × IsLossless q p
+        × ((fewer : ℕ) → IsTimely (waiting S.detector fewer) (link S p q) → ticks ≤ fewer)

@@ -11,13 +11,11 @@ use Rattle.scenario_record.specs.Numbers.{AreInRange}
 use Rattle.scenario_record.specs.Record.{crash, link}
 use Rattle.scenario_record.specs.declared.link.Link.{Link}
 use Rattle.judges.specs.Crashes.{crash_tick, is_crashed, is_correct}
-use Rattle.judges.specs.Meaning.{IsCorrect}
 use Rattle.judges.specs.Out.{suspects}
 use Rattle.judges.specs.Ticks.{least_from}
-use Rattle.detector_bounds.specs.Bounds.{CrashesAt}
 use Rattle.detector_bounds.specs.Detected.{detected_by, last_letter, grown, trusts}
 use Rattle.detector_bounds.specs.Multiples.{multiple_from}
-use Rattle.detector_bounds.specs.Watched.{Watches, watch_of}
+use Rattle.detector_bounds.specs.Watched.{watch_of}
 use Rattle.reporting.specs.Bounded.{IsBounded}
 use Rattle.reporting.specs.Grounds.{HasGrounds}
 use Rattle.reporting.specs.Measures.{all_measures, delay_after, is_measured, layer_measures, pair_measures}
@@ -26,7 +24,7 @@ use Rattle.reporting.specs.declared.pair_measures.Detection.{Detection}
 use Rattle.reporting.specs.declared.pair_measures.Detection.TheVariants.{Na, NoTick, At}
 use Rattle.reporting.specs.declared.trusts.Trusts.{Trusts}
 use Rattle.reporting.proofs.Layers.{one_layer, two_layers}
-use Rattle.sweep.specs.Columns.{AreBounds, detection_bound}
+use Rattle.sweep.specs.Columns.{AreBounds, IsAwaited, detection_bound}
 use Rattle.sweep.specs.Groups.{is_in}
 use Rattle.sweep.specs.Inside.Adding.{bounds_plus, of_bound}
 use Rattle.sweep.specs.Inside.OwnSums.{IsPair}
@@ -203,20 +201,31 @@ module _ (S : Record) (trace : List EntryRecord) where
   not_true true is = absurd (true≢false (sym is))
   not_true false is = refl
 
+  pub pair_awaited : (group : Group) (q p : ℕ) → 1 ≤ q → q ≤ S.processes → 1 ≤ p → p ≤ S.processes → q ≢ p
+      → counts_on group 1 S (pair_measures S trace 1 q p).observer (pair_measures S trace 1 q p).subject ≡ true → is_to_detect (pair_measures S trace 1 q p).detection ≡ true
+      → IsAwaited group (record { scenario = S; trace = trace }) (pair_measures S trace 1 q p).observer (pair_measures S trace 1 q p).subject (crash_tick S (pair_measures S trace 1 q p).subject)
+  unfolding pair_measures
+  pair_awaited group q p some l one m other counts awaited =
+      let measured : is_measured S q p ≡ true = is_awaited (is_measured S q p) (delay_after (crash_tick S p) (least_from (suspects 1 trace q p) S.horizon)) awaited in
+      let both = both_true (is_crashed S p) (is_correct S q) measured in
+      let early : crash_tick S p < S.horizon = ltb-true (crash_tick S p) S.horizon both.0 in
+      let late : S.horizon ≤ crash_tick S q = ltb-false (crash_tick S q) S.horizon (not_true (is_crashed S q) both.1) in
+      let of = both_true (is_in group q p) (is_watched q S.processes (watch_of S.detector) p) counts in
+      record {
+        grouped = of.0;
+        correct = ((some, l), late);
+        watches = ((some, l), of.1);
+        crashes = ((one, m), some_crash (crash S p) S.horizon early, early);
+      }
+
   pair_kept : (group : Group) (q p : ℕ) → 1 ≤ q → q ≤ S.processes → 1 ≤ p → p ≤ S.processes → q ≢ p → IsBounded S trace (pair_measures S trace 1 q p)
       → counts_on group 1 S (pair_measures S trace 1 q p).observer (pair_measures S trace 1 q p).subject ≡ true → IsKept S trace (pair_measures S trace 1 q p)
   unfolding pair_measures
   pair_kept group q p some l one m other bounded counts v awaited bound =
       let until = detected_by S.detector (link S p q) (trusts trace q p) (crash_tick S p) in
-      let measured : is_measured S q p ≡ true = is_awaited (is_measured S q p) (delay_after (crash_tick S p) (least_from (suspects 1 trace q p) S.horizon)) awaited in
-      let both = both_true (is_crashed S p) (is_correct S q) measured in
-      let early : crash_tick S p < S.horizon = ltb-true (crash_tick S p) S.horizon both.0 in
-      let late : S.horizon ≤ crash_tick S q = ltb-false (crash_tick S q) S.horizon (not_true (is_crashed S q) both.1) in
-      let correct : IsCorrect S q = ((some, l), late) in
-      let watches : Watches S q p = ((some, l), (both_true (is_in group q p) (is_watched q S.processes (watch_of S.detector) p) counts).1) in
-      let crashes : CrashesAt S trace p (crash_tick S p) = ((one, m), some_crash (crash S p) S.horizon early, early) in
+      let is = pair_awaited group q p some l one m other counts awaited in
       let its = has_bound (nat_lt until S.horizon) (until - crash_tick S p) v bound in
-      let found = (bounded refl).detection (crash_tick S p) correct watches crashes (ltb-true until S.horizon its.0) in
+      let found = (bounded refl).detection (crash_tick S p) is.correct is.watches is.crashes (ltb-true until S.horizon its.0) in
       (found.0, found.1, omega (arith, found.2, its.1))
 
   first_bounded : All (IsBounded S trace) (all_measures S trace) → All (IsBounded S trace) (layer_measures S trace 1)
@@ -260,7 +269,7 @@ is_below : (o : Option ℕ) (bound : ℕ) → IsBelow o (Some bound) → (t : �
 is_below None bound p = absurd p
 is_below (Some t) bound p = (t, refl, p)
 
-abbrev known : List (Option ℕ) → List ℕ
+abbrev pub known : List (Option ℕ) → List ℕ
 known all = filter_map (λ bound. bound) all
 
 abbrev lacking : List PairMeasures → ℕ
@@ -328,7 +337,7 @@ runs_kept group (r ∷ rs) each =
     (pairs_kept r.scenario r.trace (counted_pairs group 1 r) (all_kept r.scenario r.trace group (All-head (λ r. HasGrounds r.scenario r.trace) r rs each)))
     (runs_kept group rs (All-tail (λ r. HasGrounds r.scenario r.trace) r rs each))
 
-told_bound : (late : Bool) (o : Option ℕ) (bound : ℕ) → cond late None o ≡ Some bound → (late ≡ false) × (o ≡ Some bound)
+pub told_bound : (late : Bool) (o : Option ℕ) (bound : ℕ) → cond late None o ≡ Some bound → (late ≡ false) × (o ≡ Some bound)
 told_bound true o bound is = absurd (cc)
 told_bound false o bound is = (refl, is)
 

@@ -9,6 +9,7 @@ pub mod Single
 pub mod Lasted
 pub mod Parts
 pub mod Bounding
+pub mod Attained
 mod Reading
 mod Numbered
 mod Units

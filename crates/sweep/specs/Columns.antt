@@ -1,12 +1,17 @@
 -- What a row tells of a point's runs on a layer: sums, counts, percentiles and maxima over all of them.
-use Rattle.std.specs.Prelude.{◌≡◌, ℕ, ◌+◌, ◌*◌, ◌/◌, ◌≤◌, ◌==◌, Bool, true, false, if◌then◌else◌, is_none, is_some, Option, None, Some, List, [], ◌∷◌, length}
+use Rattle.std.specs.Prelude.{◌≡◌, ℕ, ◌+◌, ◌-◌, ◌*◌, ◌/◌, ◌≤◌, ◌==◌, Bool, true, false, if◌then◌else◌, is_none, is_some, Option, None, Some, List, [], ◌∷◌, length}
 use Rattle.std.specs.List.{count_by, filter, filter_map, flat_map, list_any, sum, sum_by}
+use Rattle.detector_bounds.specs.Bounds.{CrashesAt, detected_at}
+use Rattle.detector_bounds.specs.Watched.{Watches}
+use Rattle.judges.specs.Meaning.{IsCorrect}
 use Rattle.judges.specs.Verdicts.{verdicts}
 use Rattle.judges.specs.declared.outcomes.Outcome.{Outcome}
 use Rattle.judges.specs.declared.verdicts.Verdicts.{Verdicts}
 use Rattle.reporting.specs.Measures.{layers}
 use Rattle.reporting.specs.declared.pair_measures.PairMeasures.{PairMeasures}
 use Rattle.scenario_record.specs.Record.{Record}
+use Rattle.trace_laws.specs.History.{IsIn}
+use Rattle.sweep.specs.Groups.{is_in}
 use Rattle.sweep.specs.OneRun.{Finished, detection_ticks, is_undetected, is_at_once, counted_pairs, pair_ticks, mistakes, has_mistake, durations, detections, bounds, has_decided, decision_tick, run_outcomes, deciding, do_disagree, do_all_decide, is_undecided, last_decision, top_round}
 use Rattle.sweep.specs.Percentile.{greatest, IsPercentile}
 use Rattle.sweep.specs.Results.{RunResult, finished, limited, Trial}
@@ -133,6 +138,27 @@ abbrev pub KeepsBound : Columns → Type 0
 KeepsBound c = (bound : ℕ) → detection_bound c.sums.bounds ≡ Some bound
     → (c.sums.pairs.undetected ≡ 0) × (longest : ℕ) × (c.detections.greatest ≡ Some longest) × (longest ≤ bound)
 
+module _ (group : Group) where
+  -- in a run, a correct process q watches p, which crashes at tick c, and the pair is of the group
+  pub record IsAwaited (r : Finished) (q p c : ℕ) : Type 0 where
+    pub grouped : is_in group q p ≡ true
+    pub correct : IsCorrect r.scenario q
+    pub watches : Watches r.scenario q p
+    pub crashes : CrashesAt r.scenario r.trace p c
+
+  module _ (runs : List Finished) where
+    -- so it is in one of the runs, and of the tick by which q suspects p, at the latest, a fact holds
+    abbrev pub SomeAwaited : (Finished → (c until : ℕ) → Type 0) → Type 0
+    SomeAwaited P = (r : Finished) × IsIn r runs × (q p c : ℕ) × IsAwaited r q p c
+        × P r c (detected_at r.scenario r.trace q p c)
+
+    pub record TellsBound (b : DetectionBounds) : Type 0 where
+      -- the bound is the time from one of these crashes to that tick, so no greater one is told than there has to be
+      pub attained : (bound : ℕ) → detection_bound b ≡ Some bound → SomeAwaited (λ r c until. bound ≡ until - c)
+      -- where there is such a crash, and no bound is told, one of these ticks isn't before the horizon
+      pub missing : detection_bound b ≡ None → SomeAwaited (λ r c until. Unit {0})
+          → SomeAwaited (λ r c until. r.scenario.horizon ≤ until)
+
 module _ (group : Group) (layer : ℕ) where
   -- in how many runs something is so
   pub record AreRunCounts (runs : List Finished) (s : RunCounts) : Type 0 where
@@ -193,3 +219,4 @@ module _ (group : Group) (layer : ℕ) where
       pub rounds : IsDistribution (top_rounds layer trials) 0 c.rounds
       pub first_runs : AreFirstRuns c.first_runs
       pub kept : layer ≡ 1 → KeepsBound c
+      pub told : layer ≡ 1 → TellsBound group (done_on 1 trials) c.sums.bounds

@@ -1,4 +1,5 @@
 use Rattle.sweep.proofs.Words.{◌≡◌, ◌*◌, ◌^◌, ◌<◌, ap, ◌∙◌, subst, arith, count_by-le-length, IsDistribution, all_durations, all_detections, last_decisions, top_rounds, done_on, over, deciding, is_undecided}
+use Rattle.sweep.proofs.Attained.{columns_told}
 use Rattle.sweep.proofs.Bounding.{columns_kept}
 use Rattle.sweep.proofs.Layered.{few_done, few_decisions, few_rounds}
 use Rattle.sweep.proofs.point_sums.LayerTotals.columns.Goals as goal
@@ -23,4 +24,5 @@ returns c group layer first trials totals =
       rounds = c.distribution-4.ensures (top_rounds layer trials) (omega (arith, few_rounds layer trials, fit.few_runs)) (omega arith) totals.values.rounds;
       first_runs = totals.first_runs;
       kept = columns_kept group layer trials s c.distribution-2.result s.pairs.undetected fit detections;
+      told = columns_told group layer trials s fit;
     }
