@@ -66,7 +66,7 @@ module _ (S : Record) where
     -- and so many ticks are at most those that are told
     pub at_most : (q p l : ℕ) → Watches S q p → latency S.detector (watched_link S q p) ≡ Some l
         → (most : ℕ) × (b.detection ≡ Some most) × (l ≤ most)
-    -- nor are more told: the bound of some crash that is to be detected is just so many after it, or by then where that is 0
+    -- and no more are told: the bound of some such crash lies so many ticks after it, or not after it where that is 0
     pub attained : (most : ℕ) → b.detection ≡ Some most
         → (q p c : ℕ) × IsToDetect q p c × (most ≡ detected_by S.detector (link S p q) 0 c - c)
     -- before the horizon, where no detection is late
@@ -78,10 +78,10 @@ module _ (S : Record) where
     -- a `delta` or `timeout` of so many ticks makes each link reliable that has no loss and no outage
     pub needed : (ticks : ℕ) → b.needed ≡ Some ticks → ticks ≤ patience S.detector → (q p : ℕ) → Watches S q p
         → (link S p q).loss ≡ 0 → outages_on S p q ≡ [] → IsReliable S p q
-    -- with so many each such link is timely, and where there is one, so many are told
+    -- where there is such a link, a number is told, and with so many ticks the link is timely
     pub suffices : (q p : ℕ) → IsLossless q p
         → (ticks : ℕ) × (b.needed ≡ Some ticks) × IsTimely (waiting S.detector ticks) (link S p q)
-    -- nor are more told: some such link isn't timely with fewer
+    -- and no more are told: some such link isn't timely with fewer
     pub least : (ticks : ℕ) → b.needed ≡ Some ticks
         → (q p : ℕ) × IsLossless q p
         × ((fewer : ℕ) → IsTimely (waiting S.detector fewer) (link S p q) → ticks ≤ fewer)

@@ -147,7 +147,7 @@ module _ (group : Group) where
     pub crashes : CrashesAt r.scenario r.trace p c
 
   module _ (runs : List Finished) where
-    -- so it is in one of the runs, and of the tick by which q suspects p, at the latest, a fact holds
+    -- that is so in one of the runs, and a fact holds of the tick by which q suspects p at the latest
     abbrev pub SomeAwaited : (Finished → (c until : ℕ) → Type 0) → Type 0
     SomeAwaited P = (r : Finished) × IsIn r runs × (q p c : ℕ) × IsAwaited r q p c
         × P r c (detected_at r.scenario r.trace q p c)
