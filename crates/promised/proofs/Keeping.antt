@@ -27,7 +27,7 @@ use Rattle.promised.specs.Links.{crash_for, watched_link, watched_by, links_to, 
 use Rattle.promised.specs.Promised.{loses, needed, patience, is_reliable, latency, is_late, lossless, promised}
 use Rattle.promised.specs.declared.watching.WatchedLink.{WatchedLink}
 use Rattle.promised.proofs.Elements.{in_range, in_each, in_chosen, below_greatest, none_passes, all_pass, of_range, of_each, of_filter, of_chosen, greatest_in, some_passes}
-use Rattle.promised.proofs.Reliable.{timely_from, needed_below, is_lossless, lossless_keeps, reliable_is}
+use Rattle.promised.proofs.Reliable.{timely_from, is_lossless, lossless_keeps, reliable_is}
 
 -- a bound without a trust is the bound, where it hasn't grown
 same_bound : (d : DetectorNumbers) (l : Link) (trusts c : ℕ) → HasNotGrown d trusts → detected_by d l trusts c ≡ detected_by d l 0 c
