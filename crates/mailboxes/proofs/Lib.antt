@@ -1,3 +1,4 @@
 pub mod Homes
-pub mod Emptied
+pub mod Inboxes
 pub mod Rows
+pub mod Ticks

@@ -1,9 +1,7 @@
 -- Tickets and lists of letters that change at one place.
 use Rattle.std.proofs.Common.{◌≡◌, ℕ, zero, suc, ◌<◌, ◌≤◌, List, [], ◌∷◌, ◌++◌, length, map, take, drop, replicate, set, get_or, sym, ap, ◌∙◌, arith, append-nil}
 use Rattle.std.specs.Global.{Vec}
-use Rattle.std.specs.List.{All}
 use Rattle.std.proofs.lemmas.List.{get_or-map, map-set, set-get_or, take_all, drop_all}
-use Rattle.std.proofs.lemmas.List.Elements.{All-nil, All-cons}
 use Rattle.std.proofs.lemmas.Simd.{splat_is_map}
 use Rattle.process_api.specs.declared.message.Letter.{Letter}
 use Rattle.ledger.specs.Places.{each_with}
@@ -11,7 +9,7 @@ use Rattle.ledger.proofs.Lists.{with-nil, mixed_at, mixed_more}
 use Rattle.mailboxes.specs.Mailbox.{TicketView}
 use Rattle.mailboxes.specs.Mailboxes.{letters_in}
 use Rattle.mailboxes.proofs.Homes.{whose, posted_by}
-use Rattle.mailboxes.proofs.Emptied.{IsBlank, items_of}
+use Rattle.mailboxes.proofs.Inboxes.{items_of}
 
 -- the list of letters at one place gets more
 pub row_more : {A : Type 0} (f : A → List Letter) (xs : List A) (i : ℕ) (old new : A) → old ≡ get_or xs i old → i < length xs
@@ -58,8 +56,3 @@ pub all_emptied : (rows : List (List Letter)) (i n : ℕ) → length rows ≡ n 
 all_emptied rows i n e le =
     let end : length rows ≤ i = omega arith in
     (λ j. map (λ _. []) (take_all i rows end j) ++ drop_all i rows end j) ∙ append-nil (map (λ _. []) rows) ∙ sym (splat_is_map rows n [] e)
-
-pub all_blank : (lists : List (Vec Letter)) (n : ℕ) → letters_in lists ≡ replicate n [] → All IsBlank lists
-all_blank [] n e = All-nil IsBlank
-all_blank (v ∷ lists) zero e = absurd (omega (arith, ap length e))
-all_blank (v ∷ lists) (suc n) e = All-cons IsBlank v lists (ap (λ l. get_or l 0 []) e) (all_blank lists n (ap (λ l. drop 1 l) e))

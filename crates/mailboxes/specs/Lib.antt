@@ -1,3 +1,2 @@
 pub mod Mailbox
 pub mod Mailboxes
-pub mod Inside

@@ -1,6 +1,6 @@
 -- What is seen of one mailbox's tickets and of its owner's pass.
 use Rattle.std.specs.Coded.{Coded, code_by, coded×, coded_ℕ, coded_list}
-use Rattle.std.specs.Prelude.{ℕ, ◌+◌, ◌-◌, List, ◌++◌, refl}
+use Rattle.std.specs.Prelude.{ℕ, ◌+◌, ◌-◌, List, [], ◌∷◌, ◌++◌, Option, Some, None, min, refl}
 use Rattle.std.specs.Global.{Global}
 use Rattle.crossbeam_queue.specs.SegTies.{SegId}
 use Rattle.process_api.specs.declared.message.Letter.{Letter}
@@ -49,3 +49,14 @@ one_back h letters = home_of h.mailbox (h.out - 1) (h.back ++ letters)
 -- a ticket of each mailbox is back, with these letters
 abbrev pub all_back : List HomeView → List (List Letter) → List HomeView
 all_back hs rows = each_with one_back hs rows
+
+-- the lesser of two ticks, as far as they are there
+abbrev pub earlier_of : Option ℕ → Option ℕ → Option ℕ
+earlier_of None b = b
+earlier_of (Some a) None = Some a
+earlier_of (Some a) (Some b) = Some (min a b)
+
+-- the least tick of these letters, if there are any
+abbrev pub soonest_in : List Letter → Option ℕ
+soonest_in [] = None
+soonest_in (x ∷ letters) = earlier_of (Some x.key.tick) (soonest_in letters)

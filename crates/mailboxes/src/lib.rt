@@ -14,24 +14,28 @@
 //! slip, while another posts letter c to 2 by the second. Then `collect` with both slips gives an empty list, a list of
 //! a and c in one order or the other, and the list of b alone.
 //!
-//! Threads share [`SharedMailboxes`] by reference. [`Mailboxes`] has it together with the owner's passes, by which
-//! slips are made and taken back. The passes aren't shared: one thread has each of them at a time. [`Mailboxes::empty`]
-//! gives the lists that `collect` gives, and the mailboxes back as new ones; [`Mailboxes::empty_by`] does the same by
-//! several threads, each of which has the passes of mailboxes of its own, once every slip is back.
+//! What threads share by reference is [`SharedMailboxes`]; [`Mailboxes`] has it, and beside it the owner's passes, by
+//! which slips are made and taken back. They aren't shared: one thread has each of them at a time.
+//! [`Mailboxes::into_inboxes`] gives each mailbox, with its letters and its owner's pass, to its receiver as an
+//! [`Inbox`], which any thread may empty later. What is in it is known without that, as every slip is back.
+//! [`Mailboxes::of_inboxes`] makes mailboxes of emptied ones, to be used again.
 //!
 //! Letters lie in the mailboxes as a [`trace_laws::Parcel`] each. A worker that posts many lays them into a [`Tray`]
 //! first, by receiver. It posts those of one receiver one after the other, so that threads seldom wait for one another.
 #![tactic(auto)]
 
-mod emptying;
+mod inbox;
 mod mailbox;
 mod mailboxes;
 mod rule;
 mod shared;
 mod slip;
+mod soonest;
 mod tray;
 
+pub use inbox::Inbox;
 pub use mailboxes::Mailboxes;
 pub use shared::SharedMailboxes;
 pub use slip::Slip;
+pub use soonest::earlier;
 pub use tray::Tray;

@@ -3,9 +3,10 @@ ghost use Rattle.std.specs.Prelude.{◌≡◌, ◌≢◌, ◌<◌, ◌+◌, [], 
 ghost use Rattle.std.specs.List.Sorted.{IsPermutation};
 ghost use Rattle.crossbeam_queue.specs.SegTies.{IsSegPassOf};
 ghost use Rattle.ledger.specs.Ledger.{account, has_taken};
-ghost use Rattle.mailboxes.specs.Mailbox.{ticket_of, home_of, one_out, one_back};
+ghost use Rattle.mailboxes.specs.Mailbox.{ticket_of, home_of, one_out, one_back, soonest_in};
 
 use crate::rule::{EachOnce, Pop, Push};
+use crate::soonest::earlier;
 use crossbeam_queue::{RuledSegQueue, SegPass};
 use ledger::{Account, Settling, Ticketing};
 use std::alloc::{AllocError, Global};
@@ -41,13 +42,15 @@ impl Drop for Mailbox {
 #[derive(Drop)]
 pub(crate) struct Ticket {
     pass: Pass,
+    // the least tick of what was posted, if anything was
+    soonest: Option<u32>,
 }
 
 impl Model for Ticket {
     ghost use Rattle.std.specs.Prelude.{◌≡◌, None};
     ghost use Rattle.trace_laws.specs.contracts.parcel.Parcel as letter;
     ghost use Rattle.mailboxes.specs.contracts.mailbox.Mailbox as mailbox;
-    ghost use Rattle.mailboxes.specs.Mailbox.{TicketView, ticket_code, ticket_of};
+    ghost use Rattle.mailboxes.specs.Mailbox.{TicketView, soonest_in, ticket_code, ticket_of};
     ghost use Rattle.ledger.specs.Ledger.{new_pass, has_put};
 
     ghost Value = { TicketView };
@@ -57,7 +60,8 @@ impl Model for Ticket {
     ghost view = { λ t. ticket_of (record { web = t.pass.web; heap = t.pass.heap }) t.pass.me.view.client.put };
 
     ghost invariant = { λ t. (t.pass.me.hand ≡ None) × (t.pass.me.spare ≡ None)
-        × (t.pass.me.view.client ≡ has_put (new_pass None) t.pass.me.view.client.put) };
+        × (t.pass.me.view.client ≡ has_put (new_pass None) t.pass.me.view.client.put)
+        × (t.soonest ≡ soonest_in t.pass.me.view.client.put) };
 }
 
 /// The owner's pass of one mailbox, which makes the tickets and takes them back. Contracts see which mailbox it is, how
@@ -65,13 +69,15 @@ impl Model for Ticket {
 #[derive(Drop)]
 pub(crate) struct Home {
     pass: Pass,
+    // the least tick of what was posted by tickets that came back, if anything was
+    soonest: Option<u32>,
 }
 
 impl Model for Home {
     ghost use Rattle.std.specs.Prelude.{◌≡◌, None, [], ◌-◌, ◌≢◌, ◌≤◌};
     ghost use Rattle.trace_laws.specs.contracts.parcel.Parcel as letter;
     ghost use Rattle.mailboxes.specs.contracts.mailbox.Mailbox as mailbox;
-    ghost use Rattle.mailboxes.specs.Mailbox.{HomeView, home_code, home_of};
+    ghost use Rattle.mailboxes.specs.Mailbox.{HomeView, home_code, home_of, soonest_in};
 
     ghost Value = { HomeView };
 
@@ -82,7 +88,17 @@ impl Model for Home {
 
     ghost invariant = { λ h. (h.pass.me.hand ≡ None) × (h.pass.id ≡ 0) × (h.pass.me.view.client.parts ≢ 0)
         × (h.pass.me.view.client.parts ≤ h.pass.me.view.client.made)
-        × (h.pass.me.view.client.taken ≡ []) × (h.pass.me.view.client.told ≡ None) × (h.pass.me.spare ≡ None) };
+        × (h.pass.me.view.client.taken ≡ []) × (h.pass.me.view.client.told ≡ None) × (h.pass.me.spare ≡ None)
+        × (h.soonest ≡ soonest_in h.pass.me.view.client.put) };
+}
+
+impl Home {
+    /// The least tick of what was posted by tickets that came back, if anything was.
+    pub(crate) fn soonest(&self) -> Option<u32>
+        ensures { result ≡ soonest_in self.now.back }
+    {
+        self.soonest
+    }
 }
 
 impl Mailbox {
@@ -91,7 +107,8 @@ impl Mailbox {
         ensures { IfOk result (λ made. made.1 ≡ home_of made.0 0 []) }
     {
         let (queue, pass) = Queue::with_rule(alloc)?;
-        Ok((Mailbox { queue }, Home { pass }))
+        let soonest = None;
+        Ok((Mailbox { queue }, Home { pass, soonest }))
     }
 
     /// One more ticket to post by.
@@ -101,7 +118,8 @@ impl Mailbox {
         ensures ticket { result ≡ ticket_of home.old.mailbox [] }
     {
         let pass = self.queue.another::<Ticketing>(&mut home.pass);
-        Ticket { pass }
+        let soonest = None;
+        Ticket { pass, soonest }
     }
 
     /// Posts a letter. Where memory is refused it comes back, and nothing changes.
@@ -117,7 +135,10 @@ impl Mailbox {
         ensures err { OnErr result (ticket.new ≡ ticket.old) }
         ensures back { IfErr result (λ x. x ≡ letter) }
     {
-        self.queue.push_as::<Push, R>(rt, &mut ticket.pass, letter)
+        let tick = letter.key().tick;
+        self.queue.push_as::<Push, R>(rt, &mut ticket.pass, letter)?;
+        ticket.soonest = earlier(ticket.soonest, Some(tick));
+        Ok(())
     }
 
     /// Posts letters in their order. The list keeps its memory. Where memory is refused, nothing is known of what was
@@ -151,8 +172,9 @@ impl Mailbox {
         requires out { 0 < home.old.out }
         ensures { home.new ≡ one_back home.old ticket.posted }
     {
-        let Ticket { pass } = ticket;
+        let Ticket { pass, soonest } = ticket;
         self.queue.absorb::<Ticketing>(&mut home.pass, pass);
+        home.soonest = earlier(home.soonest, soonest);
     }
 
     /// Moves the letters into a list, in some order, once every ticket is back. The mailbox is as it was at first then.
@@ -168,10 +190,11 @@ impl Mailbox {
         ensures home { IfOk result (λ h. h ≡ home_of home.mailbox 0 []) }
         ensures letters { OnOk result (IsPermutation home.back letters.new.items) }
     {
-        let Home { mut pass } = home;
+        let Home { mut pass, .. } = home;
         drain(rt, &self.queue, &mut pass, letters)?;
         settle(&self.queue, &mut pass);
-        Ok(Home { pass })
+        let soonest = None;
+        Ok(Home { pass, soonest })
     }
 }
 

@@ -1,20 +1,18 @@
 //! The mailboxes whole: the queues, and the owner's pass of each.
 ghost use Rattle.std.specs.Prelude.{◌≡◌, ◌≤◌, ◌+◌, ℕ, [], true, length, map, IfOk, IfErr, OnOk, OnErr, vec_len};
-ghost use Rattle.std.specs.List.{All};
+ghost use Rattle.std.specs.List.{All, AllZip};
 ghost use Rattle.std.specs.List.Sorted.{IsPermutation};
 ghost use Rattle.process_api.specs.declared.run_error.RunError.TheVariants.{Memory};
 ghost use Rattle.mailboxes.specs.Mailboxes.{IsSlipOf, unused, with_letter, posted_to, list_of, letters_in, mailboxes_of};
 
-use crate::emptying::{empty_by, empty_in_turn};
-use crate::mailbox::Home;
+use crate::inbox::Inbox;
+use crate::mailbox::{Home, Mailbox};
 use crate::shared::SharedMailboxes;
 use crate::slip::Slip;
-use crate::tray::empty_lists;
 use process_api::{Letter, RunError};
 use std::alloc::{AllocError, Global};
 use std::marker::Model;
 use std::sync::Wait;
-use std::thread::Threads;
 use trace_laws::Parcel;
 
 /// A mailbox for each receiver, 1 to n. Contracts see which they are, and how many slips were made.
@@ -49,15 +47,49 @@ fn letters_of(alloc: Global, list: Vec<Parcel>) -> Result<Vec<Letter>, AllocErro
     Ok(letters)
 }
 
-// The letters of each list.
-fn letters_of_all(alloc: Global, lists: Vec<Vec<Parcel>>) -> Result<Vec<Vec<Letter>>, AllocError>
-    ensures { IfOk result (λ all. letters_in all.items ≡ letters_in lists.items) }
+// The letters of an inbox, in some order.
+fn letters_from<R: Wait>(rt: &R, alloc: Global, inbox: Inbox) -> Result<Vec<Letter>, AllocError>
+    ensures { IfOk result (λ letters. IsPermutation inbox letters.items) }
 {
-    let mut all = Vec::with_capacity(alloc, lists.len())?;
-    for list in lists {
-        all.push(letters_of(alloc, list)?)?;
+    let mut parcels = Vec::new(alloc);
+    inbox.empty(rt, &mut parcels)?;
+    letters_of(alloc, parcels)
+}
+
+// The letters of each inbox.
+fn letters_from_all<R: Wait>(
+    rt: &R,
+    alloc: Global,
+    inboxes: Vec<Inbox>,
+) -> Result<Vec<Vec<Letter>>, AllocError>
+    ensures { IfOk result (λ lists. AllZip IsPermutation inboxes.items (letters_in lists.items)) }
+{
+    let mut lists = Vec::new(alloc);
+    for inbox in inboxes {
+        lists.push(letters_from(rt, alloc, inbox)?)?;
     }
-    Ok(all)
+    Ok(lists)
+}
+
+// The mailboxes with their owner's passes, once every slip is back.
+fn inboxes_of(
+    alloc: Global,
+    boxes: Vec<Mailbox>,
+    homes: Vec<Home>,
+) -> Result<Vec<Inbox>, AllocError>
+    requires homes { boxes.items ≡ map (λ h. h.mailbox) homes.items }
+    requires out { All (λ h. h.out ≡ 0) homes.items }
+    ensures { IfOk result (λ inboxes. inboxes.items ≡ map (λ h. h.back) homes.items) }
+{
+    let mut inboxes = Vec::with_capacity(alloc, homes.len())?;
+    let mut boxes = boxes.into_iter();
+    for home in homes {
+        let Some(mailbox) = boxes.next() else {
+            unreachable!()
+        };
+        inboxes.push(Inbox::new(mailbox, home))?;
+    }
+    Ok(inboxes)
 }
 
 impl Mailboxes {
@@ -135,80 +167,41 @@ impl Mailboxes {
             IsPermutation (posted_to slips.items r) (list_of (letters_in lists.items) r)) }
         ensures err { IfErr result (λ e. e ≡ Memory) }
     {
-        let lists = self.lists(alloc)?;
-        let (_mailboxes, parcels) = self.empty(rt, alloc, lists, slips)?;
-        Ok(letters_of_all(alloc, parcels)?)
+        let inboxes = self.into_inboxes(alloc, slips)?;
+        Ok(letters_from_all(rt, alloc, inboxes)?)
     }
 
-    /// An empty list for each receiver. The error is that memory was refused.
-    pub fn lists(&self, alloc: Global) -> Result<Vec<Vec<Parcel>>, AllocError>
-        ensures count { IfOk result (λ lists. vec_len lists ≡ length self.now.mailboxes) }
-        ensures empty { IfOk result (λ lists. All (λ l. l.items ≡ []) lists.items) }
-    {
-        empty_lists(alloc, self.homes.len())
-    }
-
-    /// As `collect`, into lists that are empty, one for each receiver, so that their room is used again. The mailboxes
-    /// are as they were at first then, with no slip and no letter, and are answered too.
-    pub fn empty<R: Wait>(
-        self,
-        rt: &R,
-        alloc: Global,
-        lists: Vec<Vec<Parcel>>,
-        slips: Vec<Slip>,
-    ) -> Result<(Mailboxes, Vec<Vec<Parcel>>), RunError>
+    /// Each mailbox with the letters that the slips posted to its receiver, that of receiver r at place r - 1. The
+    /// slips are all that were made. The error is that memory was refused; then the letters are gone.
+    pub fn into_inboxes(self, alloc: Global, slips: Vec<Slip>) -> Result<Vec<Inbox>, RunError>
         requires all { vec_len slips ≡ self.slips }
         requires slips { All (IsSlipOf self.mailboxes) slips.items }
-        requires count { vec_len lists ≡ length self.mailboxes }
-        requires lists { All (λ l. l.items ≡ []) lists.items }
-        ensures mailboxes { IfOk result (λ r. r.0 ≡ mailboxes_of self.mailboxes 0) }
-        ensures count { IfOk result (λ r. vec_len r.1 ≡ length self.mailboxes) }
-        ensures letters { IfOk result (λ r. (q : ℕ) → 1 ≤ q → q ≤ length self.mailboxes →
-            IsPermutation (posted_to slips.items q) (list_of (letters_in r.1.items) q)) }
+        ensures count { IfOk result (λ inboxes. vec_len inboxes ≡ length self.mailboxes) }
+        ensures letters { IfOk result (λ inboxes. (r : ℕ) → list_of inboxes.items r ≡ posted_to slips.items r) }
         ensures err { IfErr result (λ e. e ≡ Memory) }
     {
         let (shared, homes) = self.take_back(slips);
-        let (homes, letters) = empty_in_turn(rt, alloc, shared.boxes(), homes, lists)?;
-        let mailboxes = Mailboxes {
-            shared,
-            homes,
-            slips: 0,
-        };
-        Ok((mailboxes, letters))
+        Ok(inboxes_of(alloc, shared.into_boxes(), homes)?)
     }
 
-    /// As `empty`, where up to so many threads empty mailboxes at once, the caller's among them: for 0 and 1 it does
-    /// all alone. It also does what was meant for a thread that can't be started.
-    ///
-    /// # Errors
-    ///
-    /// `Memory`: memory was refused. The mailboxes and the letters are gone then.
-    pub fn empty_by<R: Threads + Wait + Sync>(
-        self,
-        rt: &R,
-        alloc: Global,
-        threads: usize,
-        lists: Vec<Vec<Parcel>>,
-        slips: Vec<Slip>,
-    ) -> Result<(Mailboxes, Vec<Vec<Parcel>>), RunError>
-        requires all { vec_len slips ≡ self.slips }
-        requires slips { All (IsSlipOf self.mailboxes) slips.items }
-        requires count { vec_len lists ≡ length self.mailboxes }
-        requires lists { All (λ l. l.items ≡ []) lists.items }
-        ensures mailboxes { IfOk result (λ r. r.0 ≡ mailboxes_of self.mailboxes 0) }
-        ensures count { IfOk result (λ r. vec_len r.1 ≡ length self.mailboxes) }
-        ensures letters { IfOk result (λ r. (q : ℕ) → 1 ≤ q → q ≤ length self.mailboxes →
-            IsPermutation (posted_to slips.items q) (list_of (letters_in r.1.items) q)) }
-        ensures err { IfErr result (λ e. e ≡ Memory) }
+    /// Mailboxes again, as new ones are, of inboxes that are empty. The error is that memory was refused.
+    pub fn of_inboxes(alloc: Global, inboxes: Vec<Inbox>) -> Result<Mailboxes, AllocError>
+        requires { All (λ i. i ≡ []) inboxes.items }
+        ensures count { IfOk result (λ m. length m.mailboxes ≡ vec_len inboxes) }
+        ensures slips { IfOk result (λ m. m.slips ≡ 0) }
     {
-        let (shared, homes) = self.take_back(slips);
-        let (homes, letters) = empty_by(rt, alloc, threads, shared.boxes(), homes, lists)?;
-        let mailboxes = Mailboxes {
-            shared,
+        let mut boxes = Vec::with_capacity(alloc, inboxes.len())?;
+        let mut homes = Vec::with_capacity(alloc, inboxes.len())?;
+        for inbox in inboxes {
+            let (mailbox, home) = inbox.into_parts();
+            boxes.push(mailbox)?;
+            homes.push(home)?;
+        }
+        Ok(Mailboxes {
+            shared: SharedMailboxes::of_boxes(boxes),
             homes,
             slips: 0,
-        };
-        Ok((mailboxes, letters))
+        })
     }
 
     // Takes the slips back, which are all that were made. The queues are left, and the owner's passes.

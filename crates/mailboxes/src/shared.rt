@@ -30,10 +30,18 @@ impl Model for SharedMailboxes {
 
 impl SharedMailboxes {
     /// The mailboxes, by receiver.
-    pub(crate) fn boxes(&self) -> &[Mailbox]
-        ensures { result.now ≡ self.now }
+    pub(crate) fn into_boxes(self) -> Vec<Mailbox>
+        ensures { result.items ≡ self }
     {
-        self.boxes.as_slice()
+        let SharedMailboxes { boxes } = self;
+        boxes
+    }
+
+    /// These mailboxes, by receiver.
+    pub(crate) fn of_boxes(boxes: Vec<Mailbox>) -> SharedMailboxes
+        ensures { result ≡ boxes.items }
+    {
+        SharedMailboxes { boxes }
     }
 
     /// Posts a letter to its receiver, 1 to n. Where memory is refused the letter comes back, and the slip and the

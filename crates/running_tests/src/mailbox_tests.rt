@@ -4,12 +4,12 @@ ghost use Rattle.process_api.specs.Bounds.{most_processes};
 ghost use Rattle.mailboxes.specs.Mailboxes.{IsSlipOf};
 
 use crate::common::{NO_MEMORY, pid, same};
-use mailboxes::{Mailboxes, SharedMailboxes, Slip};
+use mailboxes::{Inbox, Mailboxes, SharedMailboxes, Slip};
 use process_api::{Key, Letter, Payload, Pid};
 use std::alloc::{AllocError, Global};
 use std::process::Abort;
 use std::sync::Wait;
-use std::thread::{Threads, join_mut};
+use std::thread::join_mut;
 use trace_laws::Parcel;
 
 /// A letter of process 1 with this number.
@@ -81,54 +81,44 @@ fn letters_of_slips(rt: HostRuntime) {
     have_numbers(&rt, alloc, &lists, &[&[], &[1, 1], &[]]);
 }
 
-/// The letters of these lists.
-fn opened(alloc: Global, lists: Vec<Vec<Parcel>>) -> Result<Vec<Vec<Letter>>, AllocError> {
-    let mut all = Vec::new(alloc);
-    for list in lists {
-        let mut letters = Vec::new(alloc);
-        for parcel in list {
-            letters.push(parcel.into_letter())?;
-        }
-        all.push(letters)?;
+/// An inbox has letters with these numbers, of tick 7, and once it was emptied has none.
+fn has_numbers<R: Abort + Wait>(rt: &R, alloc: Global, inbox: Inbox, wanted: &[u64]) {
+    let tick = if wanted.is_empty() { None } else { Some(7) };
+    same(rt, &inbox.soonest(), &tick);
+    let mut parcels = Vec::new(alloc);
+    let inbox = inbox.empty(rt, &mut parcels).expect(rt, NO_MEMORY);
+    same(rt, &inbox.soonest(), &None);
+    let mut letters = Vec::new(alloc);
+    for parcel in parcels {
+        let pushed = letters.push(parcel.into_letter());
+        pushed.expect(rt, NO_MEMORY);
     }
-    Ok(all)
+    let came = numbers(alloc, &letters).expect(rt, NO_MEMORY);
+    same(rt, &came.as_slice(), &wanted);
 }
 
-/// Empties mailboxes of which one slip was made.
-fn empty<R: Abort + Wait>(
-    rt: &R,
-    alloc: Global,
-    mailboxes: Mailboxes,
-    slip: Slip,
-) -> (Mailboxes, Vec<Vec<Letter>>)
-    requires one { mailboxes.slips ≡ 1 }
-    requires slip { IsSlipOf mailboxes.mailboxes slip }
-    ensures count { length result.0.mailboxes ≡ length mailboxes.mailboxes }
-    ensures slips { result.0.slips ≡ 0 }
-{
-    let lists = mailboxes.lists(alloc).expect(rt, NO_MEMORY);
-    let slips = vec![in alloc; slip].expect(rt, NO_MEMORY);
-    let emptied = mailboxes.empty(rt, alloc, lists, slips);
-    let (mailboxes, lists) = emptied.expect(rt, NO_MEMORY);
-    (mailboxes, opened(alloc, lists).expect(rt, NO_MEMORY))
-}
-
+/// Each receiver's inbox has its letters, and the least tick of these.
 #[test]
-fn emptied_mailboxes_are_used_again(rt: HostRuntime) {
+fn inboxes_of_slips(rt: HostRuntime) {
     let alloc = rt.alloc();
     let mut mailboxes = Mailboxes::new(alloc, 3).expect(&rt, NO_MEMORY);
-    let mut slip = mailboxes.slip(alloc).expect(&rt, NO_MEMORY);
-    post(&rt, &mailboxes, &mut slip, 2, 1);
-    let (mut mailboxes, lists) = empty(&rt, alloc, mailboxes, slip);
-    have_numbers(&rt, alloc, &lists, &[&[], &[1], &[]]);
-    let mut slip = mailboxes.slip(alloc).expect(&rt, NO_MEMORY);
-    post(&rt, &mailboxes, &mut slip, 3, 2);
-    post(&rt, &mailboxes, &mut slip, 2, 3);
-    let (mailboxes, lists) = empty(&rt, alloc, mailboxes, slip);
-    have_numbers(&rt, alloc, &lists, &[&[], &[3], &[2]]);
-    let lists = mailboxes.collect(&rt, alloc, Vec::new(alloc));
-    let lists = lists.expect(&rt, NO_MEMORY);
-    have_numbers(&rt, alloc, &lists, &[&[], &[], &[]]);
+    let mut first = mailboxes.slip(alloc).expect(&rt, NO_MEMORY);
+    let mut second = mailboxes.slip(alloc).expect(&rt, NO_MEMORY);
+    post(&rt, &mailboxes, &mut first, 2, 1);
+    post(&rt, &mailboxes, &mut second, 3, 2);
+    post(&rt, &mailboxes, &mut second, 2, 3);
+    let slips = vec![in alloc; first, second].expect(&rt, NO_MEMORY);
+    let inboxes = mailboxes.into_inboxes(alloc, slips);
+    let mut inboxes = inboxes.expect(&rt, NO_MEMORY);
+    for wanted in [[2].as_slice(), [1, 3].as_slice(), [].as_slice()] {
+        let inbox = inboxes.pop();
+        has_numbers(
+            &rt,
+            alloc,
+            inbox.expect(&rt, "there are three inboxes"),
+            wanted,
+        );
+    }
 }
 
 #[test]
@@ -216,40 +206,4 @@ fn two_threads_post_to_one_receiver(rt: HostRuntime) {
     let lists = lists.expect(&rt, NO_MEMORY);
     let came = numbers(alloc, &lists[1]).expect(&rt, NO_MEMORY);
     assert!(rt; came.iter().copied().eq(1..=2000));
-}
-
-/// Posts to three of five receivers by two slips, and empties the mailboxes by so many threads.
-fn post_and_empty_by<R: Abort + Threads + Wait + Sync>(
-    rt: &R,
-    alloc: Global,
-    threads: usize,
-    mut mailboxes: Mailboxes,
-) -> (Mailboxes, Vec<Vec<Letter>>)
-    requires count { length mailboxes.mailboxes ≡ 5 }
-    requires slips { mailboxes.slips ≡ 0 }
-    ensures count { length result.0.mailboxes ≡ 5 }
-    ensures slips { result.0.slips ≡ 0 }
-{
-    let mut first = mailboxes.slip(alloc).expect(rt, NO_MEMORY);
-    let mut second = mailboxes.slip(alloc).expect(rt, NO_MEMORY);
-    post(rt, &mailboxes, &mut first, 2, 1);
-    post(rt, &mailboxes, &mut first, 5, 2);
-    post(rt, &mailboxes, &mut second, 3, 3);
-    post(rt, &mailboxes, &mut second, 2, 4);
-    let lists = mailboxes.lists(alloc).expect(rt, NO_MEMORY);
-    let slips = vec![in alloc; first, second].expect(rt, NO_MEMORY);
-    let emptied = mailboxes.empty_by(rt, alloc, threads, lists, slips);
-    let (mailboxes, lists) = emptied.expect(rt, NO_MEMORY);
-    (mailboxes, opened(alloc, lists).expect(rt, NO_MEMORY))
-}
-
-#[test]
-fn emptied_by_several_threads(rt: HostRuntime) {
-    let alloc = rt.alloc();
-    let mut mailboxes = Mailboxes::new(alloc, 5).expect(&rt, NO_MEMORY);
-    for threads in [1, 2, 4, 9] {
-        let (emptied, lists) = post_and_empty_by(&rt, alloc, threads, mailboxes);
-        have_numbers(&rt, alloc, &lists, &[&[], &[1, 4], &[3], &[], &[2]]);
-        mailboxes = emptied;
-    }
 }

@@ -1,10 +1,10 @@
 -- Entries whose keys differ, and that are put in order.
-use Rattle.std.proofs.Common.{◌≡◌, ◌≢◌, refl, sym, ap, ◌∙◌, subst, Bool, false, true≢false, IsTrue, List, [], ◌∷◌, ◌++◌, map, suc, arith, get_or, is_lt, is_eq, Less, Equal, Greater, Ordering, ◌+◌}
+use Rattle.std.proofs.Common.{◌≡◌, ◌≢◌, refl, sym, ap, ◌∙◌, subst, Bool, true, false, true≢false, IsTrue, List, [], ◌∷◌, ◌++◌, map, suc, arith, get_or, is_lt, is_eq, Less, Equal, Greater, Ordering, ◌+◌}
 use Rattle.std.specs.List.{All, AllByRecursion, IsDistinct}
 use Rattle.std.specs.List.Sorted.{IsPermutation, IsSortedBy, IsSortedByKey}
 use Rattle.std.specs.Ordering.{eq_by_cmp, ordering_reverse}
 use Rattle.std.proofs.lemmas.Cmp.{tied_itself}
-use Rattle.std.proofs.lemmas.List.Sorted.{IsPermutation-map}
+use Rattle.std.proofs.lemmas.List.Sorted.{IsPermutation-map, IsPermutation-refl, IsPermutation-sym, IsPermutation-trans, IsPermutation-cons, IsPermutation-middle}
 use Rattle.std.proofs.lemmas.Map.Keys.{IsDistinct-IsPermutation}
 use Rattle.process_api.specs.Order.{key_cmp, is_less, is_before, is_rising}
 use Rattle.process_api.specs.EntryRecord.{EntryRecord}
@@ -97,3 +97,61 @@ rising_sorted (e ∷ f ∷ fs) s d =
 pub merged_rising : {X : Type 0} (f : X → List EntryRecord) (ps : List X) (sorted : List EntryRecord) → IsPermutation (all_of (map f ps)) sorted → IsSortedByKey (λ (e : EntryRecord). e.key) key_cmp sorted
     → All (λ p. IsTrue (is_rising (f p))) ps → AreDisjoint (map f ps) → IsTrue (is_rising sorted)
 merged_rising f ps sorted same s rising apart = test_of_rising sorted (rising_sorted sorted s (differ_moved (all_of (map f ps)) sorted same (all_differ f ps rising apart)))
+
+-- ---- there is a merged list: each entry is put into its place
+
+abbrev pick : {X : Type 0} → Bool → X → X → X
+pick true a b = a
+pick false a b = b
+
+picked : {X : Type 0} (Q : X → Type 0) (b : Bool) (x y : X) → (b ≡ true → Q x) → (b ≡ false → Q y) → Q (pick b x y)
+picked Q true x y f g = f refl
+picked Q false x y f g = g refl
+
+abbrev put : EntryRecord → List EntryRecord → List EntryRecord
+put e [] = e ∷ []
+put e (f ∷ fs) = pick (is_before f.key e.key) (f ∷ put e fs) (e ∷ f ∷ fs)
+
+put_all : (P : EntryRecord → Type 0) (e : EntryRecord) (es : List EntryRecord) → P e → AllByRecursion P es → AllByRecursion P (put e es)
+put_all P e [] p all = (p, tt)
+put_all P e (f ∷ fs) p all = picked (AllByRecursion P) (is_before f.key e.key) _ _ (λ _. (all.0, put_all P e fs p all.1)) (λ _. (p, all))
+
+put_same : (e : EntryRecord) (es : List EntryRecord) → IsPermutation (e ∷ es) (put e es)
+put_same e [] = IsPermutation-refl (e ∷ [])
+put_same e (f ∷ fs) =
+    picked (IsPermutation (e ∷ f ∷ fs)) (is_before f.key e.key) _ _
+    (λ _. IsPermutation-trans _ _ _ (IsPermutation-sym _ _ (IsPermutation-middle (f ∷ []) e fs)) (IsPermutation-cons f _ _ (put_same e fs))) (λ _. IsPermutation-refl _)
+
+put_rising : (e : EntryRecord) (es : List EntryRecord) → AllByRecursion (λ f. e.key ≢ f.key) es → Rising es → Rising (put e es)
+put_rising e [] apart r = (tt, tt)
+put_rising e (f ∷ fs) apart r =
+    picked Rising (is_before f.key e.key) _ _ (λ before. (put_all (Before f) e fs before r.0, put_rising e fs apart.1 r.1))
+    (λ not. let before : Before e f = before_of_apart e f not apart.0 in ((before, weaker (Before f) (Before e) (λ z later. before-trans e f z before later) fs r.0), r))
+
+abbrev in_order : List EntryRecord → List EntryRecord
+in_order [] = []
+in_order (e ∷ es) = put e (in_order es)
+
+in_order_all : (P : EntryRecord → Type 0) (es : List EntryRecord) → AllByRecursion P es → AllByRecursion P (in_order es)
+in_order_all P [] all = tt
+in_order_all P (e ∷ es) all = put_all P e (in_order es) all.0 (in_order_all P es all.1)
+
+in_order_same : (es : List EntryRecord) → IsPermutation es (in_order es)
+in_order_same [] = IsPermutation-refl []
+in_order_same (e ∷ es) = IsPermutation-trans _ _ _ (IsPermutation-cons e _ _ (in_order_same es)) (put_same e (in_order es))
+
+other_keys : (e : EntryRecord) (es : List EntryRecord) → AllByRecursion (λ k. same_keys e.key k ≡ false) (keys es) → AllByRecursion (λ f. e.key ≢ f.key) es
+other_keys e [] all = tt
+other_keys e (f ∷ fs) all = (same_key e.key f.key all.0, other_keys e fs all.1)
+
+in_order_rising : (es : List EntryRecord) → Differ es → Rising (in_order es)
+unfolding IsDistinct
+in_order_rising [] d = tt
+in_order_rising (e ∷ es) d = put_rising e (in_order es) (in_order_all (λ f. e.key ≢ f.key) es (other_keys e es d.0)) (in_order_rising es d.1)
+
+-- parts that rise and share no key can be merged
+pub has_merge : {X : Type 0} (f : X → List EntryRecord) (ps : List X) → All (λ p. IsTrue (is_rising (f p))) ps → AreDisjoint (map f ps)
+    → (merged : List EntryRecord) × IsTrue (is_rising merged) × IsPermutation (all_of (map f ps)) merged
+has_merge f ps rising apart =
+    let es = all_of (map f ps) in
+    (in_order es, test_of_rising (in_order es) (in_order_rising es (all_differ f ps rising apart)), in_order_same es)

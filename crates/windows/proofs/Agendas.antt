@@ -1,11 +1,14 @@
 -- Events in a row and events that wait, as one set.
-use Rattle.std.proofs.Common.{◌≡◌, ◌≢◌, ◌⊎◌, ◌≤◌, ◌<◌, ℕ, ◌+◌, inl, inr, refl, sym, ap, ◌∙◌, subst, List, [], ◌∷◌, ◌++◌, append-nil, append_assoc, min, arith, Less, Option, Some, None, MatchOption}
+use Rattle.std.proofs.Common.{◌≡◌, ◌≢◌, ◌⊎◌, ◌≤◌, ◌<◌, ℕ, ◌+◌, inl, inr, refl, sym, ap, ◌∙◌, subst, List, [], ◌∷◌, ◌++◌, map, length, append-nil, append_assoc, min, arith, Less, Option, Some, None, MatchOption}
 use Rattle.std.specs.FinMap as events
 use Rattle.std.specs.List.{AllByRecursion}
+use Rattle.std.specs.List.Sorted.{IsPermutation}
 use Rattle.std.specs.Option.{option_or}
 use Rattle.std.proofs.lemmas.Bool.{cases_lt}
+use Rattle.std.proofs.lemmas.List.Sorted.{Contains-permutation, IsPermutation-sym}
 use Rattle.process_api.specs.Order.{key_cmp}
 use Rattle.process_api.specs.declared.key.Key.{Key}
+use Rattle.process_api.specs.declared.message.Letter.{Letter}
 use Rattle.process_api.specs.declared.message.StepInput.{StepInput}
 use Rattle.process_api.proofs.KeyOrder.{keys_total, exact_keys, same_or_not, ticks_rise}
 use Rattle.process_api.proofs.Lists.{both, weaker}
@@ -18,9 +21,13 @@ use Rattle.trace_laws.specs.Step.{Event, Events}
 use Rattle.trace_laws.specs.World.{Has, IsLeast, NoneBelow, joined}
 use Rattle.trace_laws.proofs.Joining.{joined_one}
 use Rattle.trace_laws.proofs.Runs.{least_below}
-use Rattle.trace_laws.proofs.Sets.{insert_at, insert_other, joined_cases, remove_at, remove_other, removed}
-use Rattle.windows.specs.Inside.Agenda.{earlier_of, AreFrom, IsSoonestOf, SomeAt}
+use Rattle.trace_laws.proofs.Sets.{insert_at, insert_other, joined_cases, one_input, remove_at, remove_other, removed, same_events}
+use Rattle.trace_laws.specs.Taken.{event_of}
+use Rattle.mailboxes.specs.Mailbox.{earlier_of, soonest_in}
+use Rattle.window_laws.proofs.Unions.{in_map, joined_back, map_in}
+use Rattle.windows.specs.Inside.Agenda.{AreFrom, AreOne, IsSoonestOf, SomeAt}
 use Rattle.windows.proofs.Letters.{joined_both}
+use Rattle.windows.proofs.Members.{contains_in, in_contains}
 use Rattle.windows.proofs.Starts.{from_least}
 
 -- ---- the least tick
@@ -56,6 +63,11 @@ soonest_one e = ((omega arith, tt), inl refl)
 
 pub soonest_more : (es : List Event) (e : Event) (next : Option ℕ) → IsSoonestOf es next → IsSoonestOf (es ++ e ∷ []) (earlier_of next (Some e.0.tick))
 soonest_more es e next h = soonest_both es (e ∷ []) next (Some e.0.tick) h (soonest_one e)
+
+-- of letters
+pub soonest_events : (xs : List Letter) → IsSoonestOf (map event_of xs) (soonest_in xs)
+soonest_events [] = refl
+soonest_events (x ∷ xs) = soonest_both (event_of x ∷ []) (map event_of xs) (Some x.key.tick) (soonest_in xs) (soonest_one (event_of x)) (soonest_events xs)
 
 -- what has joined is there
 joined_keeps : (es : List Event) (m : Events) (k : Key) (y : StepInput) → Has m k y → (z : StepInput) × Has (joined m es) k z
@@ -158,6 +170,42 @@ module _ (m n : Events) (es : List Event) (end : ℕ) (from : AreFrom end es) (b
   pub taken_below : (r : Option Event) → MatchOption r (n ≡ m) (λ e. n ≡ events.remove m e.0) → (k : Key) (y : StepInput) → Has n k y → k.tick < end
   taken_below None is k y there = below k y (subst (λ s. Has s k y) is there)
   taken_below (Some e) is k y there = below k y (removed m e.0 k y (subst (λ s. Has s k y) is there)).1
+
+-- ---- letters join in whatever order
+
+module _ (m : Events) (k : Key) (y : StepInput) where
+  -- where letters with one key become one event, what has joined with it has its input
+  input_of_one : (xs : List Letter) → AreOne xs → Has (joined m (map event_of xs)) k y → (e : Event) → IsIn e (map event_of xs) → e.0 ≡ k → e.1 ≡ y
+  input_of_one xs one has e i at =
+      let z = in_map event_of xs e i in
+      let same : (f : Event) → IsIn f (map event_of xs) → f.0 ≡ k → f.1 ≡ e.1 =
+      λ f j there.
+      let w = in_map event_of xs f j in
+      let keys : w.0.key ≡ z.0.key = sym (ap (λ (g : Event). g.0) w.2) ∙ (there ∙ (sym at ∙ ap (λ (g : Event). g.0) z.2)) in
+      ap (λ (g : Event). g.1) (w.2 ∙ (one w.0 z.0 w.1 z.1 keys ∙ sym z.2)) in
+      one_input (joined m (map event_of xs)) k e.1 y (joined_back (map event_of xs) m k e.1 same (inl (subst (λ q. IsIn (q, e.1) (map event_of xs)) at i))) has
+
+  moved_has : (xs ys : List Letter) → AreOne xs → ((x : Letter) → IsIn x xs → IsIn x ys) → ((x : Letter) → IsIn x ys → IsIn x xs) → Has (joined m (map event_of xs)) k y → Has (joined m (map event_of ys)) k y
+  moved_has xs ys one to back has =
+      let across : (e : Event) → IsIn e (map event_of ys) → IsIn e (map event_of xs) =
+      λ e i. let z = in_map event_of ys e i in subst (λ f. IsIn f (map event_of xs)) (sym z.2) (map_in event_of xs z.0 (back z.0 z.1)) in
+      joined_back (map event_of ys) m k y (λ e i at. input_of_one xs one has e (across e i) at) (go (joined_cases (map event_of xs) m k y has))
+    where
+      go : IsIn (k, y) (map event_of xs) ⊎ Has m k y → IsIn (k, y) (map event_of ys) ⊎ Has m k y
+      go (inl i) = let z = in_map event_of xs (k, y) i in inl (subst (λ f. IsIn f (map event_of ys)) (sym z.2) (map_in event_of ys z.0 (to z.0 z.1)))
+      go (inr old) = inr old
+
+pub joined_moved : (m : Events) (xs ys : List Letter) → IsPermutation xs ys → AreOne xs → joined m (map event_of xs) ≡ joined m (map event_of ys)
+joined_moved m xs ys same one =
+    let to : (x : Letter) → IsIn x xs → IsIn x ys = λ x i. contains_in ys x (Contains-permutation xs ys x same (in_contains xs x i)) in
+    let back : (x : Letter) → IsIn x ys → IsIn x xs = λ x i. contains_in xs x (Contains-permutation ys xs x (IsPermutation-sym xs ys same) (in_contains ys x i)) in
+    same_events (joined m (map event_of xs)) (joined m (map event_of ys)) (λ k y. moved_has m k y xs ys one to back)
+    (λ k y. moved_has m k y ys xs (λ x z i j e. one x z (back x i) (back z j) e) back to)
+
+-- no letter becomes no event
+pub no_letter : (xs : List Letter) → map event_of xs ≡ [] → xs ≡ []
+no_letter [] e = refl
+no_letter (x ∷ xs) e = absurd (omega (arith, ap length e))
 
 -- ---- events are parted
 

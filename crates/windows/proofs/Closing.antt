@@ -1,5 +1,5 @@
 -- What the processes of a window make of a stage, and what the closing of the window leaves.
-use Rattle.std.proofs.Common.{◌≡◌, ◌⊎◌, ◌↔◌, ℕ, zero, suc, ◌+◌, ◌-◌, ◌*◌, ◌<◌, ◌≤◌, inl, inr, refl, sym, ap, ◌∙◌, subst, List, [], ◌∷◌, ◌++◌, Some, length, map, slice_get, arith, append_assoc, append-nil, length-append, vec_len, Bool, true, false, cond, not, nat_eq}
+use Rattle.std.proofs.Common.{◌≡◌, ◌⊎◌, ◌↔◌, ℕ, zero, suc, ◌+◌, ◌-◌, ◌*◌, ◌<◌, ◌≤◌, inl, inr, refl, sym, ap, ◌∙◌, subst, List, [], ◌∷◌, ◌++◌, Some, length, map, slice_get, arith, append_assoc, append-nil, length-append, Bool, true, false, cond, not, nat_eq}
 use Rattle.std.specs.Prelude.{IsTrue}
 use Rattle.std.specs.FinMap as finmap
 use Rattle.std.specs.List.{All}
@@ -40,6 +40,7 @@ use Rattle.window_laws.specs.Machine.{StageRecord, Act, StandsFor, IsRun, end_of
 use Rattle.window_laws.specs.Theorems.{IsMerge}
 use Rattle.windows.specs.Stage.{of_process, stage_of, AreHome, IsStageAfter, IsClosed, IsNextStart, IsWindowRun}
 use Rattle.window_laws.specs.Window.{BerthRun, IsPosted, AreBerths, IsSameStage}
+use Rattle.windows.specs.Inside.Agenda.{AreOne}
 use Rattle.windows.specs.Inside.Workers.{Stay, IsReady, IsStay, HasLong, IsOutcome, RiseBy}
 use Rattle.windows.specs.declared.berth.Berth.{Berth}
 use Rattle.windows.specs.declared.stage.Stage.{Stage}
@@ -251,6 +252,21 @@ module _ {M : Type 0} (mind : M → Mind) (old : Stage M) (ranges : IsInRange ol
       -- where the parts have more entries than are left, every trace is longer than the limit
       pub outcome_limit : (left : ℕ) → left + old.so_far ≡ s.limit → left < length (all_of parts) → (trace : List EntryRecord) → IsTrace S trace → s.limit < length trace
       outcome_limit left sum long trace is_trace = omega (arith, long, no_more 1 parts list parts_at, far trace is_trace, sum, is.so_far)
+
+      -- letters to one receiver with one key become one event, as both are pending in the list's world
+      sent_pending : (r : ℕ) → 1 ≤ r → r ≤ s.processes → (x : Letter) → IsIn x (list_of lists r) → Has after.pending x.key (event_of x).1
+      sent_pending r low high x i =
+          let sent = (o.letters r low high x).0 i in
+          let at = in_place o.stays sent.0 sent.1 in
+          let mine = letters (suc at.0) in
+          letter_in S sound window short is.world is.is_world g (is.stands window) list after all.2 (suc at.0) (pairs_of (suc at.0) list) (process_of mind sent.0.after.seat) sent.0.after.pending (map event_of mine)
+          (ran at.0 sent.0 at.1).0 x.key (event_of x).1 (map_in event_of mine x (subst (IsIn x) (sym (letters_at at.0 sent.0 at.1)) sent.2))
+
+      pub outcome_one : (r : ℕ) → 1 ≤ r → r ≤ s.processes → AreOne (list_of lists r)
+      outcome_one r low high x y i j same =
+          let a = subst (λ q. Has after.pending q (event_of x).1) same (sent_pending r low high x i) in
+          let input = one_input after.pending y.key (event_of x).1 (event_of y).1 a (sent_pending r low high y j) in
+          λ t. (same t, input t)
 
       -- ---- the window is closed
 

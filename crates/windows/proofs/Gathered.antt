@@ -1,5 +1,5 @@
 -- What is brought together after a window.
-use Rattle.std.proofs.Common.{◌≡◌, ◌⊎◌, ◌↔◌, ℕ, zero, suc, ◌-◌, ◌<◌, ◌≤◌, inl, inr, List, [], ◌∷◌, ◌++◌, length, map, replicate, set, get_or, refl, sym, ap, ◌∙◌, subst, append_assoc, append-nil, vec_len, arith}
+use Rattle.std.proofs.Common.{◌≡◌, ◌⊎◌, ◌↔◌, ℕ, zero, suc, ◌-◌, ◌<◌, ◌≤◌, inl, inr, List, [], ◌∷◌, ◌++◌, length, map, replicate, set, get_or, refl, sym, ap, ◌∙◌, subst, append_assoc, append-nil, arith}
 use Rattle.std.specs.List.{All, swap}
 use Rattle.std.specs.List.Sorted.{IsPermutation, IsNonDecreasingBy, apply_swaps, SwapsInRange}
 use Rattle.std.proofs.Math.Seq.{take-append_seam, drop-append_seam}
@@ -20,7 +20,7 @@ use Rattle.trace_laws.specs.World.{NoneBelow}
 use Rattle.window_laws.proofs.Unions.{iff_join}
 use Rattle.windows.proofs.Ranked.{in_permutation, rises_same, sorted_is}
 use Rattle.trace_laws.proofs.Steps.{in_append, in_left, in_right}
-use Rattle.windows.specs.Berth.{IsBerth, all_filed, with_letters}
+use Rattle.windows.specs.Berth.{all_filed, with_letters}
 use Rattle.deques.specs.Deques.{DequeId, RestView, all_put}
 use Rattle.windows.specs.Inside.Workers.{Stay, stay, taken_in, left_in, all_stays, with_stays, IsSent, IsStay, IsReady, IsFresh, AreRunBy, AreWorks, AreRun, IsRest, HasLong, IsOutcome, RiseBy}
 use Rattle.windows.specs.declared.workers.Start.{Start}

@@ -39,11 +39,11 @@ filed_more lists [] ys = refl
 filed_more lists (x ∷ xs) ys = filed_more (filed lists x) xs ys
 
 -- an outbox, before events were handed to it and after
-module _ (old : Outbox) where
+module _ {R : Type 0} (old : Outbox R) where
   pub is_for : (own n : ℕ) → old.own ≡ own → length old.tray.now ≡ n → Serves IsFor old own n
   is_for own n is count = (old, record { pending = refl; tray = refl; own_is = is; count = count })
 
-  module _ (new : Outbox) where
+  module _ (new : Outbox R) where
     pub still_for : StillServes IsFor old new → (own n : ℕ) → old.own ≡ own → length old.tray.now ≡ n → IsFor old new own n
     unfolding is_for
     still_for still own n is count = still old own n (is_for own n is count).1

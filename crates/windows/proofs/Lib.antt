@@ -16,3 +16,4 @@ pub mod Agendas
 pub mod Posted
 pub mod Cut
 pub mod Ended
+pub mod Waiting

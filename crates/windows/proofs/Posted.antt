@@ -18,24 +18,26 @@ use Rattle.trace_laws.specs.World.{IsTrace}
 use Rattle.steps.proofs.Openings.{number_at, length-numbers_to}
 use Rattle.mailboxes.specs.Mailboxes.{SlipView, list_of, posted_to}
 use Rattle.trace_merge.specs.Parts.{all_of, AreDisjoint}
+use Rattle.windows.specs.Inside.Agenda.{AreOne}
 use Rattle.windows.specs.Inside.Closing.{AreLettersOf, IsOutcomeBy, IsClosedBy}
 use Rattle.window_laws.specs.Machine.{end_of}
 use Rattle.windows.specs.Stage.{IsStageAfter, IsWindowRun}
 use Rattle.windows.specs.Inside.Workers.{IsOutcome}
 use Rattle.windows.specs.declared.berth.Berth.{Berth}
 use Rattle.windows.specs.declared.stage.Stage.{Stage}
-use Rattle.windows.proofs.Closing.{outcome_many, outcome_rising, outcome_disjoint, outcome_limit, outcome_next}
+use Rattle.windows.proofs.Closing.{outcome_many, outcome_one, outcome_rising, outcome_disjoint, outcome_limit, outcome_next}
 
 -- the letters to each receiver in the order of the slips
 abbrev posted_lists : List SlipView → ℕ → List (List Letter)
 posted_lists slips n = map (posted_to slips) (numbers_to n)
 
+posted_at : (slips : List SlipView) (n r : ℕ) → 1 ≤ r → r ≤ n → list_of (posted_lists slips n) r ≡ posted_to slips r
+posted_at slips n r low high = get_or_from_slice_get (posted_lists slips n) (r - 1) (posted_to slips r) [] (number_at (posted_to slips) n r low high)
+
 posted_are : (slips : List SlipView) (n : ℕ) → AreLettersOf slips n (posted_lists slips n)
 posted_are slips n = record {
   count = length-map (numbers_to n) (posted_to slips) ∙ length-numbers_to n;
-  each = λ r low high.
-      let here : list_of (posted_lists slips n) r ≡ posted_to slips r = get_or_from_slice_get (posted_lists slips n) (r - 1) (posted_to slips r) [] (number_at (posted_to slips) n r low high) in
-      subst (IsPermutation (posted_to slips r)) (sym here) (IsPermutation-refl (posted_to slips r));
+  each = λ r low high. subst (IsPermutation (posted_to slips r)) (sym (posted_at slips n r low high)) (IsPermutation-refl (posted_to slips r));
 }
 
 module _ {M : Type 0} (mind : M → Mind) (old : Stage M) (ranges : IsInRange old.scenario.now) (trace_so_far : List EntryRecord) (is : IsStageAfter mind trace_so_far old)
@@ -58,6 +60,9 @@ module _ {M : Type 0} (mind : M → Mind) (old : Stage M) (ranges : IsInRange ol
 
   pub disjoint_by : AreDisjoint (map (λ b. b.part.items) news)
   disjoint_by = outcome_disjoint mind old ranges trace_so_far is window short news lists as_posted
+
+  pub one_by : (r : ℕ) → 1 ≤ r → r ≤ s.processes → AreOne (posted_to slips r)
+  one_by r low high = subst AreOne (posted_at slips s.processes r low high) (outcome_one mind old ranges trace_so_far is window short news lists as_posted r low high)
 
   pub limit_by : (left : ℕ) → left + old.so_far ≡ s.limit → left < length (all_of (map (λ b. b.part.items) news)) → (trace : List EntryRecord) → IsTrace (setting_of s) trace → s.limit < length trace
   limit_by = outcome_limit mind old ranges trace_so_far is window short news lists as_posted

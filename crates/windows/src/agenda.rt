@@ -1,18 +1,20 @@
 //! The pending events of a process in a window.
-ghost use Rattle.std.specs.Prelude.{◌≡◌, ◌<◌, ◌++◌, ◌∷◌, [], ℕ, List, map, MatchOption, IfOk, OnOk, OnErr};
+ghost use Rattle.std.specs.Prelude.{◌≡◌, ◌<◌, ◌++◌, ◌∷◌, [], ℕ, List, map, MatchOption, IfOk, OnOk, OnErr, IsPermutation, true};
 ghost use Rattle.std.specs.FinMap as events;
 ghost use Rattle.trace_laws.specs.Step.{Event as EventPair};
 ghost use Rattle.trace_laws.specs.World.{IsLeast, NoneBelow, joined};
 ghost use Rattle.pending_events.specs.Pending.{IsEmpty, IsLeastTick};
 ghost use Rattle.trace_laws.specs.Taken.{event_of};
-ghost use Rattle.windows.specs.Inside.Agenda.{earlier_of, all_in, AreLists, IsParted, IsSoonestOf};
+ghost use Rattle.windows.specs.Inside.Agenda.{all_in, all_ahead, in_box, AreLists, AreOne, IsParted, IsSoonestOf};
 ghost use Rattle.windows.specs.Stage.{start_event};
 
+use mailboxes::{Inbox, earlier};
 use pending_events::Row;
 use process_api::{Key, Pid, StepInput};
 use std::alloc::{AllocError, Global};
 use std::marker::Model;
 use std::mem::replace;
+use std::sync::Wait;
 use trace_laws::{Event, Parcel};
 
 /// Events in a row and in lists.
@@ -23,9 +25,7 @@ pub(crate) struct Lists {
     end: u32,
     // the events at the end or later
     later: Vec<Event>,
-    // the letters that came after the row was filled
-    letters: Vec<Parcel>,
-    // the least tick of `later` and `letters`, if there is one
+    // the least tick of `later`, if there is one
     next: Option<u32>,
     // kept for their memory: what they hold means nothing
     due: Vec<Event>,
@@ -35,11 +35,13 @@ pub(crate) struct Lists {
 /// The pending events of a process. Contracts see the finite set of them.
 ///
 /// Those below the end of the window that is run lie in a row, put in order when a worker begins with the process. All
-/// others wait in lists, as they came: the starter delivers the letters of a window as they are, and the worker that
-/// runs the process next parts those of its window from them.
+/// others wait in a list, as they came. The letters of a window are in their mailbox, which the starter hands over as it
+/// is; the worker that runs the process next empties it, and parts those of its window from the others.
 #[derive(Drop)]
 pub(crate) struct Agenda {
     lists: Lists,
+    // the letters that came after the row was filled
+    inbox: Option<Inbox>,
 }
 
 impl Model for Agenda {
@@ -47,37 +49,43 @@ impl Model for Agenda {
     ghost use Rattle.process_api.specs.contracts.message.StepInput as step_input;
     ghost use Rattle.trace_laws.specs.Codes.{key_code};
     ghost use Rattle.trace_laws.specs.Step.{Events};
-    ghost use Rattle.windows.specs.Inside.Agenda.{AreLists, all_in};
+    ghost use Rattle.windows.specs.Inside.Agenda.{AreLists, AreOne, all_ahead, in_box};
 
     ghost Value = { Events };
 
     ghost coded = { events.code key_code step_input.the_row.coded };
 
-    ghost view = { λ a. all_in a.lists };
+    ghost view = { λ a. all_ahead a.lists a.inbox };
 
-    ghost invariant = { λ a. AreLists a.lists };
+    ghost invariant = { λ a. AreLists a.lists × AreOne (in_box a.inbox) };
 }
 
-/// The lesser of two ticks, as far as they are there.
-fn earlier(a: Option<u32>, b: Option<u32>) -> Option<u32>
-    ensures { result ≡ earlier_of a b }
+/// The least tick of the letters of an inbox, if there are any.
+#[tactic(auto, using(crate::proofs::Agendas::soonest_events))]
+fn soonest_of(inbox: &Option<Inbox>) -> Option<u32>
+    ensures { IsSoonestOf (map event_of (in_box inbox.now)) result }
 {
-    match (a, b) {
-        (Some(a), Some(b)) => Some(a.min(b)),
-        (Some(a), None) => Some(a),
-        (None, b) => b,
+    match inbox {
+        Some(inbox) => inbox.soonest(),
+        None => None,
     }
 }
 
-/// The least tick of letters, if there are any.
-fn soonest_of(letters: &[Parcel]) -> Option<u32>
-    ensures { IsSoonestOf (map event_of letters.now) result }
+/// The letters of an inbox, in some order, and the inbox, which is empty then.
+fn open<R: Wait>(
+    rt: &R,
+    alloc: Global,
+    inbox: Option<Inbox>,
+) -> Result<(Vec<Parcel>, Option<Inbox>), AllocError>
+    ensures letters { IfOk result (λ r. IsPermutation (in_box inbox) r.0.items) }
+    ensures empty { IfOk result (λ r. in_box r.1 ≡ []) }
 {
-    let mut soonest = None;
-    for letter in letters {
-        soonest = earlier(soonest, Some(letter.key().tick));
-    }
-    soonest
+    let mut letters = Vec::new(alloc);
+    let Some(inbox) = inbox else {
+        return Ok((letters, None));
+    };
+    let inbox = inbox.empty(rt, &mut letters)?;
+    Ok((letters, Some(inbox)))
 }
 
 /// Appends a list to another, or takes its place where that is empty.
@@ -166,7 +174,6 @@ fn no_events(alloc: Global) -> Lists
         row: Row::new(alloc),
         end: 0,
         later: Vec::new(alloc),
-        letters: Vec::new(alloc),
         next: None,
         due: Vec::new(alloc),
         rest: Vec::new(alloc),
@@ -182,42 +189,73 @@ fn take_events(row: &mut Row, later: Vec<Event>) -> Result<Vec<Event>, AllocErro
     Ok(events)
 }
 
-/// The events below a tick put in order.
-fn part(end: u32, lists: Lists) -> Result<Lists, AllocError>
+/// These letters join, and the events below a tick are put in order.
+fn part(end: u32, lists: Lists, letters: Vec<Parcel>) -> Result<Lists, AllocError>
     ensures lists { IfOk result AreLists }
-    ensures same { IfOk result (λ new. all_in new ≡ all_in lists) }
-    ensures parted { IfOk result (λ new. (new.end ≡ end) × (new.letters.items ≡ [])) }
+    ensures same { IfOk result (λ new. all_in new ≡ joined (all_in lists) (map event_of letters.items)) }
+    ensures parted { IfOk result (λ new. new.end ≡ end) }
 {
     let mut row = lists.row;
-    let letters = Vec::new(*lists.letters.allocator());
     let mut events = take_events(&mut row, lists.later)?;
     let mut parted = Parted::new(end, lists.due, lists.rest);
     parted.file_events(&mut events)?;
-    parted.file_letters(lists.letters)?;
+    parted.file_letters(letters)?;
     row.fill(&mut parted.due)?;
     Ok(Lists {
         row,
         end,
         later: parted.later,
-        letters,
         next: parted.next,
         due: parted.due,
         rest: events,
     })
 }
 
-/// Puts the events below a tick in order, where they aren't. Where memory is refused all are gone.
-fn settle(lists: &mut Lists, end: u32) -> Result<(), AllocError>
-    requires { AreLists lists.old }
-    ensures lists { AreLists lists.new }
-    ensures same { OnOk result (all_in lists.new ≡ all_in lists.old) }
-    ensures settled { OnOk result ((lists.new.end ≡ end) × (lists.new.letters.items ≡ [])) }
+/// Whether the inbox is empty, and the events below a tick are in order.
+#[tactic(auto, using(crate::proofs::Agendas::no_letter))]
+fn is_settled(lists: &Lists, inbox: &Option<Inbox>, end: u32) -> bool
+    ensures { result ≡ true → (lists.now.end ≡ end) × (in_box inbox.now ≡ []) }
 {
-    if lists.end == end && lists.letters.is_empty() {
+    lists.end == end && soonest_of(inbox).is_none()
+}
+
+/// Empties the inbox, and puts the events below a tick in order, where they aren't. Where memory is refused all are
+/// gone.
+#[tactic(auto, using(crate::proofs::Agendas::joined_moved))]
+fn settle<R: Wait>(
+    rt: &R,
+    lists: &mut Lists,
+    inbox: &mut Option<Inbox>,
+    end: u32,
+) -> Result<(), AllocError>
+    requires { AreLists lists.old × AreOne (in_box inbox.old) }
+    ensures lists { AreLists lists.new × AreOne (in_box inbox.new) }
+    ensures same { OnOk result (all_in lists.new ≡ all_ahead lists.old inbox.old) }
+    ensures settled { OnOk result ((lists.new.end ≡ end) × (in_box inbox.new ≡ [])) }
+{
+    if is_settled(lists, inbox, end) {
         return Ok(());
     }
     let alloc = *lists.later.allocator();
-    *lists = part(end, replace(lists, no_events(alloc)))?;
+    let (letters, emptied) = open(rt, alloc, inbox.take())?;
+    *lists = part(end, replace(lists, no_events(alloc)), letters)?;
+    *inbox = emptied;
+    Ok(())
+}
+
+/// One more event. Where memory is refused nothing changes.
+fn join(lists: &mut Lists, event: Event) -> Result<(), AllocError>
+    requires { AreLists lists.old }
+    ensures lists { AreLists lists.new }
+    ensures joined { OnOk result (all_in lists.new ≡ events.insert (all_in lists.old) event.0 event.1) }
+{
+    let tick = event.key().tick;
+    if tick < lists.end {
+        lists.row.join(event)?;
+        return Ok(());
+    }
+    lists.later.push(event)?;
+    lists.next = earlier(lists.next, Some(tick));
     Ok(())
 }
 
@@ -226,56 +264,59 @@ impl Agenda {
     pub(crate) fn new(alloc: Global, p: Pid) -> Result<Agenda, AllocError>
         ensures { IfOk result (λ a. a ≡ start_event p) }
     {
-        let mut agenda = Agenda {
-            lists: no_events(alloc),
-        };
-        agenda.join(Event::start(p))?;
-        Ok(agenda)
+        let mut lists = no_events(alloc);
+        join(&mut lists, Event::start(p))?;
+        Ok(Agenda { lists, inbox: None })
     }
 
-    /// Letters come for the process. Where memory is refused they are gone.
-    pub(crate) fn deliver(&mut self, letters: Vec<Parcel>) -> Result<(), AllocError>
-        ensures { OnOk result (self.new ≡ joined self.old (map event_of letters.items)) }
+    /// Letters come for the process. Answers the inbox from before, which is empty, if there was one. Where memory is
+    /// refused all may be gone.
+    pub(crate) fn deliver<R: Wait>(
+        &mut self,
+        rt: &R,
+        inbox: Inbox,
+    ) -> Result<Option<Inbox>, AllocError>
+        requires { AreOne inbox }
+        ensures joined { OnOk result (self.new ≡ joined self.old (map event_of inbox)) }
+        ensures empty { IfOk result (λ before. in_box before ≡ []) }
     {
-        let lists = &mut self.lists;
-        let next = earlier(lists.next, soonest_of(&letters));
-        append(&mut lists.letters, letters)?;
-        lists.next = next;
-        Ok(())
+        let last = self.lists.end;
+        settle(rt, &mut self.lists, &mut self.inbox, last)?;
+        Ok(replace(&mut self.inbox, Some(inbox)))
     }
 
     /// One more event. Where memory is refused all may be gone.
-    pub(crate) fn join(&mut self, event: Event) -> Result<(), AllocError>
+    pub(crate) fn join<R: Wait>(&mut self, rt: &R, event: Event) -> Result<(), AllocError>
         ensures { OnOk result (self.new ≡ events.insert self.old event.0 event.1) }
     {
-        let tick = event.key().tick;
-        let lists = &mut self.lists;
-        let end = lists.end;
-        settle(lists, end)?;
-        if tick < end {
-            lists.row.join(event)?;
-            return Ok(());
-        }
-        lists.later.push(event)?;
-        lists.next = earlier(lists.next, Some(tick));
-        Ok(())
+        let end = self.lists.end;
+        settle(rt, &mut self.lists, &mut self.inbox, end)?;
+        join(&mut self.lists, event)
     }
 
     /// The tick of the least event, if there is one.
     pub(crate) fn least_tick(&self) -> Option<u32>
         ensures { MatchOption result (IsEmpty self.now) (λ tick. IsLeastTick self.now tick) }
     {
-        earlier(self.lists.row.least_tick(), self.lists.next)
+        let lists = &self.lists;
+        earlier(
+            earlier(lists.row.least_tick(), lists.next),
+            soonest_of(&self.inbox),
+        )
     }
 
     /// Takes the least event, where it is below a tick. Where memory is refused all may be gone.
-    pub(crate) fn take_below(&mut self, end: u32) -> Result<Option<(Key, StepInput)>, AllocError>
+    pub(crate) fn take_below<R: Wait>(
+        &mut self,
+        rt: &R,
+        end: u32,
+    ) -> Result<Option<(Key, StepInput)>, AllocError>
         ensures least { IfOk result (λ r.
             MatchOption r (NoneBelow end self.old) (λ e. IsLeast self.old e.0 e.1 × (e.0.tick < end))) }
         ensures removed { IfOk result (λ r.
             MatchOption r (self.new ≡ self.old) (λ e. self.new ≡ events.remove self.old e.0)) }
     {
-        settle(&mut self.lists, end)?;
+        settle(rt, &mut self.lists, &mut self.inbox, end)?;
         Ok(self.lists.row.take_least())
     }
 }

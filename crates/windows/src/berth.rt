@@ -77,8 +77,9 @@ impl<M: Process> Berth<M> {
 
     /// Makes the step of an event that was taken from the pending ones: the machine's turn, which hands on what it
     /// causes, and the entry joins the part.
-    fn take(
+    fn take<R: Wait>(
         &mut self,
+        rt: &R,
         streams: &Streams<'_>,
         tray: &mut Tray,
         event: (Key, StepInput),
@@ -103,6 +104,7 @@ impl<M: Process> Berth<M> {
     {
         let (key, input) = event;
         let mut outbox = Outbox {
+            rt,
             alloc: *self.part.allocator(),
             own: key.receiver,
             pending: &mut self.pending,
@@ -140,7 +142,8 @@ fn check_room(made: u64, left: u64) -> Result<(), RunError>
 /// # Errors
 ///
 /// As [`run_berth`].
-pub(crate) fn run_into<M: Process>(
+pub(crate) fn run_into<M: Process, R: Wait>(
+    rt: &R,
     berth: &mut Berth<M>,
     end: u32,
     streams: &Streams<'_>,
@@ -162,9 +165,9 @@ pub(crate) fn run_into<M: Process>(
     if berth.part.len() as u64 > left {
         return Err(RunError::Limit);
     }
-    while let Some(event) = berth.pending.take_below(end)? {
+    while let Some(event) = berth.pending.take_below(rt, end)? {
         check_room(berth.part.len() as u64, left)?;
-        berth.take(streams, tray, event)?;
+        berth.take(rt, streams, tray, event)?;
     }
     Ok(())
 }
@@ -205,7 +208,7 @@ pub fn run_berth<M: Process, R: Wait>(
     ensures limit { IsErrOf result RunError.Limit → IsLong M.mind streams.now end left berth.old }
 {
     let mut tray = slip.tray()?;
-    run_into(berth, end, streams, &mut tray, left)?;
+    run_into(rt, berth, end, streams, &mut tray, left)?;
     mailboxes.post_all(rt, slip, &mut tray)?;
     Ok(())
 }

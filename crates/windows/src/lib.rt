@@ -17,11 +17,11 @@
 //! workers, each a thread. A worker takes a berth, tells the [`Gate`], and runs it to the window's end as [`run_berth`]
 //! does, but for the letters: they wait in the worker's tray until it has run its last berth, or one with many entries.
 //! It pops its own deque. When that is empty it steals from the others, the next one first, until it has found each of
-//! them empty. When all workers are joined, the starter takes what is left in the deques. Then the mailboxes are
-//! emptied and the parts are merged, side by side where there is more than one worker and the parts are worth a thread,
-//! and each process takes its letters. Where several refusals are met, that of a thread is answered before that of
-//! memory, and this before that of a place in the trace. The merged part goes to a [`Sink`], and the next window opens
-//! at the least pending tick.
+//! them empty. When all workers are joined, the starter takes what is left in the deques. Then each process gets its
+//! mailbox as it is: the worker that runs the process next empties it. Where several refusals are met, that of a thread
+//! is answered before that of memory, and this before that of a place in the trace. The next window opens at the least
+//! pending tick. The parts are merged, beside the next window where they are worth a thread, and the merged part goes
+//! to a [`Sink`].
 //!
 //! The crate `deques` promises that each berth comes out of the deques once. Its proof uses the ledger of each deque:
 //! counted with repetitions, the items that were put are those that all passes have taken and those that the deque
@@ -41,7 +41,6 @@ mod berth;
 mod error;
 mod gate;
 mod gather;
-mod halves;
 mod laws;
 mod outbox;
 mod plan;
@@ -55,10 +54,9 @@ mod workers;
 pub use berth::{Berth, run_berth};
 pub use error::PlanError;
 pub use gate::{Gate, OpenGate};
-pub use halves::WORTH_A_THREAD;
 pub use laws::law_any_order;
 pub use plan::Plan;
-pub use run::{run_windows, run_windows_into};
+pub use run::{WORTH_A_THREAD, run_windows, run_windows_into};
 pub use sink::Sink;
 pub use stage::Stage;
 pub use window::run_window;

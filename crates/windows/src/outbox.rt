@@ -4,19 +4,21 @@ use crate::agenda::Agenda;
 use mailboxes::Tray;
 use process_api::{Key, Payload, Pid};
 use std::alloc::{AllocError, Global};
+use std::sync::Wait;
 use trace_laws::{Event, Joins, Parcel};
 
 /// Takes what a process causes in a window: an event of its own joins its pending ones, and a letter to another waits
 /// to be posted.
 #[derive(Drop)]
-pub(crate) struct Outbox<'a> {
+pub(crate) struct Outbox<'a, R> {
+    pub rt: &'a R,
     pub alloc: Global,
     pub own: Pid,
     pub pending: &'a mut Agenda,
     pub tray: &'a mut Tray,
 }
 
-impl Joins for Outbox<'_> {
+impl<R: Wait> Joins for Outbox<'_, R> {
     ghost use Rattle.windows.specs.Inside.Outbox.{HandedOn, IsFor};
 
     ghost serves = { IsFor };
@@ -25,7 +27,7 @@ impl Joins for Outbox<'_> {
 
     #[inline(always)]
     fn add(&mut self, event: Event) -> Result<(), AllocError> {
-        self.pending.join(event)
+        self.pending.join(self.rt, event)
     }
 
     #[inline(always)]

@@ -1,5 +1,5 @@
 //! All processes between two windows.
-ghost use Rattle.std.specs.Prelude.{◌≡◌, ◌≤◌, ◌<◌, ◌+◌, ◌^◌, ◌++◌, [], ℕ, List, map, vec_len, length, IfErr, IfOk, OnOk, IsErrOf, IsTrue, IsPermutation, nat_eq};
+ghost use Rattle.std.specs.Prelude.{◌≡◌, ◌≤◌, ◌<◌, ◌+◌, ◌^◌, ◌++◌, [], ℕ, List, map, vec_len, length, IfErr, IfOk, OnOk, IsErrOf, IsTrue, MatchOption, nat_eq};
 ghost use Rattle.std.specs.List.{All};
 ghost use Rattle.process_api.specs.Numbers.{numbers_to};
 ghost use Rattle.process_api.specs.Order.{is_rising};
@@ -7,24 +7,23 @@ ghost use Rattle.scenario_record.specs.Record.{opening_mind};
 ghost use Rattle.trace_laws.specs.ScenarioSetting.{setting_of};
 ghost use Rattle.steps.specs.Seat.{process_of, own_of, IsMindIn, IsSeated};
 ghost use Rattle.trace_laws.specs.World.{opened, opening};
-ghost use Rattle.mailboxes.specs.Mailboxes.{IsSlipOf, letters_in};
+ghost use Rattle.mailboxes.specs.Mailboxes.{IsSlipOf, posted_to};
 ghost use Rattle.trace_merge.specs.Parts.{all_of, AreDisjoint};
-ghost use Rattle.windows.specs.Inside.Closing.{IsClosedBy};
+ghost use Rattle.windows.specs.Inside.Agenda.{AreOne, in_box};
+ghost use Rattle.process_api.specs.EntryRecord.{EntryRecord};
+ghost use Rattle.windows.specs.Inside.Closing.{AreParts, IsClosedBy, IsMerged};
 ghost use Rattle.window_laws.specs.Machine.{StandsFor};
 ghost use Rattle.windows.specs.Refusals.{IsRefusalOfOne};
 ghost use Rattle.windows.specs.Stage.{stage_of, start_event, delivered, IsOpened, IsNextStart, IsStageAfter};
 
 use crate::agenda::Agenda;
 use crate::berth::Berth;
-use crate::halves::{empty_and_merge, threads_for};
-use mailboxes::{Mailboxes, Slip};
+use mailboxes::{Inbox, Mailboxes, Slip};
 use process_api::{Entry, Pid, Process, RunError};
 use scenario_record::Scenario;
 use std::alloc::{AllocError, Global};
 use std::mem::replace;
 use std::sync::Wait;
-use std::thread::Threads;
-use trace_laws::Parcel;
 
 /// All processes of a scenario between two windows: each in its berth, the tick at which the next window starts, and
 /// how many entries the trace has so far. The parameter has no bound here, so that machines may be boxed.
@@ -38,7 +37,7 @@ pub struct Stage<'s, M = Box<dyn Process>> {
     pub(crate) so_far: u64,
     /// How many workers ran the window before, and 0 where there was none.
     pub(crate) workers: usize,
-    // those of the window before, if there was one, to be used again
+    // those of the window before the last, if there was one, to be used again
     pub(crate) mailboxes: Option<Mailboxes>,
 }
 
@@ -48,7 +47,7 @@ pub(crate) struct Ran<M> {
     pub berths: Vec<Berth<M>>,
     pub mailboxes: Mailboxes,
     pub slips: Vec<Slip>,
-    /// How many workers there were. No more threads may close the window.
+    /// How many workers there were.
     pub workers: usize,
 }
 
@@ -102,28 +101,61 @@ fn take_parts<M: Process>(
     Ok((done, parts))
 }
 
-/// Each berth takes the letters of its mailbox, which are used up. Both lists have process 1 first.
-fn deliver_all<M: Process>(
+// One inbox more, if there is one.
+fn keep(kept: &mut Vec<Inbox>, inbox: Option<Inbox>) -> Result<(), AllocError>
+    requires inbox { in_box inbox ≡ [] }
+    requires kept { All (λ i. i ≡ []) kept.old.items }
+    ensures { OnOk result (All (λ i. i ≡ []) kept.new.items) }
+{
+    if let Some(inbox) = inbox {
+        kept.push(inbox)?;
+    }
+    Ok(())
+}
+
+/// Each berth gets its mailbox with the letters. Both lists have process 1 first. Answers the berths, and the mailboxes
+/// that they had before, which are empty.
+fn deliver_all<M: Process, R: Wait>(
+    rt: &R,
     alloc: Global,
     berths: Vec<Berth<M>>,
-    letters: Vec<Vec<Parcel>>,
-) -> Result<Vec<Berth<M>>, AllocError>
-    requires { vec_len letters ≡ vec_len berths }
-    ensures seats { IfOk result (λ r. map (λ b. b.seat) r.items ≡ map (λ b. b.seat) berths.items) }
+    inboxes: Vec<Inbox>,
+) -> Result<(Vec<Berth<M>>, Vec<Inbox>), AllocError>
+    requires count { vec_len inboxes ≡ vec_len berths }
+    requires one { All AreOne inboxes.items }
+    ensures seats { IfOk result (λ r. map (λ b. b.seat) r.0.items ≡ map (λ b. b.seat) berths.items) }
     ensures pending { IfOk result (λ r.
-        map (λ b. b.pending) r.items ≡ delivered (map (λ b. b.pending) berths.items) (letters_in letters.items)) }
-    ensures parts { IfOk result (λ r. map (λ b. b.part) r.items ≡ map (λ b. b.part) berths.items) }
+        map (λ b. b.pending) r.0.items ≡ delivered (map (λ b. b.pending) berths.items) inboxes.items) }
+    ensures parts { IfOk result (λ r. map (λ b. b.part) r.0.items ≡ map (λ b. b.part) berths.items) }
+    ensures emptied { IfOk result (λ r. All (λ i. i ≡ []) r.1.items) }
 {
     let mut done = Vec::with_capacity(alloc, berths.len())?;
-    let mut lists = letters.into_iter();
+    let mut emptied = Vec::new(alloc);
+    let mut inboxes = inboxes.into_iter();
     for mut berth in berths {
-        let Some(list) = lists.next() else {
+        let Some(inbox) = inboxes.next() else {
             unreachable!()
         };
-        berth.pending.deliver(list)?;
+        keep(&mut emptied, berth.pending.deliver(rt, inbox)?)?;
         done.push(berth)?;
     }
-    Ok(done)
+    Ok((done, emptied))
+}
+
+/// How many entries the parts have together, if that is at most `left`.
+fn count_within(parts: &[Vec<Entry>], left: u64) -> Option<u64>
+    ensures { MatchOption result (left < length (all_of (map (λ part. part.items) parts.now)))
+        (λ made. (made ≡ length (all_of (map (λ part. part.items) parts.now))) × (made ≤ left)) }
+{
+    let mut made = 0;
+    for part in parts {
+        let more = part.len() as u64;
+        if left - made < more {
+            return None;
+        }
+        made += more;
+    }
+    Some(made)
 }
 
 /// The tick at which the next window opens: the least pending tick, or the horizon where none is below it.
@@ -208,53 +240,49 @@ impl<'s, M: Process> Stage<'s, M> {
         self.start == self.scenario.horizon()
     }
 
-    /// Closes a window: the mailboxes are emptied, and the parts that the berths have of it are merged; where it is
-    /// worth it, at once, by no more threads than there were workers. Each of these had a slip, and so had the starter.
-    /// Then each berth takes the letters of its mailbox. The next window starts at the least pending tick. Answers the
-    /// merged part, which has at most `left` entries.
+    /// Closes a window: the berths give their parts, and each gets its mailbox, in place of that of the window before,
+    /// which is used again. The next window starts at the least pending tick. Answers the parts, which have at most
+    /// `left` entries together, and wait to be merged.
     ///
     /// # Errors
     ///
     /// `Limit` where the parts have more than `left` entries together, and `Memory` where memory was refused. The stage
     /// may only be dropped then.
-    pub(crate) fn close<R: Threads + Wait + Sync>(
+    pub(crate) fn close<R: Wait>(
         &mut self,
         rt: &R,
         alloc: Global,
         ran: Ran<M>,
         left: u64,
-    ) -> Result<Vec<Entry>, RunError>
-        requires few { ran.workers + 1 ≡ vec_len ran.slips }
+    ) -> Result<Vec<Vec<Entry>>, RunError>
         requires all { vec_len ran.slips ≡ ran.mailboxes.slips }
         requires slips { All (IsSlipOf ran.mailboxes.mailboxes) ran.slips.items }
         requires boxes { length ran.mailboxes.mailboxes ≡ vec_len ran.berths }
         requires rising { All (λ b. IsTrue (is_rising b.part.items)) ran.berths.items }
         requires disjoint { AreDisjoint (map (λ b. b.part.items) ran.berths.items) }
+        requires one { (r : ℕ) → 1 ≤ r → r ≤ vec_len ran.berths → AreOne (posted_to ran.slips.items r) }
         requires room { self.old.so_far + left < 2 ^ 64 }
 
         ensures scenario { self.new.scenario.now ≡ self.old.scenario.now }
-        ensures closed { IfOk result (λ merged. IsClosedBy M.mind left self.old.so_far ran.berths.items
-            ran.slips.items merged.items self.new) }
+        ensures parts { IfOk result (λ parts. AreParts parts.items) }
+        ensures closed { IfOk result (λ parts. (merged : List EntryRecord) → IsMerged parts.items merged
+            → IsClosedBy M.mind left self.old.so_far ran.berths.items ran.slips.items merged self.new) }
         ensures workers { IfOk result (λ _. self.new.workers ≡ ran.workers) }
         ensures errors { IfErr result IsRefusalOfOne }
         ensures limit { IsErrOf result RunError.Limit
             → left < length (all_of (map (λ b. b.part.items) ran.berths.items)) }
     {
-        let (mailboxes, slips) = (ran.mailboxes, ran.slips);
         let (berths, parts) = take_parts(alloc, ran.berths)?;
-        let threads = threads_for(ran.workers, &parts);
-        let (merged, emptied) = empty_and_merge(rt, alloc, threads, parts, mailboxes, slips)?;
-        let (mailboxes, letters) = emptied;
-        let berths = deliver_all(alloc, berths, letters)?;
-        let made = merged.len() as u64;
-        if made > left {
+        let Some(made) = count_within(&parts, left) else {
             return Err(RunError::Limit);
-        }
+        };
+        let inboxes = ran.mailboxes.into_inboxes(alloc, ran.slips)?;
+        let (berths, emptied) = deliver_all(rt, alloc, berths, inboxes)?;
         self.so_far += made;
         self.workers = ran.workers;
         self.start = next_start(&berths, self.scenario.horizon());
         self.berths = berths;
-        self.mailboxes = Some(mailboxes);
-        Ok(merged)
+        self.mailboxes = Some(Mailboxes::of_inboxes(alloc, emptied)?);
+        Ok(parts)
     }
 }

@@ -7,7 +7,7 @@ ghost use Rattle.trace_laws.specs.ScenarioSetting.{setting_of};
 ghost use Rattle.steps.specs.Seat.{own_of};
 ghost use Rattle.trace_laws.specs.World.{IsTrace};
 ghost use Rattle.mailboxes.specs.Mailboxes.{IsSlipOf, unused};
-ghost use Rattle.windows.specs.Inside.Closing.{IsOutcomeBy};
+ghost use Rattle.windows.specs.Inside.Closing.{AreParts, IsMerged, IsOutcomeBy};
 ghost use Rattle.deques.specs.Deques.{deques_of};
 ghost use Rattle.windows.specs.Plan.{IsPlanFor, most_workers};
 ghost use Rattle.window_laws.specs.Machine.{end_of};
@@ -33,6 +33,7 @@ use std::sync::Wait;
 use std::thread;
 use std::thread::Threads;
 use streams::Streams;
+use trace_merge::merge;
 
 /// Starts the workers in a scope of their own, in which each is joined.
 fn in_threads<M: Process, G: Gate, R: Threads + Wait + Sync>(
@@ -212,12 +213,54 @@ fn run_all<M: Process, G: Gate, R: Threads + Wait + Sync>(
     })
 }
 
+/// Runs the next window of a stage, as [`run_window`] does, but answers its parts, which aren't merged yet.
+///
+/// # Errors
+///
+/// As [`run_window`].
+pub(crate) fn run_parts<M: Process, G: Gate, R: Threads + Wait + Sync>(
+    rt: &R,
+    alloc: Global,
+    stage: &mut Stage<'_, M>,
+    plan: &Plan,
+    gate: &G,
+) -> Result<Vec<Vec<Entry>>, RunError>
+    requires stage { IsStage M.mind stage.old }
+    requires plan { IsPlanFor stage.old.scenario.now plan.now }
+    requires open { stage.old.start < stage.old.scenario.now.horizon }
+
+    ensures scenario { OnOk result (stage.new.scenario.now ≡ stage.old.scenario.now) }
+    ensures parts { IfOk result (λ parts. AreParts parts.items) }
+    ensures stage { IfOk result (λ parts. (merged : List EntryRecord) → IsMerged parts.items merged
+        → (trace : List EntryRecord)
+        → IsStageAfter M.mind trace stage.old → IsStageAfter M.mind (trace ++ merged) stage.new) }
+    ensures run { IfOk result (λ parts. (merged : List EntryRecord) → IsMerged parts.items merged
+        → IsWindowRun M.mind plan.now.window stage.old stage.new merged) }
+    ensures workers { IfOk result (λ _. IsCountOfWorkers
+        (end_of (setting_of stage.old.scenario.now) plan.now.window stage.old.start) plan.now.workers
+        stage.old.berths.items stage.new.workers) }
+    ensures errors { IfErr result IsRefusal }
+    ensures limit { IsErrOf result RunError.Limit → (whole : List EntryRecord)
+        → IsTrace (setting_of stage.old.scenario.now) whole → stage.old.scenario.now.limit < length whole }
+{
+    let scenario = stage.scenario;
+    let processes = scenario.processes();
+    let mailboxes = mailboxes_for(alloc, stage.mailboxes.take(), processes)?;
+    let end = (stage.start + plan.window()).min(scenario.horizon());
+    let left = scenario.limit() - stage.so_far;
+    let streams = Streams::new(scenario);
+    let window = Window { streams, end, left };
+    let berths = replace(&mut stage.berths, Vec::new(alloc));
+    let workers = plan.workers();
+    let ran = run_all(rt, alloc, gate, workers, mailboxes, &window, berths)?;
+    stage.close(rt, alloc, ran, left)
+}
+
 /// Runs the next window of a stage. The smaller of the plan's workers and the number of processes with an event below
 /// the window's end are started, each a thread. These processes are dealt to them in turn; a worker takes its own, one
-/// after the other, then those of others that are left, and runs them; and the workers are joined. Then the mailboxes
-/// are emptied and the parts of the trace merged, at once where that is worth a thread, by no more threads than there
-/// were workers, and the letters are delivered. Answers the merged part. The next window starts at the least pending
-/// tick, so that none is opened in which nothing happens.
+/// after the other, then those of others that are left, and runs them; and the workers are joined. Then each process
+/// gets its mailbox with its letters, and the parts of the trace are merged. Answers the merged part. The next window
+/// starts at the least pending tick, so that none is opened in which nothing happens.
 ///
 /// # Errors
 ///
@@ -246,15 +289,6 @@ pub fn run_window<M: Process, G: Gate, R: Threads + Wait + Sync>(
     ensures limit { IsErrOf result RunError.Limit → (whole : List EntryRecord)
         → IsTrace (setting_of stage.old.scenario.now) whole → stage.old.scenario.now.limit < length whole }
 {
-    let scenario = stage.scenario;
-    let processes = scenario.processes();
-    let mailboxes = mailboxes_for(alloc, stage.mailboxes.take(), processes)?;
-    let end = (stage.start + plan.window()).min(scenario.horizon());
-    let left = scenario.limit() - stage.so_far;
-    let streams = Streams::new(scenario);
-    let window = Window { streams, end, left };
-    let berths = replace(&mut stage.berths, Vec::new(alloc));
-    let workers = plan.workers();
-    let ran = run_all(rt, alloc, gate, workers, mailboxes, &window, berths)?;
-    stage.close(rt, alloc, ran, left)
+    let parts = run_parts(rt, alloc, stage, plan, gate)?;
+    merge(alloc, parts)
 }

@@ -68,7 +68,14 @@ pub(crate) fn run_taken<M: Process, G: Gate, R: Wait>(
 {
     shared.gate.entered(rt, worker, berth.pid());
     let window = shared.window;
-    run_into(&mut berth, window.end, &window.streams, tray, window.left)?;
+    run_into(
+        rt,
+        &mut berth,
+        window.end,
+        &window.streams,
+        tray,
+        window.left,
+    )?;
     let many = berth.part.len() >= MANY_ENTRIES;
     done.push(berth)?;
     if !many {

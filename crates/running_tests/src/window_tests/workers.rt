@@ -79,8 +79,7 @@ fn first_window(rt: HostRuntime) {
 }
 
 /// As many processes as there can be, each of which sends a letter to every other at each tick. The second of three
-/// windows has 131,328 entries and posts 130,560 letters, which the third takes: both are worth 63 threads that close
-/// them.
+/// windows has 131,328 entries and posts 130,560 letters, which the third takes: its parts are merged by a thread.
 const AS_MANY_AS_CAN_BE: &str = "version = 2
 processes = 256
 horizon = 6
@@ -104,7 +103,7 @@ fn sixty_four(rt: HostRuntime) {
     let list = list_of(&rt, alloc, &scenario);
     // 256 starts, 256 checks, 1,280 beats, and four letters for each pair
     same(&rt, &list.entries().len(), &262_912);
-    assert!(rt; 63 * WORTH_A_THREAD <= 130_560);
+    assert!(rt; WORTH_A_THREAD <= 131_328);
     for workers in [1, 2, 4, 64] {
         let windows = run_by(&rt, alloc, &scenario, workers, &OpenGate);
         same_entries(&rt, windows.entries(), list.entries());

@@ -1,20 +1,16 @@
 -- The pending events of a process: those of the window that is run, and others.
-use Rattle.std.specs.Prelude.{◌≡◌, ◌⊎◌, ◌≤◌, ◌<◌, ◌++◌, ℕ, List, [], ◌∷◌, map, min, Option, Some, None, MatchOption}
+use Rattle.std.specs.Prelude.{◌≡◌, ◌⊎◌, ◌≤◌, ◌<◌, ◌++◌, ℕ, List, [], ◌∷◌, map, Option, Some, None, MatchOption}
 use Rattle.std.specs.FinMap as events
 use Rattle.std.specs.List.{AllByRecursion}
 use Rattle.process_api.specs.declared.key.Key.{Key}
+use Rattle.process_api.specs.declared.message.Letter.{Letter}
 use Rattle.process_api.specs.declared.message.StepInput.{StepInput}
+use Rattle.trace_laws.specs.History.{IsIn}
 use Rattle.trace_laws.specs.Step.{Event, Events}
 use Rattle.trace_laws.specs.Taken.{event_of}
 use Rattle.trace_laws.specs.World.{Has, joined}
 use Rattle.windows.specs.declared.agenda.Lists.{Lists}
 use Rattle.windows.specs.declared.agenda.Parted.{Parted}
-
--- the lesser of two ticks, as far as they are there
-abbrev pub earlier_of : Option ℕ → Option ℕ → Option ℕ
-earlier_of None b = b
-earlier_of (Some a) None = Some a
-earlier_of (Some a) (Some b) = Some (min a b)
 
 -- some event is of this tick
 abbrev pub SomeAt : ℕ → List Event → Type 0
@@ -29,18 +25,27 @@ AreFrom tick es = AllByRecursion (λ e. tick ≤ e.0.tick) es
 abbrev pub IsSoonestOf : List Event → Option ℕ → Type 0
 IsSoonestOf es soonest = MatchOption soonest (es ≡ []) (λ tick. AreFrom tick es × SomeAt tick es)
 
--- those that aren't in the row, in the order in which they joined
-abbrev pub waiting : Lists → List Event
-waiting a = a.later.items ++ map event_of a.letters.items
-
 abbrev pub all_in : Lists → Events
-all_in a = joined a.row (waiting a)
+all_in a = joined a.row a.later.items
+
+-- the letters of an inbox, if there is one
+abbrev pub in_box : Option (List Letter) → List Letter
+in_box None = []
+in_box (Some letters) = letters
+
+-- the events of the lists, and those of an inbox
+abbrev pub all_ahead : Lists → Option (List Letter) → Events
+all_ahead a inbox = joined (all_in a) (map event_of (in_box inbox))
+
+-- letters with one key become one event
+abbrev pub AreOne : List Letter → Type 0
+AreOne letters = (x y : Letter) → IsIn x letters → IsIn y letters → x.key ≡ y.key → event_of x ≡ event_of y
 
 -- in the row are events below the end, and others wait
 pub record AreLists (a : Lists) : Type 0 where
   pub below : (key : Key) (input : StepInput) → Has a.row key input → key.tick < a.end
   pub from : AreFrom a.end a.later.items
-  pub next : IsSoonestOf (waiting a) a.next
+  pub next : IsSoonestOf a.later.items a.next
 
 -- these events, parted
 pub record IsParted (end : ℕ) (es : List Event) (p : Parted) : Type 0 where

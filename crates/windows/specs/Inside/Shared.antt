@@ -1,5 +1,5 @@
 -- What holds of those who share a window.
-use Rattle.std.specs.Prelude.{◌≡◌, ◌++◌, ℕ, List, [], ◌∷◌, length, map, Result, IfOk, IfErr, IsErrOf, vec_len}
+use Rattle.std.specs.Prelude.{◌≡◌, ◌++◌, List, [], ◌∷◌, length, map, Result, IfOk, IfErr, IsErrOf, vec_len}
 use Rattle.std.specs.Global.{Vec}
 use Rattle.std.specs.List.{All}
 use Rattle.process_api.specs.Mind.{Mind}

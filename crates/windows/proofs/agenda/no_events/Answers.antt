@@ -1,7 +1,6 @@
-use Rattle.std.proofs.Common.{◌≡◌, ◌∙◌, ◌++◌, [], ap, map, sym, subst}
+use Rattle.std.proofs.Common.{◌∙◌, sym, subst}
 use Rattle.std.specs.FinMap as events
 use Rattle.process_api.specs.Order.{key_cmp}
-use Rattle.trace_laws.specs.Taken.{event_of}
 use Rattle.trace_laws.specs.World.{Has}
 use Rattle.trace_laws.proofs.Sets.{not_None}
 use Rattle.windows.specs.Inside.Agenda.{AreFrom}
@@ -11,5 +10,5 @@ pub returns-clause-lists : goal.returns-clause-lists
 returns-clause-lists c = record {
   below = λ k y there. absurd (not_None y (sym (events.get-empty key_cmp k) ∙ subst (λ m. Has m k y) c.new.ensures there));
   from = subst (AreFrom 0) (sym c.new-2.ensures.items) tt;
-  next = λ i. c.new-2.ensures.items i ++ map event_of (c.new-3.ensures.items i);
+  next = c.new-2.ensures.items;
 }

@@ -1,16 +1,16 @@
-use Rattle.std.proofs.Common.{◌∙◌, ◌++◌, [], ◌<◌, ap, map, sym, subst, append-nil}
+use Rattle.std.proofs.Common.{◌∙◌, ◌++◌, [], ◌<◌, ap, map, sym, subst}
 use Rattle.std.specs.FinMap as events
 use Rattle.process_api.specs.Order.{key_cmp}
 use Rattle.trace_laws.specs.Taken.{event_of}
 use Rattle.trace_laws.specs.World.{Has, joined}
 use Rattle.trace_laws.proofs.Sets.{not_None}
-use Rattle.windows.specs.Inside.Agenda.{IsParted, IsSoonestOf}
+use Rattle.windows.specs.Inside.Agenda.{IsParted}
 use Rattle.windows.proofs.Agendas.{of_joined}
 use Rattle.windows.proofs.Letters.{joined_both}
 use Rattle.windows.proofs.agenda.part.Goals as goal
 
 -- all were filed
-all_filed : (c : goal.In_ok-fill) → IsParted c.args.end (c.in_ok-events.events.items ++ map event_of c.args.lists.letters.items) c.file_letters.new.self
+all_filed : (c : goal.In_ok-fill) → IsParted c.args.end (c.in_ok-events.events.items ++ map event_of c.args.letters.items) c.file_letters.new.self
 all_filed c = c.in_ok-file_letters.ensures c.args.end c.in_ok-events.events.items (c.in_ok-file_events.ensures c.args.end [] c.new-parted.ensures)
 
 pub returns-clause-lists : goal.returns-clause-lists
@@ -21,17 +21,15 @@ returns-clause-lists c =
     record {
       below = λ k y there. of_joined events.empty p.due.items (λ q. q.tick < end) (λ q z has. absurd (not_None z (sym (events.get-empty key_cmp q) ∙ has))) h.below k y (subst (λ m. Has m k y) c.in_ok-fill.ensures.ok there);
       from = h.from;
-      next = subst (λ es. IsSoonestOf es p.next) (sym (ap (λ xs. p.later.items ++ map event_of xs) c.new-letters.ensures.items ∙ append-nil p.later.items)) h.next;
+      next = h.next;
     }
 
 pub returns-clause-same : goal.returns-clause-same
 returns-clause-same c =
     let p = c.file_letters.new.self in
-    let a = c.args.lists in
-    let letters = map event_of a.letters.items in
-    (λ i. joined (c.in_ok-fill.ensures.ok i) (p.later.items ++ map event_of (c.new-letters.ensures.items i)))
-    ∙ (joined_both events.empty p.due.items (p.later.items ++ [])
-    ∙ (ap (λ l. joined events.empty (p.due.items ++ l)) (append-nil p.later.items)
+    let letters = map event_of c.args.letters.items in
+    ap (λ m. joined m p.later.items) c.in_ok-fill.ensures.ok
+    ∙ (joined_both events.empty p.due.items p.later.items
     ∙ ((all_filed c).same
     ∙ (sym (joined_both events.empty c.in_ok-events.events.items letters)
-    ∙ (ap (λ m. joined m letters) c.in_ok-events.ensures ∙ joined_both a.row a.later.items letters)))))
+    ∙ ap (λ m. joined m letters) c.in_ok-events.ensures)))

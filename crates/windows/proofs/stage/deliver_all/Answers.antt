@@ -1,7 +1,14 @@
-use Rattle.std.proofs.Common.{◌≡◌, ◌++◌, length, map, ap, sym, ◌∙◌, arith, append-nil}
+use Rattle.std.proofs.Common.{◌≡◌, ◌∷◌, ◌++◌, [], List, length, map, ap, sym, ◌∙◌, subst, arith, append-nil, append_assoc, refl}
+use Rattle.std.specs.List.{All}
 use Rattle.std.specs.Vec.Iter.{into_iter_items}
-use Rattle.std.proofs.lemmas.List.{nil_from_length}
-use Rattle.mailboxes.specs.Mailboxes.{letters_in}
+use Rattle.std.proofs.lemmas.List.{map-append, nil_from_length}
+use Rattle.std.proofs.lemmas.List.Elements.{All-head, All-nil, All-same, All-tail}
+use Rattle.deques.proofs.Deals.{map_turn}
+use Rattle.process_api.specs.declared.message.Letter.{Letter}
+use Rattle.trace_laws.specs.Step.{Events}
+use Rattle.trace_laws.specs.Taken.{event_of}
+use Rattle.trace_laws.specs.World.{joined}
+use Rattle.windows.specs.Inside.Agenda.{AreOne}
 use Rattle.windows.specs.Stage.{delivered}
 use Rattle.windows.specs.declared.berth.Berth.{Berth}
 use Rattle.windows.proofs.Ended.{ends, opens}
@@ -11,12 +18,55 @@ pub loop-berth-init : goal.loop-berth-init
 loop-berth-init g c =
     let none = c.in_ok-done.ensures.items in
     let all : into_iter_items c.into_iter-berth-iterator.result ≡ c.args.berths.items = c.into_iter-berth-iterator.ensures.into_iter_gives.0 in
-    let lists = c.into_iter-lists.ensures.rest in
+    let letters = c.into_iter-inboxes.ensures.rest in
     record {
       seats = opens _ _ _ _ _ none all;
-      pending = λ i. map (λ (z : Berth _). z.pending) (none i) ++ delivered (map (λ (z : Berth _). z.pending) (all i)) (letters_in (lists i));
+      pending = λ i. map (λ (z : Berth _). z.pending) (none i) ++ delivered (map (λ (z : Berth _). z.pending) (all i)) (letters i);
       parts = opens _ _ _ _ _ none all;
-      same = omega (arith, ap length lists, ap length all, c.requires, c.args.berths.ok.0, c.args.letters.ok.0);
+      same = omega (arith, ap length letters, ap length all, c.requires.count, c.args.berths.ok.0, c.args.inboxes.ok.0);
+      one = subst (All AreOne) (sym letters) c.requires.one;
+      emptied = All-same (λ i. i ≡ []) _ [] c.new-emptied.ensures.items (All-nil (λ i. i ≡ []));
+    }
+
+pub deliver-requires : goal.deliver-requires
+deliver-requires g c =
+    let i = c.loop-berth.invariant in
+    All-head AreOne c.in-Some-next.inbox (into_iter_items c.next-in-loop-berth.new.self) (subst (All AreOne) c.in-Some-next.ensures.items i.one)
+
+-- one process more has its letters
+given : (before after rest left all : List Events) (boxes later : List (List Letter)) (old new : Events) (x : List Letter) → after ≡ before ++ new ∷ [] → rest ≡ old ∷ left
+    → boxes ≡ x ∷ later → new ≡ joined old (map event_of x) → before ++ delivered rest boxes ≡ all → after ++ delivered left later ≡ all
+given before after rest left all boxes later old new x more e f same so_far =
+    ap (λ l. l ++ delivered left later) more
+    ∙ (append_assoc before (new ∷ []) (delivered left later)
+    ∙ (ap (λ m. before ++ (m ∷ delivered left later)) same ∙ (sym (λ i. before ++ delivered (e i) (f i)) ∙ so_far)))
+
+pub loop-berth-preserved : goal.loop-berth-preserved
+loop-berth-preserved g c =
+    let i = c.loop-berth.invariant in
+    let seat_of = λ (z : Berth _). z.seat in
+    let pending_of = λ (z : Berth _). z.pending in
+    let part_of = λ (z : Berth _). z.part in
+    let rest = into_iter_items c.loop-berth.berth-iterator in
+    let left = into_iter_items c.next.new.self in
+    let old = c.in-Some.berth in
+    let boxes = into_iter_items c.loop-berth.inboxes in
+    let later = into_iter_items c.next-in-loop-berth.new.self in
+    let inbox = c.in-Some-next.inbox in
+    let e : rest ≡ old ∷ left = c.in-Some.ensures.steps.0 in
+    let f : boxes ≡ inbox ∷ later = c.in-Some-next.ensures.items in
+    let done = c.loop-berth.done.items in
+    let after = c.push.new.self.items in
+    let new : Berth _ = record { seat = old.seat; pending = c.deliver.new.self; part = old.part; actions = old.actions } in
+    let more : after ≡ done ++ new ∷ [] = c.in_ok-push.ensures.items in
+    record {
+      seats = map_turn seat_of seat_of done after new rest left old _ more e refl i.seats;
+      pending = given (map pending_of done) (map pending_of after) (map pending_of rest) (map pending_of left) _ boxes later old.pending new.pending inbox
+          (ap (map pending_of) more ∙ map-append pending_of done (new ∷ [])) (ap (map pending_of) e) f c.in_ok-deliver.ensures.joined i.pending;
+      parts = map_turn part_of part_of done after new rest left old _ more e refl i.parts;
+      same = omega (arith, ap length e, ap length f, i.same);
+      one = All-tail AreOne inbox later (subst (All AreOne) f i.one);
+      emptied = c.in_ok-keep.ensures;
     }
 
 pub returns : goal.returns
@@ -25,6 +75,7 @@ returns g c =
     let none = sym c.loop-berth.berth-iterator.rest.ok.0 ∙ c.in-None.ensures.steps.0 in
     record {
       seats = ends _ _ _ _ _ none i.seats;
-      pending = sym (append-nil _) ∙ (ap (λ l. map (λ (z : Berth _). z.pending) c.loop-berth.done.items ++ delivered (map (λ (z : Berth _). z.pending) l) (letters_in (into_iter_items c.loop-berth.lists))) (sym (nil_from_length _ none)) ∙ i.pending);
+      pending = sym (append-nil _) ∙ (ap (λ l. map (λ (z : Berth _). z.pending) c.loop-berth.done.items ++ delivered (map (λ (z : Berth _). z.pending) l) (into_iter_items c.loop-berth.inboxes)) (sym (nil_from_length _ none)) ∙ i.pending);
       parts = ends _ _ _ _ _ none i.parts;
+      emptied = i.emptied;
     }

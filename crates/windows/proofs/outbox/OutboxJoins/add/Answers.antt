@@ -7,7 +7,7 @@ use Rattle.windows.proofs.Letters.{one_own, others_then, self_then}
 use Rattle.windows.proofs.outbox.OutboxJoins.add.Goals as goal
 
 pub returns-clause-grown : goal.returns-clause-grown
-returns-clause-grown c = on_ok_weaker c.join.result (λ more first before had.
+returns-clause-grown g c = on_ok_weaker c.join.result (λ more first before had.
     let x = c.args.event in
     let p = first.own in
     let one = one_own p x (sym c.requires.1.1.own_is ∙ had.own) in

@@ -1,4 +1,4 @@
-use Rattle.std.proofs.Common.{◌≡◌, ◌∷◌, ◌++◌, ◌∙◌, [], ap, sym}
+use Rattle.std.proofs.Common.{◌∷◌, ◌++◌, ◌∙◌, [], ap, sym}
 use Rattle.std.proofs.lemmas.List.{map-append}
 use Rattle.std.proofs.lemmas.Result.{on_ok_weaker}
 use Rattle.process_api.specs.declared.message.Letter.{Letter}
@@ -10,7 +10,7 @@ use Rattle.windows.proofs.Letters.{filed_more, one_other, others_then, self_then
 use Rattle.windows.proofs.outbox.OutboxJoins.send.Goals as goal
 
 pub returns-clause-grown : goal.returns-clause-grown
-returns-clause-grown c = on_ok_weaker c.put.result (λ more first before had.
+returns-clause-grown g c = on_ok_weaker c.put.result (λ more first before had.
     let letter : Letter = record { key = c.args.key; payload = c.args.payload.now } in
     let x = event_of letter in
     let p = first.own in

@@ -1,0 +1,40 @@
+use Rattle.std.proofs.Common.{◌≡◌, ◌∙◌, ◌++◌, ◌∷◌, [], ap, map, length, length-append, sym, subst, arith}
+use Rattle.std.specs.List.{All}
+use Rattle.std.specs.Vec.Iter.{into_iter_items}
+use Rattle.std.proofs.lemmas.List.{map-append}
+use Rattle.std.proofs.lemmas.List.Elements.{All-head, All-nil, All-push, All-same, All-tail}
+use Rattle.mailboxes.proofs.Homes.{mailbox_of, Even}
+use Rattle.mailboxes.proofs.Inboxes.{IsEmpty}
+use Rattle.mailboxes.proofs.mailboxes.Mailboxes.of_inboxes.Goals as goal
+
+pub loop-inbox-init : goal.loop-inbox-init
+loop-inbox-init c =
+    let all : into_iter_items c.into_iter-inbox-iterator.result ≡ c.args.inboxes.items = c.into_iter-inbox-iterator.ensures.into_iter_gives.0 in
+    let no_boxes = c.in_ok-boxes.ensures.items in
+    let no_homes = c.in_ok-homes.ensures.items in
+    record {
+      boxes = no_boxes ∙ ap (map mailbox_of) (sym no_homes);
+      even = All-same (Even 0) _ [] no_homes (All-nil (Even 0));
+      empty = subst (All IsEmpty) (sym all) c.requires;
+      count = omega (arith, ap length no_boxes, ap length all);
+    }
+
+pub loop-inbox-preserved : goal.loop-inbox-preserved
+loop-inbox-preserved c =
+    let i = c.loop-inbox.invariant in
+    let rest = into_iter_items c.next.new.self in
+    let e : into_iter_items c.loop-inbox.inbox-iterator ≡ c.in-Some.inbox ∷ rest = c.in-Some.ensures.steps.0 in
+    let empty = subst (All IsEmpty) e i.empty in
+    let boxes = c.loop-inbox.boxes.items in
+    let homes = c.loop-inbox.homes.items in
+    let mailbox = c.into_parts-mailbox.result.0 in
+    let home = c.into_parts-mailbox.result.1 in
+    let are = c.into_parts-mailbox.ensures in
+    let more = c.in_ok-push.ensures.items in
+    let longer = c.in_ok-push-2.ensures.items in
+    record {
+      boxes = more ∙ ((λ j. i.boxes j ++ (sym are.home j) ∷ []) ∙ (sym (map-append mailbox_of homes (home ∷ [])) ∙ ap (map mailbox_of) (sym longer)));
+      even = All-same (Even 0) _ (homes ++ home ∷ []) longer (All-push (Even 0) homes home i.even (are.out, are.letters ∙ All-head IsEmpty c.in-Some.inbox rest empty));
+      empty = All-tail IsEmpty c.in-Some.inbox rest empty;
+      count = omega (arith, i.count, ap length e, ap length more, length-append boxes (mailbox ∷ []));
+    }

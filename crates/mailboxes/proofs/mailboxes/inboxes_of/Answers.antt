@@ -1,0 +1,54 @@
+use Rattle.std.proofs.Common.{◌≡◌, ◌∙◌, ◌++◌, ◌∷◌, [], ap, map, drop, get_or, length, sym, subst, arith, append_assoc, append-nil}
+use Rattle.std.specs.List.{All}
+use Rattle.std.specs.Vec.Iter.{into_iter_items}
+use Rattle.std.proofs.lemmas.List.{length-map, nil_from_length}
+use Rattle.std.proofs.lemmas.List.Elements.{All-head, All-tail}
+use Rattle.mailboxes.specs.Mailbox.{HomeView}
+use Rattle.mailboxes.proofs.Homes.{back_of, mailbox_of}
+use Rattle.mailboxes.proofs.Inboxes.{IsIn}
+use Rattle.mailboxes.proofs.mailboxes.inboxes_of.Goals as goal
+
+pub loop-home-init : goal.loop-home-init
+loop-home-init c =
+    let all : into_iter_items c.into_iter-home-iterator.result ≡ c.args.homes.items = c.into_iter-home-iterator.ensures.into_iter_gives.0 in
+    let left : into_iter_items c.into_iter-boxes.result ≡ c.args.boxes.items = c.into_iter-boxes.ensures.rest in
+    let none = c.in_ok-inboxes.ensures.items in
+    let boxes = left ∙ (c.requires.homes ∙ ap (map mailbox_of) (sym all)) in
+    record {
+      boxes = boxes;
+      out = subst (All IsIn) (sym all) c.requires.out;
+      letters = λ i. none i ++ map back_of (all i);
+      same = ap length boxes ∙ length-map _ mailbox_of;
+    }
+
+pub new-requires-clause-home : goal.new-requires-clause-home
+new-requires-clause-home c =
+    let mailbox = c.in-Some-next.mailbox in
+    sym (ap (λ l. get_or l 0 mailbox) (sym c.in-Some-next.ensures.items ∙ (c.loop-home.invariant.boxes ∙ ap (map mailbox_of) c.in-Some.ensures.steps.0)))
+
+pub new-requires-clause-out : goal.new-requires-clause-out
+new-requires-clause-out c = All-head IsIn c.in-Some.home (into_iter_items c.next.new.self) (subst (All IsIn) c.in-Some.ensures.steps.0 c.loop-home.invariant.out)
+
+pub loop-home-preserved : goal.loop-home-preserved
+loop-home-preserved c =
+    let i = c.loop-home.invariant in
+    let h = c.in-Some.home in
+    let rest = into_iter_items c.next.new.self in
+    let e : into_iter_items c.loop-home.home-iterator ≡ h ∷ rest = c.in-Some.ensures.steps.0 in
+    let done = c.loop-home.inboxes.items in
+    let boxes = ap (λ l. drop 1 l) (sym c.in-Some-next.ensures.items ∙ (i.boxes ∙ ap (map mailbox_of) e)) in
+    record {
+      boxes = boxes;
+      out = All-tail IsIn h rest (subst (All IsIn) e i.out);
+      letters = ap (λ xs. xs ++ map back_of rest) c.in_ok-push.ensures.items
+          ∙ (append_assoc done (c.new.result ∷ []) (map back_of rest)
+          ∙ (ap (λ b. done ++ (b ∷ map back_of rest)) c.new.ensures
+          ∙ (ap (λ xs. done ++ map back_of xs) (sym e) ∙ i.letters)));
+      same = ap length boxes ∙ length-map rest mailbox_of;
+    }
+
+pub returns : goal.returns
+returns c =
+    let done = c.loop-home.inboxes.items in
+    let none = nil_from_length (into_iter_items c.loop-home.home-iterator) (sym c.loop-home.home-iterator.rest.ok.0 ∙ c.in-None.ensures.steps.0) in
+    sym (append-nil done) ∙ (ap (λ xs. done ++ map back_of xs) (sym none) ∙ c.loop-home.invariant.letters)

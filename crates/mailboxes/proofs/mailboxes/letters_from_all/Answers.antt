@@ -1,0 +1,25 @@
+use Rattle.std.proofs.Common.{◌≡◌, ◌∙◌, ◌++◌, [], ap, sym, subst, append-nil}
+use Rattle.std.specs.Vec.Iter.{into_iter_items}
+use Rattle.std.proofs.lemmas.List.{nil_from_length}
+use Rattle.mailboxes.specs.Mailboxes.{letters_in}
+use Rattle.ledger.proofs.Lists.{Shuffled, Shuffled-refl}
+use Rattle.mailboxes.proofs.Inboxes.{taken_more}
+use Rattle.mailboxes.proofs.mailboxes.letters_from_all.Goals as goal
+
+pub loop-inbox-init : goal.loop-inbox-init
+loop-inbox-init g c =
+    let none = c.new-lists.ensures.items in
+    let all = c.into_iter-inbox-iterator.ensures.into_iter_gives.0 in
+    subst (Shuffled c.args.inboxes.items) (λ i. letters_in (sym none i) ++ sym all i) (Shuffled-refl c.args.inboxes.items)
+
+pub loop-inbox-preserved : goal.loop-inbox-preserved
+loop-inbox-preserved g c =
+    let lists = c.loop-inbox.lists.items in
+    taken_more c.args.inboxes.items lists c.push.new.self.items c.in-Some.inbox (into_iter_items c.next.new.self) c.in_ok-letters_from.field-0 c.in_ok-push.ensures.items c.in_ok-letters_from.ensures
+    (subst (λ xs. Shuffled c.args.inboxes.items (letters_in lists ++ xs)) c.in-Some.ensures.steps.0 c.loop-inbox.invariant)
+
+pub returns : goal.returns
+returns g c =
+    let lists = c.loop-inbox.lists.items in
+    let none = nil_from_length (into_iter_items c.loop-inbox.inbox-iterator) (sym c.loop-inbox.inbox-iterator.rest.ok.0 ∙ c.in-None.ensures.steps.0) in
+    subst (Shuffled c.args.inboxes.items) (ap (λ xs. letters_in lists ++ xs) none ∙ append-nil (letters_in lists)) c.loop-inbox.invariant

@@ -1,0 +1,9 @@
+use Rattle.std.proofs.Common.{◌++◌}
+use Rattle.std.specs.Vec.Iter.{into_iter_items}
+use Rattle.mailboxes.specs.Mailboxes.{letters_in}
+use Rattle.ledger.proofs.Lists.{Shuffled}
+use Rattle.mailboxes.proofs.mailboxes.letters_from_all.Given as goal
+
+-- the lists so far, and what the rest would give
+abbrev pub invariant-loop-inbox : goal.invariant-loop-inbox
+invariant-loop-inbox g l = Shuffled l.fn.inboxes.items (letters_in l.lists.items ++ into_iter_items l.inbox-iterator)

@@ -1,2 +1,0 @@
--- words that private functions and proofs of this crate use alone: no public contract rests on them
-pub mod Emptying

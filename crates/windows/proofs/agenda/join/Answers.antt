@@ -1,0 +1,41 @@
+use Rattle.std.proofs.Common.{◌∙◌, ◌++◌, ◌∷◌, [], ◌<◌, ◌≤◌, ap, sym, subst, arith, Some}
+use Rattle.process_api.proofs.Lists.{both}
+use Rattle.trace_laws.specs.Step.{Event}
+use Rattle.trace_laws.specs.World.{Has, joined}
+use Rattle.trace_laws.proofs.Joining.{joined_one}
+use Rattle.mailboxes.specs.Mailbox.{earlier_of}
+use Rattle.windows.specs.Inside.Agenda.{AreFrom, IsSoonestOf}
+use Rattle.windows.proofs.Agendas.{insert_past, of_joined, soonest_more}
+use Rattle.windows.proofs.agenda.join.Goals as goal
+
+early : (c : goal.In_ok-join) → c.args.event.0.tick < c.args.lists.now.end
+early c = omega (arith, ap (λ k. k.tick) c.key-tick.ensures, c.if-tick-lists.true)
+
+pub returns-then-tick-lists-clause-lists : goal.returns-then-tick-lists-clause-lists
+returns-then-tick-lists-clause-lists c =
+    let a = c.args.lists.now in
+    record { below = λ k y there. of_joined a.row (c.args.event ∷ []) (λ q. q.tick < a.end) c.requires.below (early c, tt) k y (subst (λ m. Has m k y) c.in_ok-join.ensures.ok there); from = c.requires.from; next = c.requires.next }
+
+pub returns-then-tick-lists-clause-joined : goal.returns-then-tick-lists-clause-joined
+returns-then-tick-lists-clause-joined c =
+    let a = c.args.lists.now in
+    let e : Event = c.args.event in
+    ap (λ m. joined m a.later.items) c.in_ok-join.ensures.ok ∙ insert_past a.row a.later.items a.end c.requires.from e.0 (early c) e.1
+
+pub returns-clause-lists : goal.returns-clause-lists
+returns-clause-lists c =
+    let a = c.args.lists.now in
+    let e : Event = c.args.event in
+    let late : a.end ≤ e.0.tick = omega (arith, ap (λ k. k.tick) c.key-tick.ensures, c.if-tick-lists.false) in
+    record {
+      below = c.requires.below;
+      from = subst (AreFrom a.end) (sym c.in_ok-push.ensures.items) (both (λ (f : Event). a.end ≤ f.0.tick) a.later.items (e ∷ []) c.requires.from (late, tt));
+      next = subst (λ es. IsSoonestOf es c.earlier-lists.result) (sym c.in_ok-push.ensures.items)
+          (subst (IsSoonestOf (a.later.items ++ e ∷ [])) (sym (c.earlier-lists.ensures ∙ ap (λ k. earlier_of a.next (Some k.tick)) c.key-tick.ensures)) (soonest_more a.later.items e a.next c.requires.next));
+    }
+
+pub returns-clause-joined : goal.returns-clause-joined
+returns-clause-joined c =
+    let a = c.args.lists.now in
+    let e : Event = c.args.event in
+    ap (joined a.row) c.in_ok-push.ensures.items ∙ joined_one a.row a.later.items e

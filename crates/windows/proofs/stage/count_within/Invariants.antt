@@ -1,0 +1,9 @@
+use Rattle.std.proofs.Common.{◌≡◌, ◌+◌, ◌≤◌, length, map, drop}
+use Rattle.std.specs.Global.{Vec}
+use Rattle.trace_merge.specs.Parts.{all_of}
+use Rattle.windows.proofs.stage.count_within.Given as goal
+
+abbrev pub invariant-loop-part : goal.invariant-loop-part
+invariant-loop-part l =
+    (l.made + length (all_of (map (λ (v : Vec _). v.items) (drop l.part-index l.fn.parts))) ≡ length (all_of (map (λ (v : Vec _). v.items) l.fn.parts)))
+    × (l.made ≤ l.fn.left)
