@@ -1,11 +1,11 @@
 -- Tickets and lists of letters that change at one place.
-use Rattle.std.proofs.Common.{◌≡◌, ℕ, zero, suc, ◌<◌, ◌≤◌, List, [], ◌∷◌, ◌++◌, length, map, take, drop, replicate, set, get_or, sym, ap, ◌∙◌, arith, append-nil}
+use Rattle.std.proofs.Common.{◌≡◌, ℕ, zero, suc, ◌<◌, ◌≤◌, Bool, true, false, eqb, List, [], ◌∷◌, ◌++◌, length, map, replicate, set, get_or, refl, sym, ap, ◌∙◌, arith, append-nil}
 use Rattle.std.specs.Global.{Vec}
-use Rattle.std.proofs.lemmas.List.{get_or-map, map-set, set-get_or, take_all, drop_all}
-use Rattle.std.proofs.lemmas.Simd.{splat_is_map}
+use Rattle.std.proofs.lemmas.Bool.{eqb-true, eqb-false}
+use Rattle.std.proofs.lemmas.Grind.{get_or-set_at}
+use Rattle.std.proofs.lemmas.List.{get_or-map, get_or-set_other, length-map, map-set, set-get_or}
 use Rattle.process_api.specs.declared.message.Letter.{Letter}
 use Rattle.ledger.specs.Places.{each_with}
-use Rattle.ledger.proofs.Lists.{with-nil, mixed_at, mixed_more}
 use Rattle.mailboxes.specs.Mailbox.{TicketView}
 use Rattle.mailboxes.specs.Mailboxes.{letters_in}
 use Rattle.mailboxes.proofs.Homes.{whose, posted_by}
@@ -24,35 +24,42 @@ whose_same tickets i old new was lt same =
     map-set whose tickets i new ∙ ap (λ q. set (map whose tickets) i q) (same ∙ ap whose was ∙ sym (get_or-map whose tickets i old (whose old) lt))
     ∙ set-get_or (map whose tickets) i (whose old)
 
--- what was posted to each receiver, after the rows below i
-abbrev pub posted_to_place : List (List Letter) → List (List Letter) → ℕ → List (List Letter)
-posted_to_place ps rows i = each_with (◌++◌) ps (take i rows)
+-- the letters at one place are posted, and the list there is emptied: both together are as they were
+same_total : (ps rows : List (List Letter)) (i : ℕ) → i < length ps → i < length rows
+    → each_with (◌++◌) (set ps i (get_or ps i [] ++ get_or rows i [])) (set rows i []) ≡ each_with (◌++◌) ps rows
+same_total [] rows i lt le = absurd (omega arith)
+same_total (p ∷ ps) [] i lt le = absurd (omega arith)
+same_total (p ∷ ps) (r ∷ rows) zero lt le = ap (λ l. l ∷ each_with (◌++◌) ps rows) (append-nil (p ++ r))
+same_total (p ∷ ps) (r ∷ rows) (suc i) lt le = ap (λ l. (p ++ r) ∷ l) (same_total ps rows i (omega arith) (omega arith))
 
--- the rows that are left, after those below i were emptied
-abbrev pub emptied_to_place : List (List Letter) → ℕ → List (List Letter)
-emptied_to_place rows i = map (λ _. []) (take i rows) ++ drop i rows
+module _ (tickets : List TicketView) (lists : List (Vec Letter)) (i : ℕ) (t u : TicketView) (v w : Vec Letter) (lt : i < length tickets) (le : i < length lists) (none : w.items ≡ []) where
+  emptied : letters_in (set lists i w) ≡ set (letters_in lists) i []
+  emptied = map-set items_of lists i w ∙ ap (set (letters_in lists) i) none
 
-posted_next : (ps rows : List (List Letter)) (i : ℕ) → i < length ps → i < length rows
-    → set (posted_to_place ps rows i) i (get_or (posted_to_place ps rows i) i [] ++ get_or rows i []) ≡ posted_to_place ps rows (suc i)
-posted_next [] rows i lt le = absurd (omega arith)
-posted_next (p ∷ ps) [] i lt le = absurd (omega arith)
-posted_next (p ∷ ps) (r ∷ rows) zero lt le = ap (λ l. (p ++ r) ∷ l) (sym (with-nil (◌++◌) ps))
-posted_next (p ∷ ps) (r ∷ rows) (suc i) lt le = ap (λ l. (p ++ r) ∷ l) (posted_next ps rows i (omega arith) (omega arith))
+  pub total_next : t ≡ get_or tickets i t → v ≡ get_or lists i v → u.posted ≡ t.posted ++ v.items
+      → each_with (◌++◌) (map posted_by (set tickets i u)) (letters_in (set lists i w)) ≡ each_with (◌++◌) (map posted_by tickets) (letters_in lists)
+  total_next was is new =
+      let here : v.items ≡ get_or (letters_in lists) i [] = ap items_of is ∙ sym (get_or-map items_of lists i v [] le) in
+      (λ j. each_with (◌++◌) (row_more posted_by tickets i t u was lt v.items new j) (emptied j))
+      ∙ (λ j. each_with (◌++◌) (set (map posted_by tickets) i (get_or (map posted_by tickets) i [] ++ here j)) (set (letters_in lists) i []))
+      ∙ same_total (map posted_by tickets) (letters_in lists) i (omega (arith, lt, length-map tickets posted_by)) (omega (arith, le, length-map lists items_of))
 
--- the letters of the list at place i are posted by the ticket there, and the list is emptied
-module _ (ps rows : List (List Letter)) (tickets : List TicketView) (lists : List (Vec Letter)) (i : ℕ) (t u : TicketView) (v w : Vec Letter) (lt : i < length tickets) (le : i < length lists)
-    (posted : map posted_by tickets ≡ posted_to_place ps rows i) (left : letters_in lists ≡ emptied_to_place rows i) (few : i < length ps) (more : i < length rows) where
-  pub post_next : t ≡ get_or tickets i t → v ≡ get_or lists i v → u.posted ≡ t.posted ++ v.items → map posted_by (set tickets i u) ≡ posted_to_place ps rows (suc i)
-  post_next was is new =
-      let here : v.items ≡ get_or rows i [] = ap items_of is ∙ sym (get_or-map items_of lists i v [] le) ∙ ap (λ l. get_or l i []) left ∙ mixed_at (λ _. []) rows i [] in
-      row_more posted_by tickets i t u was lt v.items new
-      ∙ (λ j. set (posted j) i (get_or (posted j) i [] ++ here j))
-      ∙ posted_next ps rows i few more
+  -- the lists from a place on are empty, and the next one is emptied
+  pub empty_next : (from : ℕ) → ((k : ℕ) → from ≤ k → k < i → get_or (letters_in lists) k [] ≡ []) → (k : ℕ) → from ≤ k → k < suc i → get_or (letters_in (set lists i w)) k [] ≡ []
+  empty_next from before k low high = ap (λ l. get_or l k []) emptied ∙ go (eqb k i) refl
+    where
+      go : (same : Bool) → eqb k i ≡ same → get_or (set (letters_in lists) i []) k [] ≡ []
+      go true is = get_or-set_at (letters_in lists) i k [] [] (eqb-true k i is) (omega (arith, le, length-map lists items_of))
+      go false is = get_or-set_other (letters_in lists) i k [] [] (eqb-false k i is) ∙ before k low (omega (arith, eqb-false k i is, high))
 
-  pub empty_next : w.items ≡ [] → letters_in (set lists i w) ≡ emptied_to_place rows (suc i)
-  empty_next none = map-set items_of lists i w ∙ (λ j. set (left j) i (none j)) ∙ mixed_more (λ _. []) rows i [] more
+-- where each list is empty, nothing was left to post
+pub all_empty : (rows : List (List Letter)) (n : ℕ) → length rows ≡ n → ((k : ℕ) → get_or rows k [] ≡ []) → rows ≡ replicate n []
+all_empty [] zero e none = refl
+all_empty [] (suc n) e none = absurd (omega (arith, e))
+all_empty (x ∷ rows) zero e none = absurd (omega (arith, e))
+all_empty (x ∷ rows) (suc n) e none = (λ j. none 0 j ∷ all_empty rows n (omega (arith, e)) (λ k. none (suc k)) j)
 
-pub all_emptied : (rows : List (List Letter)) (i n : ℕ) → length rows ≡ n → n ≤ i → emptied_to_place rows i ≡ replicate n []
-all_emptied rows i n e le =
-    let end : length rows ≤ i = omega arith in
-    (λ j. map (λ _. []) (take_all i rows end j) ++ drop_all i rows end j) ∙ append-nil (map (λ _. []) rows) ∙ sym (splat_is_map rows n [] e)
+pub with_nothing : (ps : List (List Letter)) (n : ℕ) → each_with (◌++◌) ps (replicate n []) ≡ ps
+with_nothing [] n = refl
+with_nothing (p ∷ ps) zero = refl
+with_nothing (p ∷ ps) (suc n) = λ j. append-nil p j ∷ with_nothing ps n j

@@ -1,5 +1,5 @@
 //! The part of the mailboxes that threads share: the queues.
-ghost use Rattle.std.specs.Prelude.{◌≡◌, ◌≤◌, ◌<◌, ◌+◌, ◌++◌, [], length, map, replicate, IfOk, IfErr, OnOk, OnErr, vec_len};
+ghost use Rattle.std.specs.Prelude.{◌≡◌, ◌≤◌, ◌<◌, ◌+◌, ◌++◌, ℕ, [], length, slice_index_or, map, replicate, IfOk, IfErr, OnOk, OnErr, vec_len};
 ghost use Rattle.std.specs.List.{All};
 ghost use Rattle.ledger.specs.Places.{each_with};
 ghost use Rattle.mailboxes.specs.Mailbox.{one_out, all_back};
@@ -58,14 +58,16 @@ impl SharedMailboxes {
         self.boxes[at].post(rt, &mut slip.tickets[at], letter)
     }
 
-    /// Posts the letters of a tray, receiver by receiver, those to one in the order in which they came. The tray is
-    /// empty then, and keeps its memory. The error is that memory was refused. Nothing is known then of what was posted
-    /// by the slip, nor of the letters in the tray.
+    /// Posts the letters of a tray, receiver by receiver, those to one in the order in which they came. It begins with
+    /// the receiver at place `from`, and comes to those before it last: threads that begin at different places seldom
+    /// post to one receiver at once. The tray is empty then, and keeps its memory. The error is that memory was refused.
+    /// Nothing is known then of what was posted by the slip, nor of the letters in the tray.
     pub fn post_all<R: Wait>(
         &self,
         rt: &R,
         slip: &mut Slip,
         tray: &mut Tray,
+        from: usize,
     ) -> Result<(), AllocError>
         requires slip { IsSlipOf self.now slip.old }
         requires tray { length tray.old ≡ length self.now }
@@ -74,13 +76,15 @@ impl SharedMailboxes {
         ensures empty { OnOk result (tray.new ≡ replicate (length tray.old) []) }
         ensures count { length tray.new ≡ length tray.old }
     {
-        self.post_lists(rt, &mut slip.tickets, &mut tray.lists)
+        self.post_lists(rt, from, &mut slip.tickets, &mut tray.lists)
     }
 
-    // Posts the letters of each list by the ticket at its place. The lists are empty then.
+    // Posts the letters of each list by the ticket at its place, from a place on and then those before it. The lists
+    // are empty then.
     fn post_lists<R: Wait>(
         &self,
         rt: &R,
+        from: usize,
         tickets: &mut Vec<Ticket>,
         lists: &mut Vec<Vec<Parcel>>,
     ) -> Result<(), AllocError>
@@ -92,7 +96,30 @@ impl SharedMailboxes {
         ensures empty { OnOk result (letters_in lists.new.items ≡ replicate (length lists.old.items) []) }
         ensures count { vec_len lists.new ≡ vec_len lists.old }
     {
-        for at in 0..lists.len() {
+        self.post_from(rt, from, tickets, lists)?;
+        self.post_from(rt, 0, tickets, lists)?;
+        Ok(())
+    }
+
+    // Posts the letters of each list from a place on. These lists are empty then.
+    fn post_from<R: Wait>(
+        &self,
+        rt: &R,
+        from: usize,
+        tickets: &mut Vec<Ticket>,
+        lists: &mut Vec<Vec<Parcel>>,
+    ) -> Result<(), AllocError>
+        requires tickets { map (λ t. t.mailbox) tickets.old.items ≡ self.now }
+        requires lists { length lists.old.items ≡ length self.now }
+        ensures tickets { map (λ t. t.mailbox) tickets.new.items ≡ self.now }
+        ensures same { OnOk result (
+            each_with (◌++◌) (map (λ t. t.posted) tickets.new.items) (letters_in lists.new.items)
+            ≡ each_with (◌++◌) (map (λ t. t.posted) tickets.old.items) (letters_in lists.old.items)) }
+        ensures empty { OnOk result ((place : ℕ) → from ≤ place
+            → slice_index_or (letters_in lists.new.items) place [] ≡ []) }
+        ensures count { vec_len lists.new ≡ vec_len lists.old }
+    {
+        for at in from..lists.len() {
             self.boxes[at].post_list(rt, &mut tickets[at], &mut lists[at])?;
         }
         Ok(())

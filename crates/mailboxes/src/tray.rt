@@ -46,6 +46,13 @@ pub(crate) fn place_of(key: &Key) -> usize
 }
 
 impl Tray {
+    /// For how many receivers it has lists.
+    pub fn receivers(&self) -> usize
+        ensures { result ≡ length self.now }
+    {
+        self.lists.len()
+    }
+
     /// One letter more, to a receiver of 1 to n. The error is that memory was refused. Some letters of the tray may
     /// be gone then.
     #[inline(always)]

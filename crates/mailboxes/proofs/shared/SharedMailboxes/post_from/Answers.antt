@@ -1,0 +1,46 @@
+use Rattle.std.proofs.Common.{rules, ◌≡◌, ◌<◌, [], ◌++◌, length, refl, ap, ◌∙◌, add-one, arith, ⊎_elim}
+use Rattle.std.proofs.lemmas.Bool.{cases_lt}
+use Rattle.std.proofs.lemmas.List.{get_or_past, length-map}
+use Rattle.mailboxes.specs.Mailboxes.{letters_in}
+use Rattle.mailboxes.proofs.Inboxes.{items_of}
+use Rattle.mailboxes.proofs.Homes.{whose, posted_by}
+use Rattle.mailboxes.proofs.Rows.{whose_same, total_next, empty_next}
+use Rattle.mailboxes.proofs.shared.SharedMailboxes.post_from.Goals as goal
+
+pub loop-at-init : goal.loop-at-init
+loop-at-init g c = (refl, refl, λ k low high. absurd (omega (arith, low, high)), refl)
+
+pub returns-in_err-post_list-clause-tickets : goal.returns-in_err-post_list-clause-tickets
+returns-in_err-post_list-clause-tickets g c =
+    let ts = c.loop-at.tickets.items in
+    let le : c.loop-at.at < length c.loop-at.lists.items = search rules in
+    let lt : c.loop-at.at < length ts = omega (arith, le, c.loop-at.lists.ok.0, c.loop-at.invariant.3, c.args.lists.now.ok.0, c.requires.lists, ap length (c.loop-at.invariant.0 ∙ c.requires.tickets), length-map ts whose) in
+    whose_same ts c.loop-at.at c.index_mut.result.now _ c.index_mut.ensures.value lt c.post_list.ensures.mailbox ∙ c.loop-at.invariant.0 ∙ c.requires.tickets
+
+pub loop-at-preserved : goal.loop-at-preserved
+loop-at-preserved g c =
+    let ts = c.loop-at.tickets.items in
+    let ls = c.loop-at.lists.items in
+    let i = c.loop-at.at in
+    let t = c.index_mut.result.now in
+    let v = c.index_mut-in-loop-at.result.now in
+    let inv = c.loop-at.invariant in
+    let is = c.in_ok-post_list.ensures in
+    let le : i < length ls = search rules in
+    let lt : i < length ts = omega (arith, le, c.loop-at.lists.ok.0, inv.3, c.args.lists.now.ok.0, c.requires.lists, ap length (inv.0 ∙ c.requires.tickets), length-map ts whose) in
+    let u = c.post_list.new.ticket in
+    let w = c.post_list.new.letters in
+    let put : u.posted ≡ t.posted ++ v.items = ap posted_by is.ok in
+    rw add-one (
+      whose_same ts i t u c.index_mut.ensures.value lt is.mailbox ∙ inv.0,
+      total_next ts ls i t u v w lt le is.empty c.index_mut.ensures.value c.index_mut-in-loop-at.ensures.value put ∙ inv.1,
+      empty_next ts ls i t u v w lt le is.empty c.args.from inv.2,
+      inv.3,
+    )
+
+pub returns-clause-empty : goal.returns-clause-empty
+returns-clause-empty g c k low =
+    let ls = c.loop-at.lists.items in
+    ⊎_elim (λ before. c.loop-at.invariant.2 k low before)
+    (λ past. get_or_past (letters_in ls) k [] (omega (arith, past, length-map ls items_of, c.loop-at.lists.ok.0, c.loop-at.invariant.3, c.loop-at-test.false, c.len-at-end.ensures, c.args.lists.now.ok.0)))
+    (cases_lt k c.loop-at.at)
