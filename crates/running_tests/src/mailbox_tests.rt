@@ -184,7 +184,7 @@ fn post_together<R: Abort + Wait>(
         let filed = tray.put(parcel(rt, alloc, receiver, number));
         filed.expect(rt, NO_MEMORY);
     }
-    let posted = mailboxes.post_all(rt, slip, &mut tray);
+    let posted = mailboxes.post_all(rt, slip, &mut tray, 0);
     posted.expect(rt, NO_MEMORY);
 }
 

@@ -1,9 +1,9 @@
 -- What a call promises of its answer says nothing where it is refused.
-use Rattle.std.proofs.Common.{◌≡◌, ◌⊎◌, inl, inr, Result, Ok, Err, IfOk, IfErr}
+use Rattle.std.proofs.Common.{◌≡◌, ◌⊎◌, inl, inr, Result, Ok, Err, IfOk, IfErr, IsErrOf}
 use Rattle.std.specs.Result.{IsErr}
 use Rattle.std.proofs.lemmas.Result.{IfOk-from_err}
 use Rattle.process_api.specs.declared.run_error.RunError.{RunError}
-use Rattle.process_api.specs.declared.run_error.RunError.TheVariants.{Memory}
+use Rattle.process_api.specs.declared.run_error.RunError.TheVariants.{Limit, Memory}
 use Rattle.windows.specs.Refusals.{AreThere, IsFirstRefusal, IsRefusal, IsRefusalOfOne}
 
 pub holds_of_none : {A E : Type 0} (r : Result A E) → IsErr r → (P : A → Type 0) → IfOk r P
@@ -28,3 +28,8 @@ module _ {X A B : Type 0} (left : Result A RunError) (right : Result B RunError)
   pub last_of : AreThere left right → (r : Result X RunError) → IfErr r (λ e. e ≡ Memory) → IfErr r (λ e. IsFirstRefusal left right e ⊎ ((e ≡ Memory) × AreThere left right))
   last_of there (Ok x) h = tt
   last_of there (Err e) h = inr (h, there)
+
+-- where memory alone is refused, it isn't a place in the trace
+pub memory_alone : {A : Type 0} (r : Result A RunError) → IfErr r (λ e. e ≡ Memory) → IsErrOf r Limit → ⊥
+memory_alone (Ok x) h is = cc
+memory_alone (Err e) h is = cc

@@ -1,8 +1,11 @@
--- Parts of a window that wait to be merged.
-use Rattle.std.proofs.Common.{◌≡◌, ◌<◌, ◌≤◌, ◌+◌, ◌⊎◌, inl, inr, refl, ℕ, sym, ap, ◌∙◌, subst, List, [], ◌∷◌, ◌++◌, append_assoc, append-nil, map, IsTrue, Result, Ok, Err, IfOk, IfErr, IsErrOf, OnOk, OnErr}
+-- Parts of a window that wait to be merged and handed on.
+use Rattle.std.proofs.Common.{◌≡◌, ◌<◌, ◌≤◌, ◌+◌, ◌⊎◌, inl, inr, refl, ℕ, sym, ap, ◌∙◌, subst, List, [], ◌∷◌, ◌++◌, append_assoc, append-nil, length, map, IsTrue, Result, Ok, Err, IfOk, IfErr, IsErrOf, OnOk, OnErr, arith}
 use Rattle.std.specs.Global.{Vec}
 use Rattle.std.specs.List.{All}
 use Rattle.std.specs.List.Sorted.{IsPermutation}
+use Rattle.std.proofs.lemmas.List.{nil_from_length}
+use Rattle.std.proofs.lemmas.List.Elements.{All-nil}
+use Rattle.std.proofs.lemmas.List.Sorted.{IsPermutation-refl, length_permutation}
 use Rattle.process_api.specs.EntryRecord.{EntryRecord}
 use Rattle.process_api.specs.Mind.{Mind}
 use Rattle.process_api.specs.Order.{is_rising}
@@ -14,13 +17,15 @@ use Rattle.trace_laws.specs.ScenarioSetting.{setting_of}
 use Rattle.trace_laws.specs.World.{IsTrace}
 use Rattle.trace_merge.specs.Parts.{all_of}
 use Rattle.trace_merge.proofs.Distinct.{has_merge}
-use Rattle.windows.specs.Inside.Closing.{AreParts, IsMerged}
 use Rattle.window_laws.specs.Theorems.{end_to_end}
-use Rattle.windows.specs.Sink.{writes_of}
+use Rattle.windows.specs.Inside.Last.{AreParts, IsMerged, TookAllBut, TookFrontOf}
+use Rattle.windows.specs.Refusals.{IsRefusal}
+use Rattle.windows.specs.Sink.{TookAll, TookTrace, TookFront, TookClosed, writes_of}
 use Rattle.windows.specs.Stage.{IsStageAfter}
 use Rattle.windows.specs.declared.stage.Stage.{Stage}
-use Rattle.windows.proofs.Handed.{end_to_end_more}
+use Rattle.windows.proofs.Closing.{stage_trace}
 use Rattle.windows.proofs.Cut.{stage_cut}
+use Rattle.windows.proofs.Handed.{trace_within}
 
 -- what parts make
 pub merged_of : (parts : List (Vec EntryRecord)) → AreParts parts → (merged : List EntryRecord) × IsMerged parts merged
@@ -32,41 +37,144 @@ pub merged_ok : (parts : List (Vec EntryRecord)) (r : Result (Vec EntryRecord) R
 merged_ok parts (Ok v) rising same = record { rising = rising; same = same }
 merged_ok parts (Err e) rising same = tt
 
+pub no_parts : AreParts []
+no_parts = record { rising = All-nil (λ (v : Vec EntryRecord). IsTrue (is_rising v.items)); apart = tt }
+
+pub none_merged : (rest : List EntryRecord) → IsMerged [] rest → rest ≡ []
+none_merged rest is = nil_from_length rest (length_permutation [] rest is.same)
+
+no_entries : IsMerged [] []
+no_entries = record { rising = refl; same = IsPermutation-refl [] }
+
 pub plus_same : (x a m n : ℕ) → x ≡ a + m → m ≡ n → x ≡ a + n
 plus_same x a m n e is = e ∙ ap (λ k. a + k) is
 
-pub no_limit : {A : Type 0} (r : Result A RunError) → IfErr r (λ e. e ≡ Memory) → IsErrOf r Limit → ⊥
-no_limit (Ok v) h is = cc
-no_limit (Err e) h is = cc
+end_to_end_append : (xs ys : List (List EntryRecord)) → end_to_end (xs ++ ys) ≡ end_to_end xs ++ end_to_end ys
+end_to_end_append [] ys = refl
+end_to_end_append (x ∷ xs) ys = ap (λ es. x ++ es) (end_to_end_append xs ys) ∙ sym (append_assoc x (end_to_end xs) (end_to_end ys))
 
-module _ {M : Type 0} (mind : M → Mind) (stage : Stage M) (told : List (List EntryRecord)) (s : Record) (same : stage.scenario.now ≡ s) (ranges : IsInRange s) where
-  -- what was told is at the front of every trace, where parts wait that follow it
-  pub front_told : (parts : List (Vec EntryRecord)) → AreParts parts → ((merged : List EntryRecord) → IsMerged parts merged → IsStageAfter mind (end_to_end told ++ merged) stage) → (whole : List EntryRecord) → IsTrace (setting_of s) whole
-      → (rest : List EntryRecord) × (whole ≡ (end_to_end told ++ []) ++ rest)
-  front_told parts are after whole t =
-      let m = merged_of parts are in
-      let r = stage_cut mind stage (end_to_end told ++ m.0) (after m.0 m.1) s same ranges whole t in
-      (m.0 ++ r.0, r.1 ∙ (append_assoc (end_to_end told) m.0 r.0 ∙ ap (λ es. es ++ (m.0 ++ r.0)) (sym (append-nil (end_to_end told)))))
+module _ {K : Type 0} (took : K → List EntryRecord → K → Type 0) where
+  took_append : (old mid new : K) (xs ys : List (List EntryRecord)) → TookAll took old xs mid → TookAll took mid ys new → TookAll took old (xs ++ ys) new
+  took_append old mid new [] ys first then = subst (λ k. TookAll took k ys new) first then
+  took_append old mid new (x ∷ xs) ys first then = (first.0, first.1, took_append first.0 mid new xs ys first.2 then)
 
-  -- the same of one part more, which is told
-  module _ (merged : List EntryRecord) (after : IsStageAfter mind (end_to_end told ++ merged) stage) where
-    pub front_part : (whole : List EntryRecord) → IsTrace (setting_of s) whole → (rest : List EntryRecord) × (whole ≡ (end_to_end told ++ merged) ++ rest)
-    front_part whole t = let r = stage_cut mind stage (end_to_end told ++ merged) after s same ranges whole t in (r.0, r.1)
+  -- nothing waits, or one part does
+  pub took_none : (sink : K) → TookAllBut took [] [] sink sink
+  took_none sink = ([], refl, λ rest is. is)
 
-    pub front_more : (whole : List EntryRecord) → IsTrace (setting_of s) whole → (rest : List EntryRecord) × (whole ≡ (end_to_end (told ++ merged ∷ []) ++ []) ++ rest)
-    front_more whole t =
-        let r = front_part whole t in
-        (r.0, r.1 ∙ ap (λ es. es ++ r.0) (sym (append-nil (end_to_end (told ++ merged ∷ [])) ∙ end_to_end_more told merged)))
+  pub took_one : (parts : List (Vec EntryRecord)) (old new : K) (merged : List EntryRecord) → IsMerged parts merged → took old merged new → TookAllBut took parts [] old new
+  took_one parts old new merged is one =
+      (merged ∷ [], (new, one, refl), λ rest none. subst (IsMerged parts) (sym (ap (λ es. (merged ++ []) ++ es) (none_merged rest none) ∙ (append-nil (merged ++ []) ∙ append-nil merged))) is)
 
-    pub before_more : All (λ (e : EntryRecord). e.key.tick < stage.start) (end_to_end (told ++ merged ∷ []))
-    before_more = subst (All (λ (e : EntryRecord). e.key.tick < stage.start)) (sym (end_to_end_more told merged)) after.before
+  -- all of it waits
+  pub took_nothing : (parts : List (Vec EntryRecord)) (sink : K) → TookAllBut took parts parts sink sink
+  took_nothing parts sink = ([], refl, λ rest is. is)
 
-    pub after_more : (whole : List EntryRecord) → IsTrace (setting_of s) whole → (rest : List EntryRecord) × (whole ≡ end_to_end (told ++ merged ∷ []) ++ rest) × All (λ (e : EntryRecord). stage.start ≤ e.key.tick) rest
-    after_more whole t =
-        let r = stage_cut mind stage (end_to_end told ++ merged) after s same ranges whole t in
-        (r.0, r.1 ∙ ap (λ es. es ++ r.0) (sym (end_to_end_more told merged)), r.2)
+  -- the sink took this so far of a run that is at this stage, where these parts wait
+  pub record IsUnderway {M : Type 0} (mind : M → Mind) (s : Record) (first : K) (stage : Stage M) (sink : K) (parts : List (Vec EntryRecord)) : Type 0 where
+    pub told : List (List EntryRecord)
+    pub took_all : TookAll took first told sink
+    pub waiting : AreParts parts
+    pub after : (merged : List EntryRecord) → IsMerged parts merged → IsStageAfter mind (end_to_end told ++ merged) stage
+    pub scenario : stage.scenario.now ≡ s
+
+  -- a run begins
+  pub begins : {M : Type 0} {mind : M → Mind} {s : Record} {stage : Stage M} (sink : K) (parts : List (Vec EntryRecord)) → parts ≡ [] → IsStageAfter mind [] stage → stage.scenario.now ≡ s → IsUnderway mind s sink stage sink parts
+  begins {M} {mind} {s} {stage} sink parts none opened same = record {
+    told = [];
+    took_all = refl;
+    waiting = subst AreParts (sym none) no_parts;
+    after = λ merged is. subst (λ es. IsStageAfter mind es stage) (sym (none_merged merged (subst (λ l. IsMerged l merged) none is))) opened;
+    scenario = same;
+  }
+
+module _ {K : Type 0} {took : K → List EntryRecord → K → Type 0} {M : Type 0} {mind : M → Mind} {s : Record} {first : K} {stage : Stage M} {sink : K} where
+  module _ {parts : List (Vec EntryRecord)} (u : IsUnderway took mind s first stage sink parts) where
+    pub stage_is : (trace : List EntryRecord) × IsStageAfter mind trace stage
+    stage_is = let m = merged_of parts u.waiting in (end_to_end u.told ++ m.0, u.after m.0 m.1)
+
+    -- what waited was handed on, but for these parts
+    pub handed : (new : K) (others : List (Vec EntryRecord)) → AreParts others → TookAllBut took parts others sink new → IsUnderway took mind s first stage new others
+    handed new others are more = record {
+      told = u.told ++ more.0;
+      took_all = took_append took first sink new u.told more.0 u.took_all more.1;
+      waiting = are;
+      after = λ rest is. subst (λ es. IsStageAfter mind es stage) (sym (ap (λ es. es ++ rest) (end_to_end_append u.told more.0) ∙ append_assoc (end_to_end u.told) (end_to_end more.0) rest)) (u.after (end_to_end more.0 ++ rest) (more.2 rest is));
+      scenario = u.scenario;
+    }
+
+    module _ (ranges : IsInRange s) where
+      cut : (merged : List EntryRecord) → IsMerged parts merged → (whole : List EntryRecord) → IsTrace (setting_of s) whole → (rest : List EntryRecord) × (whole ≡ (end_to_end u.told ++ merged) ++ rest) × All (λ (e : EntryRecord). stage.start ≤ e.key.tick) rest
+      cut merged is = stage_cut mind stage (end_to_end u.told ++ merged) (u.after merged is) s u.scenario ranges
+
+      module _ (took_front : K → List EntryRecord → K → Type 0) where
+        pub front_so_far : (new : K) → new ≡ sink → TookFront took (setting_of s) took_front first new
+        front_so_far new same =
+            let m = merged_of parts u.waiting in
+            record {
+              parts = u.told;
+              mid = sink;
+              took_all = u.took_all;
+              last = [];
+              ended = inl (refl, same);
+              front = λ whole t.
+                  let r = cut m.0 m.1 whole t in
+                  (m.0 ++ r.0, r.1 ∙ (append_assoc (end_to_end u.told) m.0 r.0 ∙ ap (λ es. es ++ (m.0 ++ r.0)) (sym (append-nil (end_to_end u.told)))));
+            }
+
+        -- the sink refused what waits
+        pub front_of : (new : K) → TookFrontOf took_front parts sink new → TookFront took (setting_of s) took_front first new
+        front_of new (inl same) = front_so_far new same
+        front_of new (inr part) = record {
+          parts = u.told;
+          mid = sink;
+          took_all = u.took_all;
+          last = part.0;
+          ended = inr part.2;
+          front = λ whole t. let r = cut part.0 part.1 whole t in (r.0, r.1);
+        }
+
+  module _ (u : IsUnderway took mind s first stage sink []) where
+    so_far : IsStageAfter mind (end_to_end u.told) stage
+    so_far = subst (λ es. IsStageAfter mind es stage) (append-nil (end_to_end u.told)) (u.after [] no_entries)
+
+    -- one window more was run
+    pub ran : (new : Stage M) (parts : List (Vec EntryRecord)) → AreParts parts → ((merged : List EntryRecord) → IsMerged parts merged → (trace : List EntryRecord) → IsStageAfter mind trace stage → IsStageAfter mind (trace ++ merged) new) → new.scenario.now ≡ stage.scenario.now
+        → IsUnderway took mind s first new sink parts
+    ran new parts are more same = record {
+      told = u.told;
+      took_all = u.took_all;
+      waiting = are;
+      after = λ merged is. more merged is (end_to_end u.told) so_far;
+      scenario = same ∙ u.scenario;
+    }
+
+    pub closed_so_far : IsInRange s → TookClosed took (setting_of s) first sink
+    closed_so_far ranges = record {
+      parts = u.told;
+      took_all = u.took_all;
+      tick = stage.start;
+      before = so_far.before;
+      after = stage_cut mind stage (end_to_end u.told) so_far s u.scenario ranges;
+    }
+
+    module _ (over : stage.start ≡ stage.scenario.now.horizon) where
+      is_whole : IsTrace (setting_of s) (end_to_end u.told)
+      is_whole = subst (λ z. IsTrace (setting_of z) (end_to_end u.told)) u.scenario (stage_trace mind stage (end_to_end u.told) so_far over)
+
+      pub whole_told : TookTrace took (setting_of s) first sink
+      whole_told = record { parts = u.told; took_all = u.took_all; is_trace = is_whole }
+
+      pub few_told : (whole : List EntryRecord) → IsTrace (setting_of s) whole → length whole ≤ s.limit
+      few_told = trace_within s (end_to_end u.told) s.limit is_whole (subst (λ (z : Record). length (end_to_end u.told) ≤ z.limit) u.scenario (omega (arith, so_far.within, so_far.so_far)))
 
 -- ---- for the code
+
+pub no_write : {A : Type 0} (r : Result A RunError) → IfErr r IsRefusal → writes_of r ≡ 0
+no_write (Ok x) h = refl
+no_write (Err e) (inl is) = ap (λ k. writes_of {X = Unit {0}} (Err k)) is
+no_write (Err e) (inr (inl is)) = ap (λ k. writes_of {X = Unit {0}} (Err k)) is
+no_write (Err e) (inr (inr is)) = ap (λ k. writes_of {X = Unit {0}} (Err k)) is
 
 pub ok_at : {A : Type 0} (r : Result A RunError) (x : A) (P : A → Type 0) → r ≡ Ok x → IfOk r P → P x
 ok_at r x P is h = subst (λ q. IfOk q P) is h
@@ -81,13 +189,3 @@ on_ok (Err e) P Q f p = tt
 pub on_err_by : {A : Type 0} (r : Result A RunError) (P Q : Type 0) → (P → Q) → OnErr r P → OnErr r Q
 on_err_by (Ok x) P Q f p = tt
 on_err_by (Err e) P Q f p = f p
-
-pub no_write : {A : Type 0} (r : Result A RunError) (d : RunError) → IfErr r (λ e. e ≡ d) → writes_of {X = Unit {0}} (Err d) ≡ 0 → writes_of r ≡ 0
-no_write (Ok x) d h none = refl
-no_write (Err e) d h none = ap (λ k. writes_of {X = Unit {0}} (Err k)) h ∙ none
-
-pub not_both : {A : Type 0} (r : Result A RunError) → IfErr r (λ e. e ≡ Memory) → IsErrOf r Limit ⊎ IsErrOf r Spawn → ⊥
-not_both (Ok x) h (inl is) = cc
-not_both (Ok x) h (inr is) = cc
-not_both (Err e) h (inl is) = cc
-not_both (Err e) h (inr is) = cc

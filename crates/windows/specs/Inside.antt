@@ -2,5 +2,6 @@
 pub mod Outbox
 pub mod Workers
 pub mod Shared
+pub mod Last
 pub mod Closing
 pub mod Agenda

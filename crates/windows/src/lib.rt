@@ -20,8 +20,8 @@
 //! them empty. When all workers are joined, the starter takes what is left in the deques. Then each process gets its
 //! mailbox as it is: the worker that runs the process next empties it. Where several refusals are met, that of a thread
 //! is answered before that of memory, and this before that of a place in the trace. The next window opens at the least
-//! pending tick. The parts are merged, beside the next window where they are worth a thread, and the merged part goes
-//! to a [`Sink`].
+//! pending tick. The parts of a window are merged by the starter, few entries at once, and others while the workers of
+//! the next window run. The merged part goes to a [`Sink`].
 //!
 //! The crate `deques` promises that each berth comes out of the deques once. Its proof uses the ledger of each deque:
 //! counted with repetitions, the items that were put are those that all passes have taken and those that the deque
@@ -41,6 +41,7 @@ mod berth;
 mod error;
 mod gate;
 mod gather;
+mod last;
 mod laws;
 mod outbox;
 mod plan;
@@ -56,7 +57,7 @@ pub use error::PlanError;
 pub use gate::{Gate, OpenGate};
 pub use laws::law_any_order;
 pub use plan::Plan;
-pub use run::{WORTH_A_THREAD, run_windows, run_windows_into};
+pub use run::{run_windows, run_windows_into};
 pub use sink::Sink;
 pub use stage::Stage;
 pub use window::run_window;

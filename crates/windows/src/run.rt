@@ -1,18 +1,17 @@
 //! A run by windows.
-ghost use Rattle.std.specs.Prelude.{◌≡◌, ◌≤◌, ◌<◌, ◌+◌, ◌-◌, ◌^◌, ◌⊎◌, List, length, map, IfErr, IfOk, OnOk, OnErr, IsErrOf};
+ghost use Rattle.std.specs.Prelude.{◌≡◌, ◌≤◌, ◌<◌, ◌+◌, ◌-◌, ◌^◌, ◌⊎◌, List, [], length, map, IfErr, IfOk, OnOk, OnErr, IsErrOf};
 ghost use Rattle.process_api.specs.EntryRecord.{EntryRecord};
 ghost use Rattle.process_api.specs.Numbers.{numbers_to};
 ghost use Rattle.scenario_record.specs.Record.{opening_mind};
 ghost use Rattle.trace_laws.specs.ScenarioSetting.{setting_of};
 ghost use Rattle.trace_laws.specs.World.{IsTrace};
-ghost use Rattle.std.specs.Thread.{IsSync};
-ghost use Rattle.windows.specs.Inside.Closing.{AreParts, HasParts, IsMerged};
+ghost use Rattle.windows.specs.Inside.Last.{AreParts, TookAllBut, TookFrontOf};
 ghost use Rattle.windows.specs.Plan.{IsPlanFor};
-ghost use Rattle.windows.specs.Stage.{IsStage};
 ghost use Rattle.windows.specs.Refusals.{IsRefusal};
-ghost use Rattle.windows.specs.Sink.{TookTrace, TookFront, TookClosed, writes_of};
+ghost use Rattle.windows.specs.Sink.{IsRefusalOfSink, TookTrace, TookFront, TookClosed, writes_of};
 
 use crate::gate::Gate;
+use crate::last::Last;
 use crate::plan::Plan;
 use crate::sink::Sink;
 use crate::stage::Stage;
@@ -21,89 +20,71 @@ use process_api::{Entry, Process, RunError, Trace};
 use scenario_record::Scenario;
 use std::alloc::Global;
 use std::marker::Sync;
-use std::mem::replace;
 use std::sync::Wait;
-use std::thread::{Threads, join};
-use trace_merge::merge;
+use std::thread::Threads;
 
-/// How many entries are worth a thread. To start one and join it costs some 50 microseconds, about as long as it takes
-/// to merge so many entries.
-pub const WORTH_A_THREAD: usize = 2048;
+/// Parts with fewer entries are handed on as soon as their window is closed. Merging them takes a few microseconds, which
+/// isn't worth that the sink waits for the next window.
+const FEW_ENTRIES: usize = 128;
 
-/// As [`run_parts`], where the stage is handed back.
-fn run_by<'s, M: Process, G: Gate, R: Threads + Wait + Sync>(
-    rt: &R,
-    alloc: Global,
-    mut stage: Stage<'s, M>,
-    plan: &Plan,
-    gate: &G,
-) -> (Stage<'s, M>, Result<Vec<Vec<Entry>>, RunError>)
-    requires stage { IsStage M.mind stage }
-    requires plan { IsPlanFor stage.scenario.now plan.now }
-    requires open { stage.start < stage.scenario.now.horizon }
-    ensures { HasParts M.mind plan.now.window plan.now.workers stage.entry result.0 result.1 }
-{
-    let ran = run_parts(rt, alloc, &mut stage, plan, gate);
-    (stage, ran)
-}
-
-/// Whether the parts have so many entries that it is worth a thread to merge them.
-fn are_many(parts: &[Vec<Entry>]) -> bool {
+/// Whether parts have few entries.
+fn are_few(parts: &[Vec<Entry>]) -> bool {
     let mut entries = 0usize;
     for part in parts {
         entries = entries.saturating_add(part.len());
     }
-    WORTH_A_THREAD <= entries
+    entries < FEW_ENTRIES
 }
 
-/// Merges the parts of the window before, and runs the next window: at once where the parts are many, and else one
-/// after the other.
+/// Hands on the parts that wait, merged, if there are any.
 ///
 /// # Errors
 ///
-/// The merge is refused for `Memory`, and the window as [`run_window`](crate::run_window) is.
-fn merge_and_run<'s, M: Process, G: Gate, R: Threads + Wait + Sync>(
-    rt: &R,
-    alloc: Global,
-    stage: Stage<'s, M>,
-    plan: &Plan,
-    gate: &G,
-    parts: Vec<Vec<Entry>>,
-) -> (
-    Result<Vec<Entry>, RunError>,
-    (Stage<'s, M>, Result<Vec<Vec<Entry>>, RunError>),
-)
-    requires stage { IsStage M.mind stage }
-    requires plan { IsPlanFor stage.scenario.now plan.now }
-    requires open { stage.start < stage.scenario.now.horizon }
-    requires parts { AreParts parts.items }
-    ensures merged { IfOk result.0 (λ merged. IsMerged parts.items merged.items) }
-    ensures refused { IfErr result.0 (λ e. e ≡ RunError.Memory) }
-    ensures ran { HasParts M.mind plan.now.window plan.now.workers stage.entry result.1.0 result.1.1 }
+/// `Memory` or `Write` where the sink refused them, and `Memory` where memory was refused before.
+fn hand_on<K: Sink>(alloc: Global, sink: &mut K, last: Last) -> Result<(), RunError>
+    requires failures { K.failed sink.old < 2 ^ 64 - 1 }
+    ensures took { OnOk result (TookAllBut K.took last [] sink.old sink.new) }
+    ensures front { OnErr result (TookFrontOf K.took_front last sink.old sink.new) }
+    ensures errors { IfErr result IsRefusalOfSink }
+    ensures count { K.failed sink.new ≡ K.failed sink.old + writes_of result }
 {
-    if !are_many(&parts) {
-        let merged = merge(alloc, parts);
-        return (merged, run_by(rt, alloc, stage, plan, gate));
+    match last.into_entries(alloc)? {
+        Some(merged) => sink.part(merged),
+        None => Ok(()),
     }
-    join(
-        rt,
-        || -> Result<Vec<Entry>, RunError>
-            requires { AreParts parts.items }
-            ensures merged { IfOk result (λ merged. IsMerged parts.items merged.items) }
-            ensures refused { IfErr result (λ e. e ≡ RunError.Memory) }
-        { merge(alloc, parts) },
-        || -> (Stage<'_, M>, Result<Vec<Vec<Entry>>, RunError>)
-            requires { IsSync R.row × IsSync G.row × IsStage M.mind stage
-                × IsPlanFor stage.scenario.now plan.now × (stage.start < stage.scenario.now.horizon) }
-            ensures { HasParts M.mind plan.entry.now.window plan.entry.now.workers stage.entry result.0 result.1 }
-        { run_by(rt, alloc, stage, plan, gate) },
-    )
+}
+
+/// The parts of a window that was closed wait until the workers of the next one run, unless they are few: these are
+/// handed on.
+///
+/// # Errors
+///
+/// As [`hand_on`].
+fn keep_or_hand_on<K: Sink>(
+    alloc: Global,
+    sink: &mut K,
+    parts: Vec<Vec<Entry>>,
+) -> Result<Last, RunError>
+    requires parts { AreParts parts.items }
+    requires failures { K.failed sink.old < 2 ^ 64 - 1 }
+    ensures waiting { IfOk result (λ last. AreParts last) }
+    ensures took { IfOk result (λ last. TookAllBut K.took parts.items last sink.old sink.new) }
+    ensures front { OnErr result (TookFrontOf K.took_front parts.items sink.old sink.new) }
+    ensures errors { IfErr result IsRefusalOfSink }
+    ensures count { K.failed sink.new ≡ K.failed sink.old + writes_of result }
+{
+    if !are_few(&parts) {
+        return Ok(Last::new(parts));
+    }
+    hand_on(alloc, sink, Last::new(parts))?;
+    Ok(Last::new(Vec::new(alloc)))
 }
 
 /// Runs machines by windows of the plan's length, each shared by the plan's workers, up to the horizon. There is one
 /// machine for each process, of process 1 first, and each opens as the scenario says; the plan's window is no longer
-/// than the scenario's lookahead. The part of a window goes to the sink when the next window was run, and that of the
-/// last one at the end. The sink takes the trace of the single event list, under every schedule of the threads.
+/// than the scenario's lookahead. When a window is closed, its part of the trace goes to the sink: a part with few
+/// entries at once, and another one when the next window was run, since the starter merges it while its workers run.
+/// The sink takes the trace of the single event list, under every schedule of the threads.
 ///
 /// # Errors
 ///
@@ -138,18 +119,13 @@ pub fn run_windows_into<M: Process, G: Gate, K: Sink, R: Threads + Wait + Sync>(
     let _window = plan.window();
     let _horizon = scenario.horizon();
     let mut stage = Stage::open(alloc, scenario, machines)?;
-    if stage.finished() {
-        return Ok(());
-    }
-    let mut parts = run_parts(rt, alloc, &mut stage, plan, gate)?;
+    let mut last = Last::new(Vec::new(alloc));
     while !stage.finished() {
-        let last = replace(&mut parts, Vec::new(alloc));
-        let (merged, (next, ran)) = merge_and_run(rt, alloc, stage, plan, gate, last);
-        stage = next;
-        sink.part(merged?)?;
-        parts = ran?;
+        let ran = run_parts(rt, alloc, &mut stage, plan, gate, &mut last);
+        hand_on(alloc, sink, last)?;
+        last = keep_or_hand_on(alloc, sink, ran?)?;
     }
-    sink.part(merge(alloc, parts)?)
+    hand_on(alloc, sink, last)
 }
 
 /// The same, where the whole trace is kept, and answered.

@@ -17,6 +17,15 @@ pub(crate) struct Window<'s> {
     pub left: u64,
 }
 
+/// Who runs the windows of a plan.
+#[derive(Drop)]
+pub(crate) struct Crew<'g, G> {
+    pub alloc: Global,
+    pub gate: &'g G,
+    /// At most so many workers run a window.
+    pub workers: u16,
+}
+
 /// What all who run processes of a window share. There is a mailbox for each process.
 #[derive(Drop)]
 pub(crate) struct Shared<'w, M, G> {

@@ -7,7 +7,8 @@ ghost use Rattle.trace_laws.specs.ScenarioSetting.{setting_of};
 ghost use Rattle.steps.specs.Seat.{own_of};
 ghost use Rattle.trace_laws.specs.World.{IsTrace};
 ghost use Rattle.mailboxes.specs.Mailboxes.{IsSlipOf, unused};
-ghost use Rattle.windows.specs.Inside.Closing.{AreParts, IsMerged, IsOutcomeBy};
+ghost use Rattle.windows.specs.Inside.Closing.{IsOutcomeBy};
+ghost use Rattle.windows.specs.Inside.Last.{AreParts, IsMerged};
 ghost use Rattle.deques.specs.Deques.{deques_of};
 ghost use Rattle.windows.specs.Plan.{IsPlanFor, most_workers};
 ghost use Rattle.window_laws.specs.Machine.{end_of};
@@ -20,8 +21,9 @@ ghost use Rattle.windows.specs.Inside.Workers.{RiseBy, dealt_to, given_to};
 use crate::berth::Berth;
 use crate::gate::Gate;
 use crate::gather::{gather, part, run_rest, starts_of};
+use crate::last::Last;
 use crate::plan::Plan;
-use crate::shared::{Shared, Window};
+use crate::shared::{Crew, Shared, Window};
 use crate::stage::{Ran, Stage};
 use crate::workers::{Start, Work, start_workers};
 use deques::deal;
@@ -35,24 +37,28 @@ use std::thread::Threads;
 use streams::Streams;
 use trace_merge::merge;
 
-/// Starts the workers in a scope of their own, in which each is joined.
+/// Starts the workers in a scope of their own, in which each is joined. Meanwhile the parts of the window before are
+/// merged.
 fn in_threads<M: Process, G: Gate, R: Threads + Wait + Sync>(
     rt: &R,
     shared: &Shared<'_, M, G>,
     starts: Vec<Start<M>>,
-) -> Result<Vec<Work<M>>, RunError>
+    last: Last,
+) -> (Result<Vec<Work<M>>, RunError>, Last)
     requires starts { All (IsStart M.mind shared.now) starts.items }
     requires few { vec_len starts ≤ most_workers }
-    ensures { AreAnswers M.mind shared.now starts.items result }
+    ensures works { AreAnswers M.mind shared.now starts.items result.0 }
+    ensures last { result.1 ≡ last }
 {
     thread::scope(
         thread::scope_env(),
         rt,
-        |scope| -> Result<Vec<Work<M>>, RunError>
+        |scope| -> (Result<Vec<Work<M>>, RunError>, Last)
             requires { IsSync R.row × IsSync G.row × All (IsStart M.mind shared.now) starts.items
                 × (vec_len starts ≤ most_workers) }
-            ensures { AreAnswers M.mind shared.entry.now starts.items result }
-        { start_workers(scope, rt, shared, starts) },
+            ensures works { AreAnswers M.mind shared.entry.now starts.items result.0 }
+            ensures last { result.1 ≡ last }
+        { start_workers(scope, rt, shared, starts, last) },
     )
 }
 
@@ -83,13 +89,14 @@ fn bring_together<M: Process, G: Gate, R: Wait>(
     Ok((done, slips))
 }
 
-/// The workers that begin so take the berths that were dealt, and the starter, by a slip of its own, what is left.
-/// Answers the berths that were run, and all slips.
+/// The workers that begin so take the berths that were dealt, and the starter, by a slip of its own, what is left. The
+/// parts of the window before are merged meanwhile. Answers the berths that were run, and all slips.
 fn run_dealt<M: Process, G: Gate, R: Threads + Wait + Sync>(
     rt: &R,
     shared: &Shared<'_, M, G>,
     starts: Vec<Start<M>>,
     slip: Slip,
+    last: &mut Last,
 ) -> Result<(Vec<Berth<M>>, Vec<Slip>), RunError>
     requires deques { shared.now.fronts.now.items ≡ deques_of (map (λ b. b.hand.own) starts.items) }
     requires slip { slip ≡ unused shared.now.mailboxes.now }
@@ -101,27 +108,29 @@ fn run_dealt<M: Process, G: Gate, R: Threads + Wait + Sync>(
     ensures slips { IfOk result (λ r. vec_len r.1 ≡ vec_len starts + 1) }
     ensures run { IfOk result (λ r.
         HadWindow M.mind shared.now.window.now shared.now.mailboxes.now (dealt_to starts.items) r.0.items r.1.items) }
+    ensures last { last.new ≡ last.old }
     ensures errors { IfErr result IsRefusal }
     ensures limit { IsErrOf result RunError.Limit
         → IsOneTooLong M.mind shared.now.window.now (dealt_to starts.items) }
 {
-    let works = in_threads(rt, shared, starts)?;
-    bring_together(rt, shared, works, slip)
+    let parts = replace(last, Last::new(Vec::new(shared.alloc)));
+    let (works, merged) = in_threads(rt, shared, starts, parts);
+    *last = merged;
+    bring_together(rt, shared, works?, slip)
 }
 
 /// Runs the processes with an event below the window's end, by at most so many workers. Answers all berths, in some
 /// order, and the slips: one for each worker, and the starter's.
 fn run_berths_of<M: Process, G: Gate, R: Threads + Wait + Sync>(
     rt: &R,
-    alloc: Global,
-    gate: &G,
-    workers: u16,
+    crew: &Crew<'_, G>,
     mailboxes: &mut Mailboxes,
     window: &Window<'_>,
     berths: Vec<Berth<M>>,
+    last: &mut Last,
 ) -> Result<(Vec<Berth<M>>, Vec<Slip>), RunError>
-    requires some { 0 < workers }
-    requires few { workers ≤ most_workers }
+    requires some { 0 < crew.now.workers }
+    requires few { crew.now.workers ≤ most_workers }
     requires slips { mailboxes.old.slips ≡ 0 }
     requires boxes { length mailboxes.old.mailboxes ≡ window.now.streams.processes }
     requires ready { AreReady M.mind window.now berths.items }
@@ -129,25 +138,27 @@ fn run_berths_of<M: Process, G: Gate, R: Threads + Wait + Sync>(
     ensures mailboxes { OnOk result (mailboxes.new.mailboxes ≡ mailboxes.old.mailboxes) }
     ensures slips { IfOk result (λ r. vec_len r.1 ≡ mailboxes.new.slips) }
     ensures workers { IfOk result (λ r. (started : ℕ)
-        × IsCountOfWorkers window.now.end workers berths.items started × (vec_len r.1 ≡ started + 1)) }
+        × IsCountOfWorkers window.now.end crew.now.workers berths.items started × (vec_len r.1 ≡ started + 1)) }
     ensures run { IfOk result (λ r.
         HadWindow M.mind window.now mailboxes.old.mailboxes berths.items r.0.items r.1.items) }
+    ensures last { last.new ≡ last.old }
     ensures errors { IfErr result IsRefusal }
     ensures limit { IsErrOf result RunError.Limit → IsOneTooLong M.mind window.now berths.items }
 {
+    let alloc = crew.alloc;
     let (waiting, mut idle) = part(alloc, window.end, berths)?;
-    let count = waiting.len().min(usize::from(workers));
+    let count = waiting.len().min(usize::from(crew.workers));
     let (fronts, dealer) = deal(alloc, count, waiting)?;
     let slip = mailboxes.slip(alloc)?;
     let starts = starts_of(alloc, dealer, mailboxes)?;
     let shared = Shared {
         alloc,
         window,
-        gate,
+        gate: crew.gate,
         fronts: &fronts,
         mailboxes: mailboxes.shared(),
     };
-    let (mut done, slips) = run_dealt(rt, &shared, starts, slip)?;
+    let (mut done, slips) = run_dealt(rt, &shared, starts, slip, last)?;
     done.append(&mut idle)?;
     Ok((done, slips))
 }
@@ -171,15 +182,14 @@ fn mailboxes_for(
 /// which the letters of the window were posted.
 fn run_all<M: Process, G: Gate, R: Threads + Wait + Sync>(
     rt: &R,
-    alloc: Global,
-    gate: &G,
-    workers: u16,
+    crew: &Crew<'_, G>,
     mut mailboxes: Mailboxes,
     window: &Window<'_>,
     berths: Vec<Berth<M>>,
+    last: &mut Last,
 ) -> Result<Ran<M>, RunError>
-    requires some { 0 < workers }
-    requires few { workers ≤ most_workers }
+    requires some { 0 < crew.now.workers }
+    requires few { crew.now.workers ≤ most_workers }
     requires boxes { length mailboxes.mailboxes ≡ window.now.streams.processes }
     requires slips { mailboxes.slips ≡ 0 }
     requires ready { AreReady M.mind window.now berths.items }
@@ -187,23 +197,16 @@ fn run_all<M: Process, G: Gate, R: Threads + Wait + Sync>(
 
     ensures boxes { IfOk result (λ r. length r.mailboxes.mailboxes ≡ window.now.streams.processes) }
     ensures all { IfOk result (λ r. vec_len r.slips ≡ r.mailboxes.slips) }
-    ensures workers { IfOk result (λ r. IsCountOfWorkers window.now.end workers berths.items r.workers) }
+    ensures workers { IfOk result (λ r. IsCountOfWorkers window.now.end crew.now.workers berths.items r.workers) }
     ensures few { IfOk result (λ r. r.workers + 1 ≡ vec_len r.slips) }
     ensures slips { IfOk result (λ r. All (IsSlipOf r.mailboxes.mailboxes) r.slips.items) }
     ensures outcome { IfOk result (λ r.
         IsOutcomeBy M.mind window.now.streams window.now.end berths.items r.berths.items r.slips.items) }
+    ensures last { last.new ≡ last.old }
     ensures errors { IfErr result IsRefusal }
     ensures limit { IsErrOf result RunError.Limit → IsOneTooLong M.mind window.now berths.items }
 {
-    let (mut done, slips) = run_berths_of(
-        rt,
-        alloc,
-        gate,
-        workers,
-        &mut mailboxes,
-        window,
-        berths,
-    )?;
+    let (mut done, slips) = run_berths_of(rt, crew, &mut mailboxes, window, berths, last)?;
     done.sort_unstable_by_key(|berth| berth.pid().number());
     Ok(Ran {
         berths: done,
@@ -213,7 +216,8 @@ fn run_all<M: Process, G: Gate, R: Threads + Wait + Sync>(
     })
 }
 
-/// Runs the next window of a stage, as [`run_window`] does, but answers its parts, which aren't merged yet.
+/// Runs the next window of a stage, as [`run_window`] does, but answers its parts, which aren't merged yet. Those of the
+/// window before are merged meanwhile.
 ///
 /// # Errors
 ///
@@ -224,6 +228,7 @@ pub(crate) fn run_parts<M: Process, G: Gate, R: Threads + Wait + Sync>(
     stage: &mut Stage<'_, M>,
     plan: &Plan,
     gate: &G,
+    last: &mut Last,
 ) -> Result<Vec<Vec<Entry>>, RunError>
     requires stage { IsStage M.mind stage.old }
     requires plan { IsPlanFor stage.old.scenario.now plan.now }
@@ -239,6 +244,7 @@ pub(crate) fn run_parts<M: Process, G: Gate, R: Threads + Wait + Sync>(
     ensures workers { IfOk result (λ _. IsCountOfWorkers
         (end_of (setting_of stage.old.scenario.now) plan.now.window stage.old.start) plan.now.workers
         stage.old.berths.items stage.new.workers) }
+    ensures last { last.new ≡ last.old }
     ensures errors { IfErr result IsRefusal }
     ensures limit { IsErrOf result RunError.Limit → (whole : List EntryRecord)
         → IsTrace (setting_of stage.old.scenario.now) whole → stage.old.scenario.now.limit < length whole }
@@ -252,7 +258,12 @@ pub(crate) fn run_parts<M: Process, G: Gate, R: Threads + Wait + Sync>(
     let window = Window { streams, end, left };
     let berths = replace(&mut stage.berths, Vec::new(alloc));
     let workers = plan.workers();
-    let ran = run_all(rt, alloc, gate, workers, mailboxes, &window, berths)?;
+    let crew = Crew {
+        alloc,
+        gate,
+        workers,
+    };
+    let ran = run_all(rt, &crew, mailboxes, &window, berths, last)?;
     stage.close(rt, alloc, ran, left)
 }
 
@@ -289,6 +300,7 @@ pub fn run_window<M: Process, G: Gate, R: Threads + Wait + Sync>(
     ensures limit { IsErrOf result RunError.Limit → (whole : List EntryRecord)
         → IsTrace (setting_of stage.old.scenario.now) whole → stage.old.scenario.now.limit < length whole }
 {
-    let parts = run_parts(rt, alloc, stage, plan, gate)?;
+    let mut none = Last::new(Vec::new(alloc));
+    let parts = run_parts(rt, alloc, stage, plan, gate, &mut none)?;
     merge(alloc, parts)
 }

@@ -13,6 +13,7 @@ ghost use Rattle.windows.specs.Inside.Workers.{IsReady};
 
 use crate::berth::{Berth, run_into};
 use crate::gate::Gate;
+use crate::last::Last;
 use crate::shared::Shared;
 use deques::Hand;
 use mailboxes::{Slip, Tray};
@@ -25,6 +26,12 @@ use std::thread::{Promise, PromisedHandle, Scope, Threads};
 /// A process with so many entries of a window has its letters posted when its turn ends. Those of smaller ones wait in
 /// the worker's tray until it has run its last process, so that more of them go to one receiver in a row.
 const MANY_ENTRIES: usize = 512;
+
+/// The place of the receiver to whom a worker posts first. Workers begin far from one another, so that they seldom post
+/// to one receiver at once.
+fn first_receiver(worker: u16, workers: usize, receivers: usize) -> usize {
+    usize::from(worker).wrapping_mul(receivers) / workers.max(1)
+}
 
 /// What a worker begins with: its hand, by which it takes berths, and its slip.
 #[derive(Drop)]
@@ -81,7 +88,8 @@ pub(crate) fn run_taken<M: Process, G: Gate, R: Wait>(
     if !many {
         return Ok(());
     }
-    shared.mailboxes.post_all(rt, slip, tray)?;
+    let first = first_receiver(worker, shared.fronts.len(), tray.receivers());
+    shared.mailboxes.post_all(rt, slip, tray, first)?;
     Ok(())
 }
 
@@ -107,6 +115,7 @@ pub(crate) fn run_berths<M: Process, G: Gate, R: Wait>(
 {
     let Start { mut hand, mut slip } = start;
     let mut tray = slip.tray()?;
+    let first = first_receiver(worker, shared.fronts.len(), tray.receivers());
     let mut done = Vec::new(shared.alloc);
     for _ in rt.forever() {
         let Some(berth) = hand.take(rt, shared.fronts) else {
@@ -114,7 +123,7 @@ pub(crate) fn run_berths<M: Process, G: Gate, R: Wait>(
         };
         run_taken(rt, shared, worker, berth, &mut slip, &mut tray, &mut done)?;
     }
-    shared.mailboxes.post_all(rt, &mut slip, &mut tray)?;
+    shared.mailboxes.post_all(rt, &mut slip, &mut tray, first)?;
     Ok(Work { hand, slip, done })
 }
 
@@ -213,7 +222,8 @@ fn start_worker<'s, E, M: Process + 's, G: Gate, R: Threads + Wait + Sync>(
 }
 
 /// Starts a worker for each beginning, and joins them. The workers have the numbers from 1 to that of the beginnings.
-/// Where a thread is refused, those that were started are joined first.
+/// While they run, the parts of the window before are merged. Where a thread is refused, those that were started are
+/// joined first.
 ///
 /// # Errors
 ///
@@ -224,17 +234,24 @@ pub(crate) fn start_workers<'s, E, M: Process + 's, G: Gate, R: Threads + Wait +
     rt: &'s R,
     shared: &'s Shared<'s, M, G>,
     mut starts: Vec<Start<M>>,
-) -> Result<Vec<Work<M>>, RunError>
+    mut last: Last,
+) -> (Result<Vec<Work<M>>, RunError>, Last)
     requires starts { All (IsStart M.mind shared.now) starts.items }
     requires few { vec_len starts ≤ most_workers }
-    ensures { AreAnswers M.mind shared.now starts.items result }
+    ensures works { AreAnswers M.mind shared.now starts.items result.0 }
+    ensures last { result.1 ≡ last }
 {
     let Some(start) = starts.pop() else {
-        return Ok(Vec::new(shared.alloc));
+        last.merge(shared.alloc);
+        return (Ok(Vec::new(shared.alloc)), last);
     };
     let worker = starts.len() as u16 + 1;
-    let child = start_worker(scope, rt, shared, worker, start)?;
-    let rest = start_workers(scope, rt, shared, starts);
-    let mine = child.join(rt);
-    all_works(rest, mine)
+    match start_worker(scope, rt, shared, worker, start) {
+        Ok(child) => {
+            let (rest, last) = start_workers(scope, rt, shared, starts, last);
+            let mine = child.join(rt);
+            (all_works(rest, mine), last)
+        }
+        Err(refusal) => (Err(refusal), last),
+    }
 }

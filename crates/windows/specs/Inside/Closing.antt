@@ -16,6 +16,7 @@ use Rattle.trace_laws.specs.World.{IsTrace}
 use Rattle.trace_merge.specs.Parts.{all_of, AreDisjoint}
 use Rattle.window_laws.specs.Machine.{end_of}
 use Rattle.windows.specs.Refusals.{IsRefusal}
+use Rattle.windows.specs.Inside.Last.{AreParts, IsMerged}
 use Rattle.windows.specs.Stage.{IsClosed, IsCountOfWorkers, IsStageAfter, IsWindowRun}
 use Rattle.windows.specs.Inside.Workers.{IsOutcome}
 use Rattle.windows.specs.declared.berth.Berth.{Berth}
@@ -26,33 +27,7 @@ pub record AreLettersOf (slips : List SlipView) (n : ℕ) (lists : List (List Le
   pub count : length lists ≡ n
   pub each : (r : ℕ) → 1 ≤ r → r ≤ n → IsPermutation (posted_to slips r) (list_of lists r)
 
--- each part rises, and no key is in two
-pub record AreParts (parts : List (Vec EntryRecord)) : Type 0 where
-  pub rising : All (λ part. IsTrue (is_rising part.items)) parts
-  pub apart : AreDisjoint (map (λ part. part.items) parts)
-
--- the entries of these parts, in the order of their keys
-pub record IsMerged (parts : List (Vec EntryRecord)) (merged : List EntryRecord) : Type 0 where
-  pub rising : IsTrue (is_rising merged)
-  pub same : IsPermutation (all_of (map (λ part. part.items) parts)) merged
-
 module _ {M : Type 0} (mind : M → Mind) where
-  -- A window was run, and its parts wait to be merged: whatever they make, merged, follows the entries so far. Or why
-  -- it was refused
-  pub record HasParts (window workers : ℕ) (old new : Stage M) (r : Result (Vec (Vec EntryRecord)) RunError)
-      : Type 0 where
-    pub scenario : OnOk r (new.scenario.now ≡ old.scenario.now)
-    pub parts : IfOk r (λ v. AreParts v.items)
-    pub stage : IfOk r (λ v. (merged : List EntryRecord) → IsMerged v.items merged
-        → (trace : List EntryRecord) → IsStageAfter mind trace old → IsStageAfter mind (trace ++ merged) new)
-    pub run : IfOk r (λ v. (merged : List EntryRecord) → IsMerged v.items merged
-        → IsWindowRun mind window old new merged)
-    pub workers_are : IfOk r (λ v. IsCountOfWorkers (end_of (setting_of old.scenario.now) window old.start) workers
-        old.berths.items new.workers)
-    pub errors : IfErr r IsRefusal
-    pub limit : IsErrOf r Limit → (whole : List EntryRecord) → IsTrace (setting_of old.scenario.now) whole
-        → old.scenario.now.limit < length whole
-
   -- each process had its window, and the letters are those that these slips posted
   abbrev pub IsOutcomeBy : Record → (end : ℕ) → (olds news : List (Berth M)) → List SlipView → Type 0
   IsOutcomeBy s end olds news slips =

@@ -24,4 +24,4 @@ returns-clause-outcome g c lists are =
     (IsNonDecreasingBy-from_sort_by_key (λ (b : Berth _). own_of g.M.Process.mind b.seat) _ c.sort_unstable_by_key.ensures.sorted (λ a r q k. search rules)) are.count are.each
 
 pub returns-clause-workers : goal.returns-clause-workers
-returns-clause-workers g c = let w = c.in_ok-done.ensures.workers in subst (IsCountOfWorkers c.args.window.now.end c.args.workers c.args.berths.items) (omega (arith, w.2, c.len.ensures)) w.1
+returns-clause-workers g c = let w = c.in_ok-done.ensures.workers in subst (IsCountOfWorkers c.args.window.now.end c.args.crew.now.workers c.args.berths.items) (omega (arith, w.2, c.len.ensures)) w.1

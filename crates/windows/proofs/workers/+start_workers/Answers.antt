@@ -1,4 +1,4 @@
-use Rattle.std.proofs.Common.{IfSome, subst}
+use Rattle.std.proofs.Common.{◌≡◌, IfOk, IfSome, subst}
 use Rattle.std.proofs.lemmas.List.Elements.{All-pop}
 use Rattle.windows.specs.Inside.Shared.{IsStart}
 use Rattle.windows.proofs.Joined.{popped, answer_at, answers_more}
@@ -12,9 +12,12 @@ pub start_workers-rest-requires-clause-starts : goal.start_workers-rest-requires
 start_workers-rest-requires-clause-starts g t c κs within =
     (All-pop (IsStart g.M.Process.mind c.args.shared.now) c.args.starts.items c.pop.new.self.items c.pop.result c.pop.ensures.items c.requires.starts).0
 
-pub returns : goal.returns
-returns g t c =
+pub returns-in-Ok-clause-works : goal.returns-in-Ok-clause-works
+returns-in-Ok-clause-works g t c =
+    let child = c.in-Ok.child in
+    let shared = subst (λ r. IfOk r (λ h. h.promise.shared.value ≡ c.args.shared.now)) c.in-Ok.is c.start_worker.ensures.shared in
+    let start = subst (λ r. IfOk r (λ h. h.promise.start.value ≡ c.in-Some.start)) c.in-Ok.is c.start_worker.ensures.start in
     answers_more g.M.Process.mind c.args.shared.now c.args.starts.items c.pop.new.self.items c.in-Some.start
-    (popped c.args.starts.items c.pop.new.self.items c.pop.result c.in-Some.start c.pop.ensures.items c.in-Some.is) c.start_workers-rest.result c.join-mine.result c.start_workers-rest.ensures
-    (answer_at g.M.Process.mind c.in_ok-child.child.promise.shared.value c.args.shared.now c.in_ok-child.child.promise.start.value c.in-Some.start c.join-mine.result c.in_ok-child.ensures.shared c.in_ok-child.ensures.start c.join-mine.ensures)
+    (popped c.args.starts.items c.pop.new.self.items c.pop.result c.in-Some.start c.pop.ensures.items c.in-Some.is) c.start_workers-rest.result.0 c.join-mine.result c.start_workers-rest.ensures.works
+    (answer_at g.M.Process.mind child.promise.shared.value c.args.shared.now child.promise.start.value c.in-Some.start c.join-mine.result shared start c.join-mine.ensures)
     c.all_works.result c.all_works.ensures.ok c.all_works.ensures.err

@@ -9,6 +9,7 @@ use Rattle.windows.specs.declared.berth.Berth.{Berth}
 use Rattle.windows.proofs.Posting.{posting_opens}
 use Rattle.windows.proofs.Work.{work_begins, work_more}
 use Rattle.windows.proofs.Refused.{holds_of_none, not_err}
+use Rattle.windows.proofs.Refused.{memory_alone}
 use Rattle.windows.proofs.workers.run_berths.Goals as goal
 use Rattle.windows.proofs.workers.run_berths.Goals.{in-None, in-Some+in_default}
 
@@ -68,4 +69,14 @@ returns-in_err-run_taken g c =
         subst (λ l. Contains l c.in-Some-take.berth) c.loop.invariant.2 c.in-Some-take.ensures.3,
         λ history after rest letters run. c.run_taken.ensures.limit (search rules) history after rest letters run,
       );
+    }
+
+pub returns-in_err-post_all : goal.returns-in_err-post_all
+returns-in_err-post_all g c =
+    let no = holds_of_none c.from_residual-in_err-post_all.result c.from_residual-in_err-post_all.ensures.0 in
+    record {
+      own = no _;
+      work = no _;
+      errors = search rules;
+      limit = λ is. absurd (memory_alone c.from_residual-in_err-post_all.result (search rules) is);
     }

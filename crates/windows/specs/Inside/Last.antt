@@ -1,0 +1,40 @@
+-- The parts of a closed window, which are merged later.
+use Rattle.std.specs.Prelude.{◌≡◌, ◌⊎◌, List, [], ◌++◌, map, IsTrue}
+use Rattle.std.specs.Global.{Vec}
+use Rattle.std.specs.List.{All}
+use Rattle.std.specs.List.Sorted.{IsPermutation}
+use Rattle.process_api.specs.EntryRecord.{EntryRecord}
+use Rattle.process_api.specs.Order.{is_rising}
+use Rattle.trace_merge.specs.Parts.{all_of, AreDisjoint}
+use Rattle.window_laws.specs.Theorems.{end_to_end}
+use Rattle.windows.specs.Sink.{TookAll}
+use Rattle.windows.specs.declared.last.Progress.{Progress}
+use Rattle.windows.specs.declared.last.Progress.TheVariants.{Apart, Merged, Refused}
+
+-- each part rises, and no key is in two
+pub record AreParts (parts : List (Vec EntryRecord)) : Type 0 where
+  pub rising : All (λ part. IsTrue (is_rising part.items)) parts
+  pub apart : AreDisjoint (map (λ part. part.items) parts)
+
+-- the entries of these parts, in the order of their keys
+pub record IsMerged (parts : List (Vec EntryRecord)) (merged : List EntryRecord) : Type 0 where
+  pub rising : IsTrue (is_rising merged)
+  pub same : IsPermutation (all_of (map (λ part. part.items) parts)) merged
+
+-- these parts are apart yet, or merged, or gone
+abbrev pub HasMade : List (Vec EntryRecord) → Progress → Type 0
+HasMade parts (Apart now) = (now.items ≡ parts) × AreParts parts
+HasMade parts (Merged merged) = IsMerged parts merged.items
+HasMade parts Refused = Unit {0}
+
+module _ {K : Type 0} (took : K → List EntryRecord → K → Type 0) where
+  -- the sink took, part by part, what these parts make and the others don't
+  abbrev pub TookAllBut : (parts others : List (Vec EntryRecord)) → (old new : K) → Type 0
+  TookAllBut parts others old new =
+      (told : List (List EntryRecord)) × TookAll took old told new
+      × ((rest : List EntryRecord) → IsMerged others rest → IsMerged parts (end_to_end told ++ rest))
+
+  -- the sink took nothing of what these parts make, or a front
+  abbrev pub TookFrontOf : (parts : List (Vec EntryRecord)) → (old new : K) → Type 0
+  TookFrontOf parts old new =
+      (new ≡ old) ⊎ ((merged : List EntryRecord) × IsMerged parts merged × took old merged new)
