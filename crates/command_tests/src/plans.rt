@@ -103,8 +103,8 @@ fn run(workers: u64, window: u64, print: PrintChoice) -> Order<'static> {
 }
 
 /// The list and `check` tell no gate, and put once. By windows of 2 ticks two processes are taken in each of five
-/// windows, by windows of 1 tick in each of seven: the first line goes out before the first, the rows of each after the
-/// next one was run, and the report in the end. A comparison runs by windows once.
+/// windows, by windows of 1 tick in each of seven: the first line goes out before the first, the rows of each after it
+/// and before the next, and the report in the end. A comparison runs by windows once.
 #[test]
 fn as_windows_close(rt: HostRuntime) {
     let alloc = rt.alloc();
@@ -119,9 +119,9 @@ fn as_windows_close(rt: HostRuntime) {
     for (order, workers, puts) in [
         (Order::Check { path }, 0, [0].as_slice()),
         (Order::List { path, print: both }, 0, &[0]),
-        (run(2, 2, trace), 2, &[0, 4, 6, 8, 10, 10]),
-        (run(2, 1, trace), 2, &[0, 4, 6, 8, 10, 12, 14, 14]),
-        (run(1, 2, both), 1, &[0, 4, 6, 8, 10, 10, 10]),
+        (run(2, 2, trace), 2, &[0, 2, 4, 6, 8, 10]),
+        (run(2, 1, trace), 2, &[0, 2, 4, 6, 8, 10, 12, 14]),
+        (run(1, 2, both), 1, &[0, 2, 4, 6, 8, 10, 10]),
         (run(64, 2, PrintChoice::Report), 2, &[10]),
         (compare, 2, &[10]),
     ] {
@@ -149,5 +149,5 @@ fn long_rows(rt: HostRuntime) {
     let many = changed(&rt, alloc, ONE_PROCESS, one, many);
     let file = changed(&rt, alloc, &many, "horizon = 1\n", "horizon = 2\n");
     let order = run(2, 1, PrintChoice::Trace);
-    goes(&rt, alloc, &file, order, 2, &[0, 128, 128, 128]);
+    goes(&rt, alloc, &file, order, 2, &[0, 64, 128, 128]);
 }

@@ -9,7 +9,7 @@ use event_list::RunError;
 use process_api::Pid;
 use std::sync::atomic::{AtomicU64, Ordering};
 use std::sync::{Arc, Wait};
-use windows::{Berth, Gate, OpenGate, Plan, Stage, WORTH_A_THREAD, both, run_window};
+use windows::{Berth, Gate, OpenGate, Plan, Stage, both, run_window};
 
 /// A gate that keeps what it sees.
 #[derive(Drop)]
@@ -103,7 +103,6 @@ fn sixty_four(rt: HostRuntime) {
     let list = list_of(&rt, alloc, &scenario);
     // 256 starts, 256 checks, 1,280 beats, and four letters for each pair
     same(&rt, &list.entries().len(), &262_912);
-    assert!(rt; WORTH_A_THREAD <= 131_328);
     for workers in [1, 2, 4, 64] {
         let windows = run_by(&rt, alloc, &scenario, workers, &OpenGate);
         same_entries(&rt, windows.entries(), list.entries());
