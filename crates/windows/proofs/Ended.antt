@@ -1,6 +1,6 @@
 -- What a loop over a list begins with and comes to: what was made so far and what the rest gives is what all give.
 use Rattle.std.proofs.Common.{◌≡◌, List, [], ◌++◌, map, length, append-nil, sym, ap, ◌∙◌}
-use Rattle.std.proofs.lemmas.List.{length-map, nil_from_length}
+use Rattle.std.proofs.lemmas.List.{nil_from_length}
 
 module _ {A B X : Type 0} (f : A → X) (g : B → X) (made : List A) (rest : List B) where
   pub opens : (xs : List B) → made ≡ [] → rest ≡ xs → map f made ++ map g rest ≡ map g xs
@@ -8,6 +8,3 @@ module _ {A B X : Type 0} (f : A → X) (g : B → X) (made : List A) (rest : Li
 
   pub ends : (all : List X) → length rest ≡ 0 → map f made ++ map g rest ≡ all → map f made ≡ all
   ends all none is = sym (append-nil (map f made)) ∙ (ap (λ l. map f made ++ map g l) (sym (nil_from_length rest none)) ∙ is)
-
-  pub same_length : map f made ≡ map g rest → length made ≡ length rest
-  same_length e = sym (length-map made f) ∙ (ap length e ∙ length-map rest g)

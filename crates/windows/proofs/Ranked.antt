@@ -4,7 +4,7 @@ use Rattle.std.specs.List.{All, AllByRecursion, IsDistinct}
 use Rattle.std.specs.List.Sorted.{IsPermutation, IsNonDecreasingBy}
 use Rattle.std.proofs.lemmas.Bool.{eqb-false, ne_eqb}
 use Rattle.std.proofs.lemmas.Bool.Decides.{nat_tests}
-use Rattle.std.proofs.lemmas.List.Elements.{All-head, All-tail}
+use Rattle.std.proofs.lemmas.List.{get_or-map, length-map}
 use Rattle.std.proofs.lemmas.List.Sorted.{Contains-permutation, IsPermutation-map, IsPermutation-sym}
 use Rattle.std.proofs.lemmas.Map.Keys.{IsDistinct-IsPermutation}
 use Rattle.trace_laws.specs.History.{IsIn}
@@ -80,17 +80,11 @@ module _ {X : Type 0} (key : X → ℕ) where
     rises_counted (suc k) xs (λ i y at. let there = h (suc i) y at in omega arith),
   )
 
-module _ {X Y : Type 0} (key : Y → ℕ) (f g : X → Y) where
-  above_same : (j k : ℕ) → j ≡ k → (xs : List X) → All (λ x. key (f x) ≡ key (g x)) xs → AllAbove key k (map g xs) → AllAbove key j (map f xs)
-  above_same j k e [] same h = tt
-  above_same j k e (x ∷ xs) same h =
-      let here : key (f x) ≡ key (g x) = All-head (λ x. key (f x) ≡ key (g x)) x xs same in let lt = h.0 in
-      (omega arith, above_same j k e xs (All-tail (λ x. key (f x) ≡ key (g x)) x xs same) h.1)
-
-  -- what keeps each key keeps the order
-  pub rises_same : (xs : List X) → All (λ x. key (f x) ≡ key (g x)) xs → RiseBy key (map g xs) → RiseBy key (map f xs)
-  rises_same [] same r = tt
-  rises_same (x ∷ xs) same r = (
-    above_same (key (f x)) (key (g x)) (All-head (λ x. key (f x) ≡ key (g x)) x xs same) xs (All-tail (λ x. key (f x) ≡ key (g x)) x xs same) r.0,
-    rises_same xs (All-tail (λ x. key (f x) ≡ key (g x)) x xs same) r.1,
-  )
+-- what keeps each key keeps the order
+pub same_order : {X Y : Type 0} (key : Y → ℕ) (f g : X → Y) (xs : List X) → All (λ x. key (f x) ≡ key (g x)) xs → IsNonDecreasingBy key (map g xs) → IsNonDecreasingBy key (map f xs)
+same_order key f g [] same up i j d le lt = absurd (omega arith)
+same_order key f g (x ∷ xs) same up i j d le lt =
+    let less : j < length (x ∷ xs) = omega (arith, lt, length-map (x ∷ xs) f) in
+    let at : (k : ℕ) → k < length (x ∷ xs) → key (get_or (map f (x ∷ xs)) k d) ≡ key (get_or (map g (x ∷ xs)) k d) =
+    λ k l. ap key (get_or-map f (x ∷ xs) k x d l) ∙ (same k x l ∙ ap key (sym (get_or-map g (x ∷ xs) k x d l))) in
+    omega (arith, at i (omega (arith, le, less)), at j less, up i j d le (omega (arith, less, length-map (x ∷ xs) g)))

@@ -1,6 +1,7 @@
 -- A worker's work grows by one berth at a time.
-use Rattle.std.proofs.Common.{◌≡◌, ℕ, List, [], ◌∷◌, ◌++◌, refl, sym, ap, ◌∙◌, subst}
+use Rattle.std.proofs.Common.{◌≡◌, ℕ, List, [], ◌∷◌, ◌++◌, sym, ap, ◌∙◌, subst, append-nil}
 use Rattle.std.proofs.lemmas.List.{map-append}
+use Rattle.std.proofs.lemmas.List.Concat.{flat_map-append}
 use Rattle.std.specs.List.Sorted.{IsPermutation}
 use Rattle.std.proofs.lemmas.List.Elements.{All-nil, All-push}
 use Rattle.std.proofs.lemmas.List.Sorted.{IsPermutation-refl, IsPermutation-trans, IsPermutation-append_left}
@@ -8,16 +9,17 @@ use Rattle.process_api.specs.Mind.{Mind}
 use Rattle.process_api.specs.declared.message.Letter.{Letter}
 use Rattle.scenario_record.specs.Record.{Record}
 use Rattle.mailboxes.specs.Mailbox.{MailboxId}
-use Rattle.mailboxes.specs.Mailboxes.{SlipView, IsSlipOf, unused}
-use Rattle.windows.specs.Berth.{with_letters}
+use Rattle.mailboxes.specs.Mailboxes.{SlipView, IsSlipOf, slip_of, unused}
+use Rattle.windows.specs.Berth.{all_filed, with_letters}
 use Rattle.deques.specs.Deques.{DequeId, HandView, TookOne}
-use Rattle.windows.specs.Inside.Workers.{Stay, stay, with_stays, IsStay, AreRunBy, IsWork, IsFresh}
+use Rattle.windows.specs.Inside.Workers.{Stay, stay, sent_in, IsStay, AreRunBy, IsWork, IsFresh}
 use Rattle.windows.specs.declared.berth.Berth.{Berth}
+use Rattle.windows.proofs.Letters.{filed_more}
 
 module _ {M : Type 0} where
-  pub with_stays-append : (slip : SlipView) (xs ys : List (Stay M)) → with_stays slip (xs ++ ys) ≡ with_stays (with_stays slip xs) ys
-  with_stays-append slip [] ys = refl
-  with_stays-append slip (x ∷ xs) ys = with_stays-append (with_letters slip x.letters) xs ys
+  sent_more : (slip : SlipView) (stays : List (Stay M)) (t : Stay M) → with_letters (with_letters slip (sent_in stays)) t.letters ≡ with_letters slip (sent_in (stays ++ t ∷ []))
+  sent_more slip stays t = ap (slip_of slip.mailboxes) (filed_more slip.posted (sent_in stays) t.letters
+      ∙ ap (all_filed slip.posted) (sym (flat_map-append (λ (u : Stay M). u.letters) stays (t ∷ []) ∙ ap (λ l. sent_in stays ++ l) (append-nil t.letters))))
 
   module _ (mind : M → Mind) (s : Record) (end : ℕ) (mailboxes : List MailboxId) where
     pub run_begins : (taken : List (Berth M)) (slip : SlipView) (done : List (Berth M)) → taken ≡ [] → slip ≡ unused mailboxes → done ≡ [] → AreRunBy mind s end mailboxes taken slip done
@@ -39,7 +41,7 @@ module _ {M : Type 0} where
       taken_are = subst (λ l. IsPermutation l (taken ++ before ∷ [])) (sym (map-append (λ (t : Stay M). t.before) run.stays (stay before after letters ∷ [])))
           (IsPermutation-append_left (before ∷ []) _ _ run.taken_are);
       done_are = map-append (λ (t : Stay M). t.after) run.stays (stay before after letters ∷ []) ∙ ap (λ l. l ++ after ∷ []) run.done_are ∙ sym adds;
-      posted = posts ∙ ap (λ v. with_letters v letters) run.posted ∙ sym (with_stays-append (unused mailboxes) run.stays (stay before after letters ∷ []));
+      posted = posts ∙ ap (λ v. with_letters v letters) run.posted ∙ sent_more (unused mailboxes) run.stays (stay before after letters);
     }
 
     module _ (deques : List DequeId) where

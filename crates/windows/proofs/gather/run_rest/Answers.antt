@@ -29,9 +29,6 @@ run_taken-requires-clause-ready g c κs within =
     All-contains (IsReady g.M.Process.mind c.args.shared.now.window.now.streams) (all_put c.args.rest.now.own) c.in-Some-take_last.berth c.requires.ready
     (subst (λ l. Contains (all_put l) c.in-Some-take_last.berth) c.loop.invariant.3 c.in-Some-take_last.ensures.3)
 
-pub run_taken-requires-clause-posting : goal.run_taken-requires-clause-posting
-run_taken-requires-clause-posting g c κs within = c.loop.invariant.2
-
 pub returns-in_err-run_taken-clause-limit : goal.returns-in_err-run_taken-clause-limit
 returns-in_err-run_taken-clause-limit g c is = (
   c.in-Some-take_last.berth,

@@ -28,9 +28,6 @@ run_taken-requires-clause-ready g c κs within =
     All-contains (IsReady g.M.Process.mind c.args.shared.now.window.now.streams) c.args.start.hand.known c.in-Some-take.berth c.requires.1
     (subst (λ l. Contains l c.in-Some-take.berth) c.loop.invariant.2 c.in-Some-take.ensures.3)
 
-pub run_taken-requires-clause-posting : goal.run_taken-requires-clause-posting
-run_taken-requires-clause-posting g c κs within = c.loop.invariant.1
-
 pub loop-preserved : goal.loop-preserved
 loop-preserved g c =
     let inv = c.loop.invariant in
