@@ -1,4 +1,2 @@
 pub mod Homes
-pub mod Inboxes
 pub mod Rows
-pub mod Ticks

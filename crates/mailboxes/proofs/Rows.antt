@@ -8,8 +8,7 @@ use Rattle.ledger.specs.Places.{each_with}
 use Rattle.ledger.proofs.Lists.{with-nil, mixed_at, mixed_more}
 use Rattle.mailboxes.specs.Mailbox.{TicketView}
 use Rattle.mailboxes.specs.Mailboxes.{letters_in}
-use Rattle.mailboxes.proofs.Homes.{whose, posted_by}
-use Rattle.mailboxes.proofs.Inboxes.{items_of}
+use Rattle.mailboxes.proofs.Homes.{whose, posted_by, items_of}
 
 -- the list of letters at one place gets more
 pub row_more : {A : Type 0} (f : A → List Letter) (xs : List A) (i : ℕ) (old new : A) → old ≡ get_or xs i old → i < length xs

@@ -3,7 +3,7 @@ use Rattle.std.specs.Vec.Iter.{into_iter_items}
 use Rattle.std.proofs.lemmas.List.{nil_from_length}
 use Rattle.mailboxes.specs.Mailboxes.{letters_in}
 use Rattle.ledger.proofs.Lists.{Shuffled, Shuffled-refl}
-use Rattle.mailboxes.proofs.Inboxes.{taken_more}
+use Rattle.mailboxes.proofs.Homes.{taken_more}
 use Rattle.mailboxes.proofs.mailboxes.letters_from_all.Goals as goal
 
 pub loop-inbox-init : goal.loop-inbox-init

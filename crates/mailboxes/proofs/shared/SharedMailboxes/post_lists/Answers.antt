@@ -2,8 +2,7 @@ use Rattle.std.proofs.Common.{rules, ◌≡◌, ◌<◌, ◌++◌, length, map, 
 use Rattle.std.proofs.lemmas.List.{length-map}
 use Rattle.ledger.proofs.Lists.{with-nil}
 use Rattle.mailboxes.specs.Mailboxes.{letters_in}
-use Rattle.mailboxes.proofs.Homes.{whose, posted_by}
-use Rattle.mailboxes.proofs.Inboxes.{items_of}
+use Rattle.mailboxes.proofs.Homes.{whose, posted_by, items_of}
 use Rattle.mailboxes.proofs.Rows.{whose_same, post_next, empty_next, all_emptied}
 use Rattle.mailboxes.proofs.shared.SharedMailboxes.post_lists.Goals as goal
 
