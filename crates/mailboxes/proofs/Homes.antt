@@ -1,15 +1,6 @@
 -- Tickets, which go out and come back, their owner's passes, and inboxes.
-use Rattle.std.proofs.Common.{◌≡◌, ℕ, zero, suc, ◌+◌, List, [], ◌∷◌, ◌++◌, Option, Some, None, min, length, map, get_or, refl, sym, ap, ◌∙◌, subst, arith, append_assoc}
-use Rattle.std.specs.Global.{Vec}
-use Rattle.std.specs.List.{All}
+use Rattle.mailboxes.proofs.Words.{◌≡◌, ℕ, zero, suc, ◌+◌, List, [], ◌∷◌, ◌++◌, Option, Some, None, length, map, get_or, refl, sym, ap, ◌∙◌, subst, arith, append_assoc, Vec, All, length-map, map-append, All-nil, All-cons, All-head, All-tail, All-map, All-weaker, map-map, splat_is_map, Letter, MailboxId, TicketView, HomeView, ticket_of, one_out, one_back, all_back, earlier_of, soonest_in, SlipView, slip_of, unused, letters_in, with-map, Shuffled, Shuffled-next}
 use Rattle.std.specs.List.Sorted.{IsPermutation}
-use Rattle.std.proofs.lemmas.List.{length-map, map-append}
-use Rattle.std.proofs.lemmas.List.Elements.{All-nil, All-cons, All-head, All-tail, All-map, All-weaker}
-use Rattle.std.proofs.lemmas.Simd.{map-map, splat_is_map}
-use Rattle.process_api.specs.declared.message.Letter.{Letter}
-use Rattle.mailboxes.specs.Mailbox.{MailboxId, TicketView, HomeView, ticket_of, one_out, one_back, all_back, earlier_of, soonest_in}
-use Rattle.mailboxes.specs.Mailboxes.{SlipView, slip_of, unused, letters_in}
-use Rattle.ledger.proofs.Lists.{with-map, Shuffled, Shuffled-next}
 
 abbrev pub mailbox_of : HomeView → MailboxId
 mailbox_of h = h.mailbox

@@ -1,13 +1,6 @@
 -- Tickets and lists of letters that change at one place.
-use Rattle.std.proofs.Common.{◌≡◌, ℕ, zero, suc, ◌<◌, ◌≤◌, List, [], ◌∷◌, ◌++◌, length, map, take, drop, replicate, set, get_or, sym, ap, ◌∙◌, arith, append-nil}
-use Rattle.std.specs.Global.{Vec}
-use Rattle.std.proofs.lemmas.List.{get_or-map, map-set, set-get_or, take_all, drop_all}
-use Rattle.std.proofs.lemmas.Simd.{splat_is_map}
-use Rattle.process_api.specs.declared.message.Letter.{Letter}
+use Rattle.mailboxes.proofs.Words.{◌≡◌, ℕ, zero, suc, ◌<◌, ◌≤◌, List, [], ◌∷◌, ◌++◌, length, map, take, drop, replicate, set, get_or, sym, ap, ◌∙◌, arith, append-nil, Vec, get_or-map, map-set, set-get_or, take_all, drop_all, splat_is_map, Letter, with-nil, mixed_at, mixed_more, TicketView, letters_in}
 use Rattle.ledger.specs.Places.{each_with}
-use Rattle.ledger.proofs.Lists.{with-nil, mixed_at, mixed_more}
-use Rattle.mailboxes.specs.Mailbox.{TicketView}
-use Rattle.mailboxes.specs.Mailboxes.{letters_in}
 use Rattle.mailboxes.proofs.Homes.{whose, posted_by, items_of}
 
 -- the list of letters at one place gets more

@@ -1,9 +1,4 @@
-use Rattle.std.proofs.Common.{◌≡◌, ◌∙◌, ◌++◌, ◌∷◌, [], ap, map, drop, get_or, length, sym, subst, arith, append_assoc, append-nil}
-use Rattle.std.specs.List.{All}
-use Rattle.std.specs.Vec.Iter.{into_iter_items}
-use Rattle.std.proofs.lemmas.List.{length-map, nil_from_length}
-use Rattle.std.proofs.lemmas.List.Elements.{All-head, All-tail}
-use Rattle.mailboxes.specs.Mailbox.{HomeView}
+use Rattle.mailboxes.proofs.Words.{◌≡◌, ◌∙◌, ◌++◌, ◌∷◌, [], ap, map, drop, length, sym, subst, append_assoc, append-nil, All, into_iter_items, length-map, nil_from_length, All-tail}
 use Rattle.mailboxes.proofs.Homes.{back_of, mailbox_of, IsIn}
 use Rattle.mailboxes.proofs.mailboxes.inboxes_of.Goals as goal
 

@@ -1,11 +1,4 @@
-use Rattle.std.proofs.Common.{◌≡◌, ◌<◌, ◌-◌, ◌++◌, ◌∷◌, ℕ, List, [], length, map, get_or, sym, ap, ◌∙◌, subst, arith, append_assoc, append-nil}
-use Rattle.std.specs.List.{All, flat_map}
-use Rattle.std.specs.Vec.Iter.{into_iter_items}
-use Rattle.std.proofs.lemmas.List.{nil_from_length}
-use Rattle.std.proofs.lemmas.List.Elements.{All-head, All-tail, All-weaker}
-use Rattle.process_api.specs.declared.message.Letter.{Letter}
-use Rattle.mailboxes.specs.Mailbox.{HomeView}
-use Rattle.mailboxes.specs.Mailboxes.{MailboxesView, SlipView, IsSlipOf}
+use Rattle.mailboxes.proofs.Words.{◌≡◌, ◌<◌, ◌-◌, ◌++◌, ◌∷◌, ℕ, List, [], length, map, get_or, sym, ap, ◌∙◌, subst, arith, append_assoc, append-nil, All, flat_map, into_iter_items, nil_from_length, All-head, All-tail, All-weaker, Letter, HomeView, MailboxesView, SlipView, IsSlipOf}
 use Rattle.mailboxes.proofs.Homes.{mailbox_of, back_of, back-mailboxes, back-out, back-posted, none_back, Even}
 use Rattle.mailboxes.proofs.mailboxes.Mailboxes.into_inboxes.Goals as goal
 

@@ -1,7 +1,4 @@
-use Rattle.std.proofs.Common.{◌≡◌, ◌++◌, ℕ, [], get_or, length, map}
-use Rattle.std.specs.List.{All, flat_map}
-use Rattle.std.specs.Vec.Iter.{into_iter_items}
-use Rattle.mailboxes.specs.Mailboxes.{IsSlipOf}
+use Rattle.mailboxes.proofs.Words.{◌≡◌, ◌++◌, ℕ, [], get_or, length, map, All, flat_map, into_iter_items, IsSlipOf}
 use Rattle.mailboxes.proofs.mailboxes.Mailboxes.into_inboxes.Given as goal
 
 -- the letters that came back, and those of the slips that are left, are all

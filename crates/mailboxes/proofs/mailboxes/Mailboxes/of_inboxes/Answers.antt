@@ -1,8 +1,4 @@
-use Rattle.std.proofs.Common.{◌≡◌, ◌∙◌, ◌++◌, ◌∷◌, [], ap, map, length, length-append, sym, subst, arith}
-use Rattle.std.specs.List.{All}
-use Rattle.std.specs.Vec.Iter.{into_iter_items}
-use Rattle.std.proofs.lemmas.List.{map-append}
-use Rattle.std.proofs.lemmas.List.Elements.{All-head, All-nil, All-push, All-same, All-tail}
+use Rattle.mailboxes.proofs.Words.{◌≡◌, ◌∙◌, ◌++◌, ◌∷◌, [], ap, map, length, length-append, sym, subst, arith, All, into_iter_items, map-append, All-head, All-nil, All-push, All-same, All-tail}
 use Rattle.mailboxes.proofs.Homes.{mailbox_of, Even, IsEmpty}
 use Rattle.mailboxes.proofs.mailboxes.Mailboxes.of_inboxes.Goals as goal
 

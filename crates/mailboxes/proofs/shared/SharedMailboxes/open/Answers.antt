@@ -1,7 +1,4 @@
-use Rattle.std.proofs.Common.{rules, ◌≡◌, [], ◌∷◌, ◌++◌, map, sym, ap, ◌∙◌}
-use Rattle.std.proofs.lemmas.List.{map-append}
-use Rattle.std.proofs.lemmas.List.Elements.{All-same, All-push}
-use Rattle.mailboxes.specs.Mailbox.{HomeView}
+use Rattle.mailboxes.proofs.Words.{rules, ◌≡◌, [], ◌∷◌, ◌++◌, map, sym, ap, ◌∙◌, map-append, All-same, All-push, HomeView}
 use Rattle.mailboxes.proofs.Homes.{mailbox_of, back_of, Even}
 use Rattle.mailboxes.proofs.shared.SharedMailboxes.open.Goals as goal
 

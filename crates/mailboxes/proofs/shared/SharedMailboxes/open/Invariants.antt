@@ -1,5 +1,4 @@
-use Rattle.std.proofs.Common.{◌≡◌, [], map, vec_len}
-use Rattle.std.specs.List.{All}
+use Rattle.mailboxes.proofs.Words.{◌≡◌, [], map, vec_len, All}
 use Rattle.mailboxes.proofs.shared.SharedMailboxes.open.Given as goal
 
 abbrev pub invariant-loop : goal.invariant-loop

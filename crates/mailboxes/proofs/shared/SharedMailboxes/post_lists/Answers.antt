@@ -1,7 +1,4 @@
-use Rattle.std.proofs.Common.{rules, ◌≡◌, ◌<◌, ◌++◌, length, map, refl, sym, ap, ◌∙◌, add-one, arith}
-use Rattle.std.proofs.lemmas.List.{length-map}
-use Rattle.ledger.proofs.Lists.{with-nil}
-use Rattle.mailboxes.specs.Mailboxes.{letters_in}
+use Rattle.mailboxes.proofs.Words.{rules, ◌≡◌, ◌<◌, ◌++◌, length, map, refl, sym, ap, ◌∙◌, add-one, arith, length-map, with-nil, letters_in}
 use Rattle.mailboxes.proofs.Homes.{whose, posted_by, items_of}
 use Rattle.mailboxes.proofs.Rows.{whose_same, post_next, empty_next, all_emptied}
 use Rattle.mailboxes.proofs.shared.SharedMailboxes.post_lists.Goals as goal

@@ -1,5 +1,4 @@
-use Rattle.std.proofs.Common.{◌≡◌, map, vec_len}
-use Rattle.mailboxes.specs.Mailboxes.{letters_in}
+use Rattle.mailboxes.proofs.Words.{◌≡◌, map, vec_len, letters_in}
 use Rattle.mailboxes.proofs.Rows.{posted_to_place, emptied_to_place}
 use Rattle.mailboxes.proofs.shared.SharedMailboxes.post_lists.Given as goal
 
