@@ -1,31 +1,10 @@
 -- Events in a row and events that wait, as one set.
-use Rattle.std.proofs.Common.{◌≡◌, ◌≢◌, ◌⊎◌, ◌≤◌, ◌<◌, ℕ, ◌+◌, inl, inr, refl, sym, ap, ◌∙◌, subst, List, [], ◌∷◌, ◌++◌, map, length, append-nil, append_assoc, min, arith, Less, Option, Some, None, MatchOption}
+use Rattle.windows.proofs.Words.{◌≡◌, ◌≢◌, ◌⊎◌, ◌≤◌, ◌<◌, ℕ, ◌+◌, inl, inr, refl, sym, ap, ◌∙◌, subst, List, [], ◌∷◌, ◌++◌, map, length, append-nil, append_assoc, min, arith, Less, Option, Some, None, MatchOption, AllByRecursion, IsPermutation, cases_lt, Contains-permutation, IsPermutation-sym, key_cmp, Key, Letter, StepInput, keys_total, exact_keys, same_or_not, ticks_rise, both, weaker, IsIn, IsEmpty, IsLeastTick, Event, Events, Has, IsLeast, NoneBelow, joined, joined_one, least_below, insert_at, insert_other, joined_cases, one_input, remove_at, remove_other, removed, same_events, event_of, earlier_of, soonest_in, in_map, joined_back, map_in, AreFrom, AreOne, IsSoonestOf, SomeAt}
 use Rattle.std.specs.FinMap as events
-use Rattle.std.specs.List.{AllByRecursion}
-use Rattle.std.specs.List.Sorted.{IsPermutation}
 use Rattle.std.specs.Option.{option_or}
-use Rattle.std.proofs.lemmas.Bool.{cases_lt}
-use Rattle.std.proofs.lemmas.List.Sorted.{Contains-permutation, IsPermutation-sym}
-use Rattle.process_api.specs.Order.{key_cmp}
-use Rattle.process_api.specs.declared.key.Key.{Key}
-use Rattle.process_api.specs.declared.message.Letter.{Letter}
-use Rattle.process_api.specs.declared.message.StepInput.{StepInput}
-use Rattle.process_api.proofs.KeyOrder.{keys_total, exact_keys, same_or_not, ticks_rise}
-use Rattle.process_api.proofs.Lists.{both, weaker}
-use Rattle.trace_laws.specs.History.{IsIn}
 use Rattle.pending_events.specs.Inside.Buckets.{latest}
-use Rattle.pending_events.specs.Pending.{IsEmpty, IsLeastTick}
 use Rattle.pending_events.proofs.Falling.{none_latest}
 use Rattle.pending_events.proofs.Rows.{get_joined}
-use Rattle.trace_laws.specs.Step.{Event, Events}
-use Rattle.trace_laws.specs.World.{Has, IsLeast, NoneBelow, joined}
-use Rattle.trace_laws.proofs.Joining.{joined_one}
-use Rattle.trace_laws.proofs.Runs.{least_below}
-use Rattle.trace_laws.proofs.Sets.{insert_at, insert_other, joined_cases, one_input, remove_at, remove_other, removed, same_events}
-use Rattle.trace_laws.specs.Taken.{event_of}
-use Rattle.mailboxes.specs.Mailbox.{earlier_of, soonest_in}
-use Rattle.window_laws.proofs.Unions.{in_map, joined_back, map_in}
-use Rattle.windows.specs.Inside.Agenda.{AreFrom, AreOne, IsSoonestOf, SomeAt}
 use Rattle.windows.proofs.Letters.{joined_both}
 use Rattle.windows.proofs.Members.{contains_in, in_contains}
 use Rattle.windows.proofs.Starts.{from_least}

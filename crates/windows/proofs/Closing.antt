@@ -1,54 +1,10 @@
 -- What the processes of a window make of a stage, and what the closing of the window leaves.
-use Rattle.std.proofs.Common.{◌≡◌, ◌⊎◌, ◌↔◌, ℕ, zero, suc, ◌+◌, ◌-◌, ◌*◌, ◌<◌, ◌≤◌, inl, inr, refl, sym, ap, ◌∙◌, subst, List, [], ◌∷◌, ◌++◌, Some, length, map, slice_get, arith, append_assoc, append-nil, length-append, Bool, true, false, cond, not, nat_eq}
-use Rattle.std.specs.Prelude.{IsTrue}
+use Rattle.windows.proofs.Words.{◌≡◌, ◌⊎◌, ◌↔◌, ℕ, zero, suc, ◌+◌, ◌-◌, ◌*◌, ◌<◌, ◌≤◌, inl, inr, refl, sym, ap, ◌∙◌, subst, List, [], ◌∷◌, ◌++◌, Some, length, map, slice_get, arith, append_assoc, append-nil, length-append, Bool, true, false, cond, not, nat_eq, IsTrue, All, slice_get_within, get_or_from_slice_get, length-map, length-filter_both, All-append, All-weaker, length_permutation, Contains-permutation, IsPermutation-sym, most_step_actions, EntryRecord, Mind, key_cmp, is_rising, Key, Letter, StepInput, IsInRange, Record, IsIn, Pair, pairs_of, IsLeastTick, setting_of, process_of, own_of, IsSeated, Setting, IsSound, IsProcess, Event, Events, Process, World, IsWorld, Has, NoneBelow, Run, taken, joined, entries, opening_process, IsTrace, closed_of_run, reached_next, reached_end, run_exists, one_run, joined_cases, one_input, not_None, same_Some, setting_sound, list_of, all_of, AreDisjoint, event_of, IsBerth, StageRecord, Act, StandsFor, IsRun, end_of, first_status, IsMerge, of_process, stage_of, AreHome, IsStageAfter, IsClosed, IsNextStart, IsWindowRun, BerthRun, IsPosted, AreBerths, IsSameStage, AreOne, Stay, IsReady, IsStay, HasLong, IsOutcome, RiseBy, Berth, Stage, is_or_not, in_map, map_in, joined_back, run_on, one_merge, h_stands, berths_run}
 use Rattle.std.specs.FinMap as finmap
-use Rattle.std.specs.List.{All}
-use Rattle.std.proofs.lemmas.Option.{slice_get_within, get_or_from_slice_get}
-use Rattle.std.proofs.lemmas.List.{length-map}
-use Rattle.std.proofs.lemmas.List.Filters.{length-filter_both}
-use Rattle.std.proofs.lemmas.List.Elements.{All-append, All-weaker}
-use Rattle.std.proofs.lemmas.List.Sorted.{length_permutation, Contains-permutation, IsPermutation-sym}
-use Rattle.process_api.specs.Bounds.{most_step_actions}
-use Rattle.process_api.specs.EntryRecord.{EntryRecord}
-use Rattle.process_api.specs.Mind.{Mind}
-use Rattle.process_api.specs.Order.{key_cmp, is_rising}
-use Rattle.process_api.specs.declared.key.Key.{Key}
-use Rattle.process_api.specs.declared.message.Letter.{Letter}
-use Rattle.process_api.specs.declared.message.StepInput.{StepInput}
-use Rattle.scenario_record.specs.Ranges.{IsInRange}
-use Rattle.scenario_record.specs.Record.{Record}
-use Rattle.trace_laws.specs.History.{IsIn, Pair, pairs_of}
-use Rattle.pending_events.specs.Pending.{IsLeastTick}
-use Rattle.trace_laws.specs.ScenarioSetting.{setting_of}
-use Rattle.steps.specs.Seat.{process_of, own_of, IsSeated}
-use Rattle.trace_laws.specs.Setting.{Setting, IsSound, IsProcess}
 use Rattle.trace_laws.specs.Reached.{IsReached}
-use Rattle.trace_laws.specs.Step.{Event, Events, Process}
-use Rattle.trace_laws.specs.World.{World, IsWorld, Has, NoneBelow, Run, taken, joined, entries, opening_process, IsTrace}
-use Rattle.trace_laws.proofs.Closed.{closed_of_run}
 use Rattle.trace_laws.proofs.Pairs.{in_pairs}
-use Rattle.trace_laws.proofs.Reaching.{reached_next, reached_end}
 use Rattle.trace_laws.proofs.Rising.{IsRising, rising_pairs, rising_entries}
-use Rattle.trace_laws.proofs.Runs.{run_exists, one_run}
-use Rattle.trace_laws.proofs.Sets.{joined_cases, one_input, not_None, same_Some}
-use Rattle.trace_laws.proofs.Sound.{setting_sound}
-use Rattle.mailboxes.specs.Mailboxes.{list_of}
-use Rattle.trace_merge.specs.Parts.{all_of, AreDisjoint}
-use Rattle.trace_laws.specs.Taken.{event_of}
-use Rattle.windows.specs.Berth.{IsBerth}
-use Rattle.window_laws.specs.Machine.{StageRecord, Act, StandsFor, IsRun, end_of, first_status}
-use Rattle.window_laws.specs.Theorems.{IsMerge}
-use Rattle.windows.specs.Stage.{of_process, stage_of, AreHome, IsStageAfter, IsClosed, IsNextStart, IsWindowRun}
-use Rattle.window_laws.specs.Window.{BerthRun, IsPosted, AreBerths, IsSameStage}
-use Rattle.windows.specs.Inside.Agenda.{AreOne}
-use Rattle.windows.specs.Inside.Workers.{Stay, IsReady, IsStay, HasLong, IsOutcome, RiseBy}
-use Rattle.windows.specs.declared.berth.Berth.{Berth}
-use Rattle.windows.specs.declared.stage.Stage.{Stage}
-use Rattle.window_laws.proofs.Family.{is_or_not}
 use Rattle.window_laws.proofs.Outcome.{IsWhole, whole, own_run, pairs_are, rest_in, letter_in}
-use Rattle.window_laws.proofs.Unions.{in_map, map_in, joined_back}
-use Rattle.window_laws.proofs.Whole.{run_on, one_merge}
-use Rattle.window_laws.proofs.Together.{h_stands, berths_run}
 use Rattle.windows.proofs.Places.{there, there_map, from_map, place_in, same_at, at_index, before_suc, by_place, at_nobody, at_delivered, all_at, all_place, disjoint_from, no_more, in_all, all_in, part_few, in_place}
 use Rattle.windows.proofs.Cut.{run_before}
 use Rattle.windows.proofs.Members.{contains_in, in_contains}

@@ -1,6 +1,5 @@
 -- What a loop over a list begins with and comes to: what was made so far and what the rest gives is what all give.
-use Rattle.std.proofs.Common.{◌≡◌, List, [], ◌++◌, map, length, append-nil, sym, ap, ◌∙◌}
-use Rattle.std.proofs.lemmas.List.{nil_from_length}
+use Rattle.windows.proofs.Words.{◌≡◌, List, [], ◌++◌, map, length, append-nil, sym, ap, ◌∙◌, nil_from_length}
 
 module _ {A B X : Type 0} (f : A → X) (g : B → X) (made : List A) (rest : List B) where
   pub opens : (xs : List B) → made ≡ [] → rest ≡ xs → map f made ++ map g rest ≡ map g xs

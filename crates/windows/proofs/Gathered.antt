@@ -1,30 +1,8 @@
 -- What is brought together after a window.
-use Rattle.std.proofs.Common.{◌≡◌, ◌⊎◌, ◌↔◌, ℕ, zero, suc, ◌-◌, ◌<◌, ◌≤◌, inl, inr, List, [], ◌∷◌, ◌++◌, length, map, replicate, set, get_or, refl, sym, ap, ◌∙◌, subst, append_assoc, append-nil, arith, cond, filter, ⊎_elim}
-use Rattle.std.specs.List.{All, swap}
-use Rattle.std.specs.List.Sorted.{IsPermutation, IsNonDecreasingBy, apply_swaps, SwapsInRange}
+use Rattle.windows.proofs.Words.{◌≡◌, ◌⊎◌, ◌↔◌, ℕ, zero, suc, ◌-◌, ◌<◌, ◌≤◌, inl, inr, List, [], ◌∷◌, ◌++◌, length, map, replicate, set, get_or, refl, sym, ap, ◌∙◌, subst, append_assoc, append-nil, arith, cond, filter, ⊎_elim, All, swap, IsPermutation, IsNonDecreasingBy, apply_swaps, SwapsInRange, cases_eq, eq-eqb, ne_eqb, eqb-true, map-append, map-set, length-map, length-set, length-replicate, get_or-set_other, get_or-map, get_or-replicate, flat_map-append, All-nil, All-push, All-append, All-map, All-take, All-drop, Contains-append_left, filter-append, IsPermutation-refl, IsPermutation-trans, IsPermutation-sym, IsPermutation-middle, IsPermutation-append, IsPermutation-append_left, IsPermutation-push_more, IsPermutation-map, All-permutation, Contains-permutation, Mind, Letter, Record, MailboxId, SlipView, IsSlipOf, unused, filed, list_of, posted_to, IsIn, own_of, NoneBelow, in_filter, filter_in, in_append, in_left, in_right, all_filed, with_letters, DequeId, RestView, all_put, Stay, stay, taken_in, left_in, is_to, sent_in, IsSent, IsStay, IsReady, IsFresh, AreRunBy, AreRun, IsRest, HasLong, IsOutcome, RiseBy, Start, Berth}
 use Rattle.std.proofs.Math.Seq.{take-append_seam, drop-append_seam}
-use Rattle.std.proofs.lemmas.Bool.{cases_eq, eq-eqb, ne_eqb, eqb-true}
 use Rattle.std.proofs.lemmas.Grind.{get_or-set_at}
-use Rattle.std.proofs.lemmas.List.{map-append, map-set, length-map, length-set, length-replicate, get_or-set_other, get_or-map, get_or-replicate}
-use Rattle.std.proofs.lemmas.List.Concat.{flat_map-append}
-use Rattle.std.proofs.lemmas.List.Elements.{All-nil, All-push, All-append, All-map, All-take, All-drop, Contains-append_left, filter-append}
-use Rattle.std.proofs.lemmas.List.Sorted.{IsPermutation-refl, IsPermutation-trans, IsPermutation-sym, IsPermutation-middle, IsPermutation-append, IsPermutation-append_left, IsPermutation-push_more, IsPermutation-map, All-permutation, Contains-permutation}
-use Rattle.process_api.specs.Mind.{Mind}
-use Rattle.process_api.specs.declared.message.Letter.{Letter}
-use Rattle.scenario_record.specs.Record.{Record}
-use Rattle.mailboxes.specs.Mailbox.{MailboxId}
-use Rattle.mailboxes.specs.Mailboxes.{SlipView, IsSlipOf, unused, filed, list_of, posted_to}
-use Rattle.trace_laws.specs.History.{IsIn}
-use Rattle.steps.specs.Seat.{own_of}
-use Rattle.trace_laws.specs.World.{NoneBelow}
-use Rattle.window_laws.proofs.Unions.{in_filter, filter_in}
 use Rattle.windows.proofs.Ranked.{in_permutation, same_order, sorted_is}
-use Rattle.trace_laws.proofs.Steps.{in_append, in_left, in_right}
-use Rattle.windows.specs.Berth.{all_filed, with_letters}
-use Rattle.deques.specs.Deques.{DequeId, RestView, all_put}
-use Rattle.windows.specs.Inside.Workers.{Stay, stay, taken_in, left_in, is_to, sent_in, IsSent, IsStay, IsReady, IsFresh, AreRunBy, AreRun, IsRest, HasLong, IsOutcome, RiseBy}
-use Rattle.windows.specs.declared.workers.Start.{Start}
-use Rattle.windows.specs.declared.berth.Berth.{Berth}
 
 -- ---- who waits
 

@@ -1,17 +1,6 @@
 -- What workers answer together, one worker more.
-use Rattle.std.proofs.Common.{◌≡◌, ◌⊎◌, inl, inr, sym, ap, ◌∙◌, subst, List, [], ◌∷◌, ◌++◌, length, length-append, map, vec_len, arith, Option, Some, option_to_list, Result, Ok, Err, IfOk, IfErr, IsErrOf}
-use Rattle.std.specs.Global.{Vec}
-use Rattle.std.specs.List.{All}
-use Rattle.std.proofs.lemmas.List.Elements.{All-head, All-push, All-same}
-use Rattle.process_api.specs.Mind.{Mind}
-use Rattle.process_api.specs.declared.run_error.RunError.{RunError}
-use Rattle.process_api.specs.declared.run_error.RunError.TheVariants.{Limit, Memory}
-use Rattle.deques.proofs.Deals.{map_push}
-use Rattle.windows.specs.Refusals.{AreThere, IsFirstRefusal, IsRefusal, IsRefusalOfOne}
-use Rattle.windows.specs.Inside.Shared.{IsWorkIn, IsAnswerTo, IsOneTooLong, KnowOneTooLong, AreAnswers}
+use Rattle.windows.proofs.Words.{◌≡◌, ◌⊎◌, inl, inr, sym, ap, ◌∙◌, subst, List, [], ◌∷◌, ◌++◌, length, length-append, map, vec_len, arith, Option, Some, option_to_list, Result, Ok, Err, IfOk, IfErr, IsErrOf, Vec, All, All-head, All-push, All-same, Mind, RunError, Limit, Memory, map_push, AreThere, IsFirstRefusal, IsRefusal, IsRefusalOfOne, IsWorkIn, IsAnswerTo, IsOneTooLong, KnowOneTooLong, AreAnswers, Start, Work}
 use Rattle.windows.specs.declared.shared.Shared.{Shared}
-use Rattle.windows.specs.declared.workers.Start.{Start}
-use Rattle.windows.specs.declared.workers.Work.{Work}
 use Rattle.windows.proofs.Gathered.{all_front, all_back}
 use Rattle.windows.proofs.Refused.{not_err}
 

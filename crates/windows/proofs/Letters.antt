@@ -1,17 +1,9 @@
 -- Events that a process causes in a window, as they are handed on.
-use Rattle.std.proofs.Common.{◌≡◌, ◌≢◌, ℕ, refl, ap, sym, ◌∙◌, cond, not, List, [], ◌∷◌, ◌++◌, nat_eq, length}
-use Rattle.std.proofs.lemmas.Bool.{eq-eqb, ne_eqb}
-use Rattle.std.proofs.lemmas.List.Elements.{filter-append}
+use Rattle.windows.proofs.Words.{◌≡◌, ◌≢◌, ℕ, refl, ap, sym, ◌∙◌, cond, not, List, [], ◌∷◌, ◌++◌, nat_eq, length, eq-eqb, ne_eqb, filter-append, Letter, Event, Events, joined, filed, all_filed, for_self, for_others}
 use Rattle.std.specs.FinMap as events
-use Rattle.process_api.specs.declared.message.Letter.{Letter}
 use Rattle.trace_laws.specs.Joins.{HaveJoined, Serves, StillServes}
-use Rattle.trace_laws.specs.Step.{Event, Events}
-use Rattle.trace_laws.specs.World.{joined}
-use Rattle.mailboxes.specs.Mailboxes.{filed}
-use Rattle.windows.specs.Berth.{all_filed}
 use Rattle.windows.specs.Inside.Outbox.{HandedOn, IsFor}
 use Rattle.windows.specs.declared.outbox.Outbox.{Outbox}
-use Rattle.window_laws.specs.Machine.{for_self, for_others}
 
 -- events after events
 pub joined_both : (m : Events) (xs ys : List Event) → joined (joined m xs) ys ≡ joined m (xs ++ ys)

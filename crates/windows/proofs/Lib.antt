@@ -17,3 +17,4 @@ pub mod Posted
 pub mod Cut
 pub mod Ended
 pub mod Waiting
+pub mod Words

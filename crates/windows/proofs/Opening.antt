@@ -1,36 +1,8 @@
 -- The stage at the opening of a run.
-use Rattle.std.proofs.Common.{◌≡◌, ◌≢◌, ◌⊎◌, ℕ, zero, suc, ◌-◌, ◌*◌, ◌<◌, ◌≤◌, inl, inr, refl, sym, ap, ◌∙◌, subst, List, [], ◌∷◌, Some, length, map, slice_get, arith}
+use Rattle.windows.proofs.Words.{◌≡◌, ◌≢◌, ◌⊎◌, ℕ, zero, suc, ◌-◌, ◌*◌, ◌<◌, ◌≤◌, inl, inr, refl, sym, ap, ◌∙◌, subst, List, [], ◌∷◌, Some, length, map, slice_get, arith, All, length-map, All-nil, most_step_actions, Mind, numbers_to, key_cmp, Key, StepInput, same_or_not, IsInRange, Record, opening_mind, place_in, setting_of, process_of, own_of, IsSeated, Setting, IsSound, IsProcess, Process, Has, starts, start_of, opened, opening, opening_process, opening_world, number_at, length-numbers_to, opening_reached, inserted, insert_at, insert_other, not_None, setting_sound, opens_with_mind, IsBerth, StageRecord, StandsFor, of_process, stage_of, start_event, IsOpened, AreHome, IsStageAfter, Berth, Stage, is_or_not}
 use Rattle.std.specs.FinMap as finmap
-use Rattle.std.specs.List.{All}
-use Rattle.std.proofs.lemmas.List.{length-map}
-use Rattle.std.proofs.lemmas.List.Elements.{All-nil}
-use Rattle.process_api.specs.Bounds.{most_step_actions}
-use Rattle.process_api.specs.Mind.{Mind}
-use Rattle.process_api.specs.Numbers.{numbers_to}
-use Rattle.process_api.specs.Order.{key_cmp}
-use Rattle.process_api.specs.declared.key.Key.{Key}
-use Rattle.process_api.specs.declared.message.StepInput.{StepInput}
 use Rattle.process_api.specs.declared.message.StepInput.TheVariants.{Start}
-use Rattle.process_api.proofs.KeyOrder.{same_or_not}
 use Rattle.process_api.proofs.Minds.{mind_place, same_own}
-use Rattle.scenario_record.specs.Ranges.{IsInRange}
-use Rattle.scenario_record.specs.Record.{Record, opening_mind, place_in}
-use Rattle.trace_laws.specs.ScenarioSetting.{setting_of}
-use Rattle.steps.specs.Seat.{process_of, own_of, IsSeated}
-use Rattle.trace_laws.specs.Setting.{Setting, IsSound, IsProcess}
-use Rattle.trace_laws.specs.Step.{Process}
-use Rattle.trace_laws.specs.World.{Has, starts, start_of, opened, opening, opening_process}
-use Rattle.trace_laws.proofs.Closed.{opening_world}
-use Rattle.steps.proofs.Openings.{number_at, length-numbers_to}
-use Rattle.trace_laws.proofs.Reaching.{opening_reached}
-use Rattle.trace_laws.proofs.Sets.{inserted, insert_at, insert_other, not_None}
-use Rattle.trace_laws.proofs.Sound.{setting_sound, opens_with_mind}
-use Rattle.windows.specs.Berth.{IsBerth}
-use Rattle.window_laws.specs.Machine.{StageRecord, StandsFor}
-use Rattle.windows.specs.Stage.{of_process, stage_of, start_event, IsOpened, AreHome, IsStageAfter}
-use Rattle.windows.specs.declared.berth.Berth.{Berth}
-use Rattle.windows.specs.declared.stage.Stage.{Stage}
-use Rattle.window_laws.proofs.Family.{is_or_not}
 use Rattle.windows.proofs.Places.{there_map, from_map, at_index, at_nobody, all_place, before_suc, by_place}
 
 none_there : (k : Key) (x : StepInput) → Has finmap.empty k x → ⊥

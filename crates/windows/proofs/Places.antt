@@ -1,21 +1,5 @@
 -- Lists that have process 1 first.
-use Rattle.std.proofs.Common.{◌≡◌, ◌≢◌, ◌⊎◌, ℕ, zero, suc, ◌+◌, ◌-◌, ◌<◌, ◌≤◌, inl, inr, refl, sym, ap, ◌∙◌, subst, List, [], ◌∷◌, Some, length, map, slice_get, option_map, arith, Bool, true, false, cond, nat_eq, not, filter, ⊎_elim}
-use Rattle.std.specs.List.{All, AllByRecursion}
-use Rattle.std.proofs.lemmas.Bool.{eqb-true, cases_lt}
-use Rattle.std.proofs.lemmas.List.{get_or_past, length-map, length-append}
-use Rattle.std.proofs.lemmas.List.Filters.{length-filter_both}
-use Rattle.std.proofs.lemmas.List.Elements.{All-from_recursion, All-get_or}
-use Rattle.std.proofs.lemmas.Option.{slice_get-map, slice_get_within, get_or_from_slice_get}
-use Rattle.process_api.specs.EntryRecord.{EntryRecord}
-use Rattle.process_api.specs.declared.message.Letter.{Letter}
-use Rattle.trace_laws.specs.History.{IsIn, Pair, pairs_of}
-use Rattle.trace_laws.specs.Step.{Events}
-use Rattle.trace_laws.specs.World.{joined, entries}
-use Rattle.trace_laws.proofs.Sets.{not_None, same_Some}
-use Rattle.trace_laws.proofs.Steps.{in_append, in_left, in_right}
-use Rattle.trace_merge.specs.Parts.{all_of, AreApart, AreDisjoint}
-use Rattle.trace_laws.specs.Taken.{event_of}
-use Rattle.windows.specs.Stage.{of_process, delivered}
+use Rattle.windows.proofs.Words.{◌≡◌, ◌≢◌, ◌⊎◌, ℕ, zero, suc, ◌+◌, ◌-◌, ◌<◌, ◌≤◌, inl, inr, refl, sym, ap, ◌∙◌, subst, List, [], ◌∷◌, Some, length, map, slice_get, option_map, arith, Bool, true, false, cond, nat_eq, not, filter, ⊎_elim, All, AllByRecursion, eqb-true, cases_lt, get_or_past, length-map, length-append, length-filter_both, All-from_recursion, All-get_or, slice_get-map, slice_get_within, get_or_from_slice_get, EntryRecord, Letter, IsIn, Pair, pairs_of, Events, joined, entries, not_None, same_Some, in_append, in_left, in_right, all_of, AreApart, AreDisjoint, event_of, of_process, delivered}
 
 none_inside : (i : ℕ) → i < 0 → ⊥
 none_inside i h = omega arith

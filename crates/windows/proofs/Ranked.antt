@@ -1,14 +1,7 @@
 -- A list that rises by its keys is the only sorted order of its elements.
-use Rattle.std.proofs.Common.{◌≡◌, ℕ, suc, ◌+◌, ◌<◌, ◌≤◌, false, List, [], ◌∷◌, map, length, get_or, slice_get, Some, refl, sym, ap, ◌∙◌, subst, arith, inl, inr, nat_eq}
-use Rattle.std.specs.List.{All, AllByRecursion, IsDistinct}
-use Rattle.std.specs.List.Sorted.{IsPermutation, IsNonDecreasingBy}
-use Rattle.std.proofs.lemmas.Bool.{eqb-false, ne_eqb}
+use Rattle.windows.proofs.Words.{◌≡◌, ℕ, suc, ◌+◌, ◌<◌, ◌≤◌, false, List, [], ◌∷◌, map, length, get_or, slice_get, Some, refl, sym, ap, ◌∙◌, subst, arith, inl, inr, nat_eq, All, AllByRecursion, IsDistinct, IsPermutation, IsNonDecreasingBy, eqb-false, ne_eqb, get_or-map, length-map, Contains-permutation, IsPermutation-map, IsPermutation-sym, IsIn, AllAbove, RiseBy}
 use Rattle.std.proofs.lemmas.Bool.Decides.{nat_tests}
-use Rattle.std.proofs.lemmas.List.{get_or-map, length-map}
-use Rattle.std.proofs.lemmas.List.Sorted.{Contains-permutation, IsPermutation-map, IsPermutation-sym}
 use Rattle.std.proofs.lemmas.Map.Keys.{IsDistinct-IsPermutation}
-use Rattle.trace_laws.specs.History.{IsIn}
-use Rattle.windows.specs.Inside.Workers.{AllAbove, RiseBy}
 use Rattle.windows.proofs.Members.{contains_in, in_contains}
 
 flips : (a b : ℕ) → nat_eq a b ≡ nat_eq b a

@@ -1,10 +1,6 @@
 -- What a call promises of its answer says nothing where it is refused.
-use Rattle.std.proofs.Common.{◌≡◌, ◌⊎◌, inl, inr, Result, Ok, Err, IfOk, IfErr}
+use Rattle.windows.proofs.Words.{◌≡◌, ◌⊎◌, inl, inr, Result, Ok, Err, IfOk, IfErr, IfOk-from_err, RunError, Memory, AreThere, IsFirstRefusal, IsRefusal, IsRefusalOfOne}
 use Rattle.std.specs.Result.{IsErr}
-use Rattle.std.proofs.lemmas.Result.{IfOk-from_err}
-use Rattle.process_api.specs.declared.run_error.RunError.{RunError}
-use Rattle.process_api.specs.declared.run_error.RunError.TheVariants.{Memory}
-use Rattle.windows.specs.Refusals.{AreThere, IsFirstRefusal, IsRefusal, IsRefusalOfOne}
 
 pub holds_of_none : {A E : Type 0} (r : Result A E) → IsErr r → (P : A → Type 0) → IfOk r P
 holds_of_none r is P = IfOk-from_err r P is

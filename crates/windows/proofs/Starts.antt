@@ -1,18 +1,5 @@
 -- The tick at which the next window opens.
-use Rattle.std.proofs.Common.{◌≡◌, ◌⊎◌, ℕ, ◌<◌, ◌≤◌, inl, inr, refl, ap, subst, List, [], ◌∷◌, ◌++◌, min, arith, Less}
-use Rattle.std.specs.List.{All}
-use Rattle.std.proofs.lemmas.Bool.{cases_lt}
-use Rattle.std.proofs.lemmas.List.Elements.{All-push}
-use Rattle.process_api.specs.declared.key.Key.{Key}
-use Rattle.process_api.specs.Order.{key_cmp}
-use Rattle.process_api.proofs.KeyOrder.{before_or_not, ticks_rise}
-use Rattle.trace_laws.specs.History.{IsIn}
-use Rattle.pending_events.specs.Pending.{IsEmpty, IsLeastTick}
-use Rattle.trace_laws.specs.Step.{Events}
-use Rattle.trace_laws.specs.World.{NoneBelow}
-use Rattle.trace_laws.proofs.Sets.{not_None}
-use Rattle.trace_laws.proofs.Steps.{in_left, in_right}
-use Rattle.windows.specs.Stage.{IsNextStart}
+use Rattle.windows.proofs.Words.{◌≡◌, ◌⊎◌, ℕ, ◌<◌, ◌≤◌, inl, inr, refl, ap, subst, List, [], ◌∷◌, ◌++◌, min, arith, Less, All, cases_lt, All-push, Key, key_cmp, before_or_not, ticks_rise, IsIn, IsEmpty, IsLeastTick, Events, NoneBelow, not_None, in_left, in_right, IsNextStart}
 use Rattle.windows.proofs.Places.{all_at, all_place}
 
 pub none_pending : (horizon : ℕ) → IsNextStart horizon [] horizon

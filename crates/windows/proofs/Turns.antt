@@ -1,17 +1,6 @@
 -- A berth after one more step.
-use Rattle.std.proofs.Common.{◌≡◌, ◌+◌, ◌<◌, ℕ, List, [], ◌∷◌, ◌++◌, map, ap, sym, ◌∙◌, subst, refl, length, length-append, arith}
+use Rattle.windows.proofs.Words.{◌≡◌, ◌+◌, ◌<◌, ℕ, List, [], ◌∷◌, ◌++◌, map, ap, sym, ◌∙◌, subst, refl, length, length-append, arith, map-append, EntryRecord, Key, Letter, StepInput, Setting, Event, Events, Process, step, IsLeast, joined, event_of, for_self, for_others, BerthStands, berth_next}
 use Rattle.std.specs.FinMap as events
-use Rattle.std.proofs.lemmas.List.{map-append}
-use Rattle.process_api.specs.EntryRecord.{EntryRecord}
-use Rattle.process_api.specs.declared.key.Key.{Key}
-use Rattle.process_api.specs.declared.message.Letter.{Letter}
-use Rattle.process_api.specs.declared.message.StepInput.{StepInput}
-use Rattle.trace_laws.specs.Setting.{Setting}
-use Rattle.trace_laws.specs.Step.{Event, Events, Process, step}
-use Rattle.trace_laws.specs.World.{IsLeast, joined}
-use Rattle.trace_laws.specs.Taken.{event_of}
-use Rattle.window_laws.specs.Machine.{for_self, for_others}
-use Rattle.window_laws.proofs.Berths.{BerthStands, berth_next}
 
 pub one_longer : (old new : List EntryRecord) (e : EntryRecord) → new ≡ old ++ e ∷ [] → length new ≡ length old + 1
 one_longer old new e more = omega (arith, ap length more, length-append old (e ∷ []))

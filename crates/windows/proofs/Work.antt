@@ -1,19 +1,5 @@
 -- A worker's work grows by one berth at a time.
-use Rattle.std.proofs.Common.{◌≡◌, ℕ, List, [], ◌∷◌, ◌++◌, sym, ap, ◌∙◌, subst, append-nil}
-use Rattle.std.proofs.lemmas.List.{map-append}
-use Rattle.std.proofs.lemmas.List.Concat.{flat_map-append}
-use Rattle.std.specs.List.Sorted.{IsPermutation}
-use Rattle.std.proofs.lemmas.List.Elements.{All-nil, All-push}
-use Rattle.std.proofs.lemmas.List.Sorted.{IsPermutation-refl, IsPermutation-trans, IsPermutation-append_left}
-use Rattle.process_api.specs.Mind.{Mind}
-use Rattle.process_api.specs.declared.message.Letter.{Letter}
-use Rattle.scenario_record.specs.Record.{Record}
-use Rattle.mailboxes.specs.Mailbox.{MailboxId}
-use Rattle.mailboxes.specs.Mailboxes.{SlipView, IsSlipOf, slip_of, unused}
-use Rattle.windows.specs.Berth.{all_filed, with_letters}
-use Rattle.deques.specs.Deques.{DequeId, HandView, TookOne}
-use Rattle.windows.specs.Inside.Workers.{Stay, stay, sent_in, IsStay, AreRunBy, IsWork, IsFresh}
-use Rattle.windows.specs.declared.berth.Berth.{Berth}
+use Rattle.windows.proofs.Words.{◌≡◌, ℕ, List, [], ◌∷◌, ◌++◌, sym, ap, ◌∙◌, subst, append-nil, map-append, flat_map-append, IsPermutation, All-nil, All-push, IsPermutation-refl, IsPermutation-trans, IsPermutation-append_left, Mind, Letter, Record, MailboxId, SlipView, IsSlipOf, slip_of, unused, all_filed, with_letters, DequeId, HandView, TookOne, Stay, stay, sent_in, IsStay, AreRunBy, IsWork, IsFresh, Berth}
 use Rattle.windows.proofs.Letters.{filed_more}
 
 module _ {M : Type 0} where

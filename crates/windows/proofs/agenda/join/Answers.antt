@@ -1,10 +1,4 @@
-use Rattle.std.proofs.Common.{◌∙◌, ◌++◌, ◌∷◌, [], ◌<◌, ◌≤◌, ap, sym, subst, arith, Some}
-use Rattle.process_api.proofs.Lists.{both}
-use Rattle.trace_laws.specs.Step.{Event}
-use Rattle.trace_laws.specs.World.{Has, joined}
-use Rattle.trace_laws.proofs.Joining.{joined_one}
-use Rattle.mailboxes.specs.Mailbox.{earlier_of}
-use Rattle.windows.specs.Inside.Agenda.{AreFrom, IsSoonestOf}
+use Rattle.windows.proofs.Words.{◌∙◌, ◌++◌, ◌∷◌, [], ◌<◌, ◌≤◌, ap, sym, subst, arith, Some, both, Event, Has, joined, joined_one, earlier_of, AreFrom, IsSoonestOf}
 use Rattle.windows.proofs.Agendas.{insert_past, of_joined, soonest_more}
 use Rattle.windows.proofs.agenda.join.Goals as goal
 

@@ -1,9 +1,5 @@
-use Rattle.std.proofs.Common.{◌∙◌, sym, subst}
+use Rattle.windows.proofs.Words.{◌∙◌, sym, subst, key_cmp, Has, not_None, AreFrom}
 use Rattle.std.specs.FinMap as events
-use Rattle.process_api.specs.Order.{key_cmp}
-use Rattle.trace_laws.specs.World.{Has}
-use Rattle.trace_laws.proofs.Sets.{not_None}
-use Rattle.windows.specs.Inside.Agenda.{AreFrom}
 use Rattle.windows.proofs.agenda.no_events.Goals as goal
 
 pub returns-clause-lists : goal.returns-clause-lists

@@ -1,12 +1,4 @@
-use Rattle.std.proofs.Common.{◌≡◌, ◌<◌, ◌≤◌, [], ◌∷◌, ◌++◌, ◌+◌, ◌*◌, map, ap, sym, subst, ◌∙◌, refl, rules, arith, append_assoc, append-nil, length, length-append}
-use Rattle.process_api.specs.Bounds.{most_step_actions}
-use Rattle.trace_laws.specs.ScenarioSetting.{setting_of}
-use Rattle.steps.specs.Seat.{process_of, own_of, IsSeated}
-use Rattle.trace_laws.specs.World.{Has}
-use Rattle.trace_laws.specs.Taken.{event_of}
-use Rattle.windows.specs.Berth.{all_filed, made_in, most_in_part}
-use Rattle.window_laws.specs.Window.{BerthRun}
-use Rattle.window_laws.proofs.Berths.{berth_opens, berth_longer, berth_ends}
+use Rattle.windows.proofs.Words.{◌≡◌, ◌<◌, ◌≤◌, [], ◌∷◌, ◌++◌, ◌+◌, ◌*◌, map, ap, sym, subst, ◌∙◌, refl, rules, arith, append_assoc, append-nil, length, length-append, most_step_actions, setting_of, process_of, own_of, IsSeated, Has, event_of, all_filed, made_in, most_in_part, BerthRun, berth_opens, berth_longer, berth_ends}
 use Rattle.windows.proofs.Letters.{filed_more}
 use Rattle.windows.proofs.Turns.{one_longer, stands_next}
 use Rattle.windows.proofs.berth.run_into.Goals as goal

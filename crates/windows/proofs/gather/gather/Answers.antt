@@ -1,11 +1,4 @@
-use Rattle.std.proofs.Common.{◌≡◌, ◌∷◌, ◌++◌, [], length, map, refl, sym, ap, ◌∙◌, subst, vec_len, arith}
-use Rattle.std.specs.List.{All, flat_map}
-use Rattle.std.specs.Vec.Iter.{into_iter_items}
-use Rattle.std.proofs.lemmas.List.Elements.{All-nil, All-push, All-same, All-head, All-tail}
-use Rattle.deques.specs.Deques.{HandView, deques_of}
-use Rattle.windows.specs.Inside.Workers.{IsWork, AreRun}
-use Rattle.windows.specs.declared.workers.Work.{Work}
-use Rattle.deques.proofs.Deals.{map_turn, flat_push}
+use Rattle.windows.proofs.Words.{◌≡◌, ◌∷◌, ◌++◌, [], length, map, refl, sym, ap, ◌∙◌, subst, vec_len, arith, All, flat_map, into_iter_items, All-nil, All-push, All-same, All-head, All-tail, HandView, deques_of, IsWork, AreRun, Work, map_turn, flat_push}
 use Rattle.windows.proofs.Ended.{ends}
 use Rattle.windows.proofs.Gathered.{run_none, run_joined, run_taken_as}
 use Rattle.windows.proofs.gather.gather.Goals as goal

@@ -1,10 +1,4 @@
-use Rattle.std.proofs.Common.{◌≡◌, ◌≤◌, ◌+◌, ◌++◌, ℕ, List, length, map, vec_len, vec_capacity}
-use Rattle.std.specs.List.{All, flat_map}
-use Rattle.std.specs.Vec.Iter.{into_iter_items}
-use Rattle.scenario_record.specs.Record.{Record}
-use Rattle.mailboxes.specs.Mailbox.{MailboxId}
-use Rattle.deques.specs.Deques.{deques_of}
-use Rattle.windows.specs.Inside.Workers.{IsWork, AreRun}
+use Rattle.windows.proofs.Words.{◌≡◌, ◌≤◌, ◌+◌, ◌++◌, ℕ, List, length, map, vec_len, vec_capacity, All, flat_map, into_iter_items, Record, MailboxId, deques_of, IsWork, AreRun}
 use Rattle.windows.proofs.gather.gather.Given as goal
 
 abbrev pub invariant-loop-work : goal.invariant-loop-work

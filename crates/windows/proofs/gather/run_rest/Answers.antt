@@ -1,11 +1,4 @@
-use Rattle.std.proofs.Common.{rules, ◌≡◌, ◌++◌, ◌∷◌, [], refl, sym, ap, ◌∙◌, subst, append_assoc, append-nil}
-use Rattle.std.specs.List.{Contains}
-use Rattle.std.specs.List.Sorted.{IsPermutation}
-use Rattle.std.proofs.lemmas.List.Elements.{All-contains}
-use Rattle.std.proofs.lemmas.List.Sorted.{IsPermutation-refl, IsPermutation-trans, IsPermutation-append_left}
-use Rattle.deques.specs.Deques.{RestView, all_put}
-use Rattle.mailboxes.specs.Mailboxes.{SlipView}
-use Rattle.windows.specs.Inside.Workers.{IsReady, AreRunBy}
+use Rattle.windows.proofs.Words.{rules, ◌≡◌, ◌++◌, ◌∷◌, [], refl, sym, ap, ◌∙◌, subst, append_assoc, append-nil, Contains, IsPermutation, All-contains, IsPermutation-refl, IsPermutation-trans, IsPermutation-append_left, RestView, all_put, SlipView, IsReady, AreRunBy}
 use Rattle.windows.proofs.Posting.{posting_opens}
 use Rattle.windows.proofs.Work.{run_begins}
 use Rattle.windows.proofs.gather.run_rest.Goals as goal

@@ -1,13 +1,4 @@
-use Rattle.std.proofs.Common.{ℕ, List, ◌≡◌, ◌+◌, ◌∷◌, ◌++◌, [], length, map, refl, ap, sym, ◌∙◌, subst, vec_len, arith}
-use Rattle.std.specs.List.{All}
-use Rattle.std.specs.Vec.Iter.{into_iter_items}
-use Rattle.std.proofs.lemmas.List.Elements.{All-nil, All-push, All-same, All-head, All-tail}
-use Rattle.mailboxes.specs.Mailbox.{MailboxId}
-use Rattle.mailboxes.specs.Mailboxes.{MailboxesView, mailboxes_of, unused}
-use Rattle.deques.specs.Deques.{HandView, deques_of, all_put, IsDealt}
-use Rattle.windows.specs.Inside.Workers.{IsFresh}
-use Rattle.windows.specs.declared.workers.Start.{Start}
-use Rattle.deques.proofs.Deals.{map_turn}
+use Rattle.windows.proofs.Words.{ℕ, List, ◌≡◌, ◌+◌, ◌∷◌, ◌++◌, [], length, map, refl, ap, sym, ◌∙◌, subst, vec_len, arith, All, into_iter_items, All-nil, All-push, All-same, All-head, All-tail, MailboxId, MailboxesView, mailboxes_of, unused, HandView, deques_of, all_put, IsDealt, IsFresh, Start, map_turn}
 use Rattle.windows.proofs.gather.starts_of.Goals as goal
 
 slip_more : (old new : MailboxesView) (ids : List MailboxId) (before n n' : ℕ) → new ≡ mailboxes_of old.mailboxes (old.slips + 1) → old ≡ mailboxes_of ids (before + n) → n' ≡ n + 1 → new ≡ mailboxes_of ids (before + n')

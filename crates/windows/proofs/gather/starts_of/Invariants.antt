@@ -1,9 +1,4 @@
-use Rattle.std.proofs.Common.{◌≡◌, ◌≤◌, ◌+◌, ◌++◌, length, map, vec_len, vec_capacity}
-use Rattle.std.specs.List.{All}
-use Rattle.std.specs.Vec.Iter.{into_iter_items}
-use Rattle.mailboxes.specs.Mailboxes.{mailboxes_of}
-use Rattle.deques.specs.Deques.{deques_of, all_put, IsDealt}
-use Rattle.windows.specs.Inside.Workers.{IsFresh}
+use Rattle.windows.proofs.Words.{◌≡◌, ◌≤◌, ◌+◌, ◌++◌, length, map, vec_len, vec_capacity, All, into_iter_items, mailboxes_of, deques_of, all_put, IsDealt, IsFresh}
 use Rattle.windows.proofs.gather.starts_of.Given as goal
 
 abbrev pub invariant-loop-hand : goal.invariant-loop-hand

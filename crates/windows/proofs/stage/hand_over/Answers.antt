@@ -1,18 +1,5 @@
-use Rattle.std.proofs.Common.{◌≡◌, ◌∷◌, ◌++◌, [], List, length, map, ap, sym, ◌∙◌, subst, arith, append-nil, append_assoc, refl}
-use Rattle.std.specs.Global.{Vec}
-use Rattle.std.specs.List.{All}
-use Rattle.std.specs.Vec.Iter.{into_iter_items}
-use Rattle.std.proofs.lemmas.List.{map-append, nil_from_length}
-use Rattle.std.proofs.lemmas.List.Elements.{All-head, All-nil, All-push, All-same, All-tail}
+use Rattle.windows.proofs.Words.{◌≡◌, ◌∷◌, ◌++◌, [], List, length, map, ap, sym, ◌∙◌, subst, arith, append-nil, append_assoc, refl, Vec, All, into_iter_items, map-append, nil_from_length, All-head, All-nil, All-push, All-same, All-tail, map_turn, Letter, Events, event_of, joined, AreOne, delivered, Berth}
 use Rattle.process_api.specs.declared.entry.Entry.{Entry}
-use Rattle.deques.proofs.Deals.{map_turn}
-use Rattle.process_api.specs.declared.message.Letter.{Letter}
-use Rattle.trace_laws.specs.Step.{Events}
-use Rattle.trace_laws.specs.Taken.{event_of}
-use Rattle.trace_laws.specs.World.{joined}
-use Rattle.windows.specs.Inside.Agenda.{AreOne}
-use Rattle.windows.specs.Stage.{delivered}
-use Rattle.windows.specs.declared.berth.Berth.{Berth}
 use Rattle.windows.proofs.Ended.{ends, opens}
 use Rattle.windows.proofs.stage.hand_over.Goals as goal
 

@@ -1,8 +1,4 @@
-use Rattle.std.proofs.Common.{◌≡◌, ◌++◌, [], length, map}
-use Rattle.std.specs.List.{All}
-use Rattle.std.specs.Vec.Iter.{into_iter_items}
-use Rattle.windows.specs.Inside.Agenda.{AreOne}
-use Rattle.windows.specs.Stage.{delivered}
+use Rattle.windows.proofs.Words.{◌≡◌, ◌++◌, [], length, map, All, into_iter_items, AreOne, delivered}
 use Rattle.windows.proofs.stage.hand_over.Given as goal
 
 -- what was done so far and what the rest gives is what all give

@@ -1,4 +1,4 @@
-use Rattle.std.proofs.Common.{rules}
+use Rattle.windows.proofs.Words.{rules}
 use Rattle.windows.proofs.Refused.{first_of, last_of}
 use Rattle.windows.proofs.workers.all_works.Goals as goal
 

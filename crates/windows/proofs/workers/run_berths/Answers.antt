@@ -1,11 +1,4 @@
-use Rattle.std.proofs.Common.{rules, ◌≡◌, refl, sym, ap, ◌∙◌, subst}
-use Rattle.std.specs.List.{Contains}
-use Rattle.std.proofs.lemmas.List.Elements.{All-contains}
-use Rattle.deques.specs.Deques.{HandView}
-use Rattle.mailboxes.specs.Mailboxes.{SlipView}
-use Rattle.windows.specs.Inside.Shared.{IsWorkBy}
-use Rattle.windows.specs.Inside.Workers.{IsReady}
-use Rattle.windows.specs.declared.berth.Berth.{Berth}
+use Rattle.windows.proofs.Words.{rules, ◌≡◌, refl, sym, ap, ◌∙◌, subst, Contains, All-contains, HandView, SlipView, IsWorkBy, IsReady, Berth}
 use Rattle.windows.proofs.Posting.{posting_opens}
 use Rattle.windows.proofs.Work.{work_begins, work_more}
 use Rattle.windows.proofs.Refused.{holds_of_none, not_err}

@@ -1,4 +1,4 @@
-use Rattle.std.proofs.Common.{rules, refl, ◌∙◌}
+use Rattle.windows.proofs.Words.{rules, refl, ◌∙◌}
 use Rattle.windows.proofs.Posting.{posting_more, posted_more, all_posted}
 use Rattle.windows.proofs.Work.{run_more}
 use Rattle.windows.proofs.workers.run_taken.Goals as goal

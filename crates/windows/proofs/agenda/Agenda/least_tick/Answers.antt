@@ -1,9 +1,4 @@
-use Rattle.std.proofs.Common.{map, subst, sym, ap, ◌∙◌, Option, ℕ, MatchOption}
-use Rattle.trace_laws.specs.Step.{Events}
-use Rattle.trace_laws.specs.Taken.{event_of}
-use Rattle.pending_events.specs.Pending.{IsEmpty, IsLeastTick}
-use Rattle.mailboxes.specs.Mailbox.{earlier_of}
-use Rattle.windows.specs.Inside.Agenda.{all_ahead, all_in, in_box}
+use Rattle.windows.proofs.Words.{map, subst, sym, ap, ◌∙◌, Option, ℕ, MatchOption, Events, event_of, IsEmpty, IsLeastTick, earlier_of, all_ahead, all_in, in_box}
 use Rattle.windows.proofs.Agendas.{least_both}
 use Rattle.windows.proofs.agenda.Agenda.least_tick.Goals as goal
 

@@ -1,11 +1,5 @@
-use Rattle.std.proofs.Common.{◌∙◌, ◌++◌, ◌∷◌, [], ◌<◌, ◌≤◌, ap, sym, subst, arith, Some}
-use Rattle.std.specs.List.{AllByRecursion}
+use Rattle.windows.proofs.Words.{◌∙◌, ◌++◌, ◌∷◌, [], ◌<◌, ◌≤◌, ap, sym, subst, arith, Some, AllByRecursion, Event, joined, both, earlier_of, AreFrom, IsSoonestOf}
 use Rattle.std.specs.FinMap as events
-use Rattle.trace_laws.specs.Step.{Event}
-use Rattle.trace_laws.specs.World.{joined}
-use Rattle.process_api.proofs.Lists.{both}
-use Rattle.mailboxes.specs.Mailbox.{earlier_of}
-use Rattle.windows.specs.Inside.Agenda.{AreFrom, IsSoonestOf}
 use Rattle.windows.proofs.Agendas.{filed_due, filed_later, soonest_more}
 use Rattle.windows.proofs.agenda.Parted.file.Goals as goal
 

@@ -1,12 +1,4 @@
-use Rattle.std.proofs.Common.{rules, ◌≡◌, ◌-◌, suc, Some, slice_get, [], map, ap, subst, sym, ◌∙◌, arith, length, IsTrue}
-use Rattle.std.specs.Global.{Vec}
-use Rattle.std.specs.List.Sorted.{IsPermutation}
-use Rattle.std.proofs.lemmas.List.Sorted.{length_permutation, IsPermutation-refl}
-use Rattle.std.proofs.lemmas.Option.{get_or_from_slice_get, slice_get_within}
-use Rattle.process_api.specs.Order.{is_rising}
-use Rattle.mailboxes.specs.Mailboxes.{list_of}
-use Rattle.trace_merge.specs.Parts.{all_of, AreDisjoint}
-use Rattle.windows.specs.Inside.Agenda.{AreOne}
+use Rattle.windows.proofs.Words.{rules, ◌≡◌, ◌-◌, suc, Some, slice_get, [], map, ap, subst, sym, ◌∙◌, arith, length, IsTrue, Vec, IsPermutation, length_permutation, IsPermutation-refl, get_or_from_slice_get, slice_get_within, is_rising, list_of, all_of, AreDisjoint, AreOne}
 use Rattle.windows.proofs.Waiting.{plus_same}
 use Rattle.windows.proofs.Places.{all_at, all_place, before_suc, same_at}
 use Rattle.windows.proofs.stage.Stage.close.Goals as goal
