@@ -1,8 +1,23 @@
 -- A list that rises by its keys is the only sorted order of its elements.
-use Rattle.windows.proofs.Words.{◌≡◌, ℕ, suc, ◌+◌, ◌<◌, ◌≤◌, false, List, [], ◌∷◌, map, length, get_or, slice_get, Some, refl, sym, ap, ◌∙◌, subst, arith, inl, inr, nat_eq, All, AllByRecursion, IsDistinct, IsPermutation, IsNonDecreasingBy, eqb-false, ne_eqb, get_or-map, length-map, Contains-permutation, IsPermutation-map, IsPermutation-sym, IsIn, AllAbove, RiseBy}
+use Rattle.windows.proofs.Words.{◌≡◌, ℕ, suc, ◌+◌, ◌<◌, ◌≤◌, false, List, [], ◌∷◌, map, length, get_or, slice_get, Some, refl, sym, ap, ◌∙◌, subst, arith, inl, inr, nat_eq, All, AllByRecursion, IsPermutation, IsNonDecreasingBy, eqb-false, ne_eqb, get_or-map, length-map, Contains-permutation, IsPermutation-map, IsPermutation-sym, IsIn, AllAbove, RiseBy, zero, Contains, Contains-append_right}
+use Rattle.std.specs.List.{IsDistinct}
 use Rattle.std.proofs.lemmas.Bool.Decides.{nat_tests}
 use Rattle.std.proofs.lemmas.Map.Keys.{IsDistinct-IsPermutation}
-use Rattle.windows.proofs.Members.{contains_in, in_contains}
+
+-- ---- `IsIn`, by cases on the list, and std's `Contains`, by index, say the same
+
+at_place : {X : Type 0} (xs : List X) (x : X) (k : ℕ) → k < length xs → get_or xs k x ≡ x → IsIn x xs
+at_place [] x k inside e = absurd (omega arith)
+at_place (y ∷ ys) x zero inside e = inl (sym e)
+at_place (y ∷ ys) x (suc k) inside e = inr (at_place ys x k (omega arith) e)
+
+pub contains_in : {X : Type 0} (xs : List X) (x : X) → Contains xs x → IsIn x xs
+contains_in xs x c = at_place xs x c.0 c.1 c.2
+
+pub in_contains : {X : Type 0} (xs : List X) (x : X) → IsIn x xs → Contains xs x
+in_contains [] x i = absurd i
+in_contains (y ∷ ys) x (inl e) = (0, omega arith, sym e)
+in_contains (y ∷ ys) x (inr i) = Contains-append_right (y ∷ []) ys x (in_contains ys x i)
 
 flips : (a b : ℕ) → nat_eq a b ≡ nat_eq b a
 flips a b = grind (arith, nat_tests)

@@ -1,9 +1,5 @@
--- What a call promises of its answer says nothing where it is refused.
-use Rattle.windows.proofs.Words.{◌≡◌, ◌⊎◌, inl, inr, Result, Ok, Err, IfOk, IfErr, IfOk-from_err, RunError, Memory, AreThere, IsFirstRefusal, IsRefusal, IsRefusalOfOne}
-use Rattle.std.specs.Result.{IsErr}
-
-pub holds_of_none : {A E : Type 0} (r : Result A E) → IsErr r → (P : A → Type 0) → IfOk r P
-holds_of_none r is P = IfOk-from_err r P is
+-- Answers and refusals.
+use Rattle.windows.proofs.Words.{◌≡◌, ◌⊎◌, inl, inr, Result, Ok, Err, IfOk, IfErr, RunError, Memory, AreThere, IsFirstRefusal, IsRefusal, IsRefusalOfOne}
 
 -- an answer is no refusal
 pub not_err : {A E : Type 0} (x : A) (d : E) → ◌≡◌ {A = Result A E} (Ok x) (Err d) → ⊥

@@ -9,7 +9,7 @@ pub use Rattle.std.proofs.lemmas.List.Sorted.{All-permutation, Contains-permutat
 pub use Rattle.std.proofs.lemmas.Option.{get_or_from_slice_get, slice_get-map, slice_get_within}
 pub use Rattle.std.proofs.lemmas.Result.{IfOk-from_err, on_ok_weaker}
 pub use Rattle.std.specs.Global.{Vec}
-pub use Rattle.std.specs.List.{All, AllByRecursion, IsDistinct, flat_map, swap}
+pub use Rattle.std.specs.List.{All, AllByRecursion, flat_map, swap}
 pub use Rattle.std.specs.List.Sorted.{IsNonDecreasingBy, IsPermutation, SwapsInRange, apply_swaps}
 pub use Rattle.std.specs.Vec.Iter.{into_iter_items}
 pub use Rattle.deques.proofs.Deals.{flat_push, map_push, map_turn}
@@ -56,7 +56,7 @@ pub use Rattle.window_laws.specs.Machine.{Act, IsRun, StageRecord, StandsFor, en
 pub use Rattle.window_laws.specs.Theorems.{IsMerge, end_to_end}
 pub use Rattle.window_laws.specs.Window.{AreBerths, BerthRun, IsPosted, IsSameStage}
 pub use Rattle.windows.specs.Berth.{IsBerth, all_filed, made_in, most_in_part, with_letters}
-pub use Rattle.windows.specs.Inside.Agenda.{AreFrom, AreOne, IsParted, IsSoonestOf, SomeAt, all_ahead, all_in, in_box}
+pub use Rattle.windows.specs.Inside.Agenda.{AreFrom, AreOne, IsParted, first_tick, all_ahead, all_in, in_box}
 pub use Rattle.windows.specs.Inside.Shared.{AreAnswers, ArePosting, IsAnswerTo, IsOneTooLong, IsWorkBy, IsWorkIn, KnowOneTooLong}
 pub use Rattle.windows.specs.Inside.Workers.{AllAbove, AreRun, AreRunBy, HasLong, IsFresh, IsOutcome, IsReady, IsRest, IsSent, IsStay, IsWork, RiseBy, Stay, is_to, left_in, sent_in, stay, taken_in}
 pub use Rattle.windows.specs.Refusals.{AreThere, IsFirstRefusal, IsRefusal, IsRefusalOfOne}

@@ -79,20 +79,6 @@ module _ {M : Type 0} where
       pub of_deques : hand.deques ≡ deques
       pub run : AreRunBy end mailboxes hand.taken slip done
 
-    -- A worker answers its work, with the deque that was its own; or that memory was refused; or the limit, where one
-    -- of the berths that it knows is too long
-    pub record IsAnswer (end left : ℕ) (deques : List DequeId) (mailboxes : List MailboxId)
-        (hand : HandView (Berth M)) (r : Result (Work M) RunError) : Type 0 where
-      pub own : IfOk r (λ w. w.hand.own ≡ hand.own)
-      pub work : IfOk r (λ w. IsWork end deques mailboxes w.hand w.slip w.done.items)
-      pub errors : IfErr r IsRefusalOfOne
-      pub limit : IsErrOf r Limit → HasLong end left hand.known
-
-    -- one of the berths that all of these workers know is too long
-    abbrev pub HaveLong : (end left : ℕ) → List (Start M) → Type 0
-    HaveLong end left starts =
-        (known : List (Berth M)) → All (λ b. b.hand.known ≡ known) starts → HasLong end left known
-
     -- what the starter took itself, after the workers: with it each berth was taken, as often as it was put in
     pub record IsRest (end : ℕ) (mailboxes : List MailboxId) (old new : RestView (Berth M)) (slip : SlipView)
         (done : List (Berth M)) : Type 0 where

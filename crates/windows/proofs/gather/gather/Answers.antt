@@ -1,5 +1,5 @@
-use Rattle.windows.proofs.Words.{◌≡◌, ◌∷◌, ◌++◌, [], length, map, refl, sym, ap, ◌∙◌, subst, vec_len, arith, All, flat_map, into_iter_items, All-nil, All-push, All-same, All-head, All-tail, HandView, deques_of, IsWork, AreRun, Work, map_turn, flat_push}
-use Rattle.windows.proofs.Ended.{ends}
+use Rattle.windows.proofs.Words.{length-append, ◌≡◌, ◌∷◌, ◌++◌, [], length, map, refl, sym, ap, ◌∙◌, subst, vec_len, arith, All, flat_map, into_iter_items, All-nil, All-push, All-same, All-head, All-tail, HandView, deques_of, IsWork, AreRun, Work, map_turn, flat_push}
+use Rattle.windows.proofs.Places.{ends}
 use Rattle.windows.proofs.Gathered.{run_none, run_joined, run_taken_as}
 use Rattle.windows.proofs.gather.gather.Goals as goal
 
@@ -19,8 +19,6 @@ loop-work-init g c =
       of_all = All-same OfAll _ [] none (All-nil OfAll);
       left = subst (All WorkOfAll) (sym all) c.requires;
       count = omega (arith, many, c.in_ok-slips.ensures.len);
-      room = omega (arith, many, c.in_ok-hands.ensures.len, c.in_ok-hands.ensures.capacity, c.len.ensures);
-      space = omega (arith, many, c.in_ok-slips.ensures.len, c.in_ok-slips.ensures.capacity, c.len-2.ensures);
       works = λ s end m count is.
           let W : Work _ → Type 0 = λ w. IsWork mind s end (deques_of dealt) m w.hand w.slip w.done.items in
           (subst (All W) (sym all) is, run_none mind s end m _ _ _ (ap (flat_map (λ (h : HandView _). h.taken)) none) c.new-done.ensures.items c.in_ok-slips.ensures.items);
@@ -40,23 +38,21 @@ loop-work-preserved g c =
     let WorkOfAll : Work _ → Type 0 = λ w. w.hand.deques ≡ deques_of dealt in
     let of_all : WorkOfAll work = All-head WorkOfAll work left (subst (All WorkOfAll) e inv.left) in
     let hands = c.loop-work.hands.items in
-    let more : c.push_reserved.new.self.items ≡ hands ++ work.hand ∷ [] = c.push_reserved.ensures.items in
+    let more : c.push.new.self.items ≡ hands ++ work.hand ∷ [] = c.in_ok-push.ensures.items in
     let slips = c.loop-work.slips.items in
-    let listed : c.push_reserved-in-loop-work.new.self.items ≡ slips ++ work.slip ∷ [] = c.push_reserved-in-loop-work.ensures.items in
+    let listed : c.push-in-loop-work.new.self.items ≡ slips ++ work.slip ∷ [] = c.in_ok-push-2.ensures.items in
     let adds : c.append.new.self.items ≡ c.loop-work.done.items ++ work.done.items = c.in_ok-append.ensures.items in
     record {
       own = map_turn (λ (h : HandView _). h.own) own_of hands _ work.hand _ left work dealt more e refl inv.own;
       of_all = All-same OfAll _ _ more (All-push OfAll hands work.hand inv.of_all of_all);
       left = All-tail WorkOfAll work left (subst (All WorkOfAll) e inv.left);
-      count = omega (arith, inv.count, ap length e, c.push_reserved-in-loop-work.ensures.len);
-      room = omega (arith, inv.room, ap length e, c.push_reserved.ensures.len, c.push_reserved.ensures.capacity);
-      space = omega (arith, inv.space, ap length e, c.push_reserved-in-loop-work.ensures.len, c.push_reserved-in-loop-work.ensures.capacity);
+      count = omega (arith, inv.count, ap length e, ap length listed, length-append slips (work.slip ∷ []), c.loop-work.slips.ok.0, c.push-in-loop-work.new.self.ok.0);
       works = λ s end m count is.
           let W : Work _ → Type 0 = λ w. IsWork mind s end (deques_of dealt) m w.hand w.slip w.done.items in
           let r = inv.works s end m count is in
           let ours : All W (work ∷ left) = subst (All W) e r.0 in (
             All-tail W work left ours,
-            subst (λ l. AreRun mind s end m l c.append.new.self.items c.push_reserved-in-loop-work.new.self.items) (sym (flat_push (λ (h : HandView _). h.taken) hands _ work.hand more))
+            subst (λ l. AreRun mind s end m l c.append.new.self.items c.push-in-loop-work.new.self.items) (sym (flat_push (λ (h : HandView _). h.taken) hands _ work.hand more))
                 (run_joined mind s end m count work.slip work.done.items work.hand.taken _ c.loop-work.done.items c.append.new.self.items slips _ r.1 (All-head W work left ours).run adds listed),
           );
     }

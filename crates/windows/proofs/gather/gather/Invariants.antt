@@ -12,8 +12,6 @@ invariant-loop-work g l =
       of_all : All (λ h. h.deques ≡ deques_of dealt) l.hands.items;
       left : All (λ w. w.hand.deques ≡ deques_of dealt) rest;
       count : vec_len l.slips + length rest ≡ vec_len l.fn.works;
-      room : vec_len l.hands + length rest ≤ vec_capacity l.hands;
-      space : vec_len l.slips + length rest ≤ vec_capacity l.slips;
       works : (s : Record) (end : ℕ) (m : List MailboxId) → length m ≡ s.processes → All (λ w. IsWork mind s end (deques_of dealt) m w.hand w.slip w.done.items) all
           → All (λ w. IsWork mind s end (deques_of dealt) m w.hand w.slip w.done.items) rest × AreRun mind s end m (flat_map (λ h. h.taken) l.hands.items) l.done.items l.slips.items;
     }

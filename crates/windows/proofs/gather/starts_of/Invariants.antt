@@ -12,5 +12,4 @@ invariant-loop-hand g l =
       fresh : All (λ b. IsFresh (deques_of all) m.mailboxes b.hand b.slip) l.starts.items;
       known : All (λ b. b.hand.known ≡ all_put all) l.starts.items;
       left : All (IsDealt all) rest;
-      room : vec_len l.starts + length rest ≤ vec_capacity l.starts;
     }

@@ -1,5 +1,5 @@
 use Rattle.windows.proofs.Words.{◌≡◌, ◌∷◌, [], ◌++◌, map, ap, sym, subst, ◌∙◌, All, into_iter_items, length-map, All-nil, All-push, All-rest, All-same, Mind, map_turn, process_of, own_of, IsMindIn, Process, opened, start_event, IsOpened, Berth}
-use Rattle.windows.proofs.Ended.{ends, opens}
+use Rattle.windows.proofs.Places.{ends, opens}
 use Rattle.windows.proofs.stage.berths_of.Goals as goal
 
 pub loop-machine-init : goal.loop-machine-init

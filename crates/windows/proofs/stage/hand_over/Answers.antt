@@ -1,6 +1,6 @@
 use Rattle.windows.proofs.Words.{◌≡◌, ◌∷◌, ◌++◌, [], List, length, map, ap, sym, ◌∙◌, subst, arith, append-nil, append_assoc, refl, Vec, All, into_iter_items, map-append, nil_from_length, All-head, All-nil, All-push, All-same, All-tail, map_turn, Letter, Events, event_of, joined, AreOne, delivered, Berth}
 use Rattle.process_api.specs.declared.entry.Entry.{Entry}
-use Rattle.windows.proofs.Ended.{ends, opens}
+use Rattle.windows.proofs.Places.{ends, opens}
 use Rattle.windows.proofs.stage.hand_over.Goals as goal
 
 pub loop-berth-init : goal.loop-berth-init
@@ -11,7 +11,7 @@ loop-berth-init g c =
     record {
       seats = opens _ _ _ _ _ none all;
       pending = λ i. map (λ (z : Berth _). z.pending) (none i) ++ delivered (map (λ (z : Berth _). z.pending) (all i)) (letters i);
-      empty = All-same _ _ [] none (All-nil (λ (b : Berth _). b.part.items ≡ []));
+      empty = All-same (λ (b : Berth _). b.part.items ≡ []) _ [] none (All-nil (λ (b : Berth _). b.part.items ≡ []));
       parts = opens _ _ _ _ _ c.in_ok-parts.ensures.items all;
       same = omega (arith, ap length letters, ap length all, c.requires.count, c.args.berths.ok.0, c.args.inboxes.ok.0);
       one = subst (All AreOne) (sym letters) c.requires.one;
@@ -53,7 +53,7 @@ loop-berth-preserved g c =
       seats = map_turn seat_of seat_of done after new rest left old _ more e refl i.seats;
       pending = given (map pending_of done) (map pending_of after) (map pending_of rest) (map pending_of left) _ boxes later old.pending new.pending inbox
           (ap (map pending_of) more ∙ map-append pending_of done (new ∷ [])) (ap (map pending_of) e) f c.in_ok-deliver.ensures.joined i.pending;
-      empty = All-same _ _ (done ++ new ∷ []) more (All-push (λ (b : Berth _). b.part.items ≡ []) done new i.empty (ap items_of c.replace.ensures.after ∙ c.in_ok-next.ensures.items));
+      empty = All-same (λ (b : Berth _). b.part.items ≡ []) after (done ++ new ∷ []) more (All-push (λ (b : Berth _). b.part.items ≡ []) done new i.empty (ap items_of c.replace.ensures.after ∙ c.in_ok-next.ensures.items));
       parts = map_turn items_of (λ (z : Berth _). z.part.items) c.loop-berth.parts.items _ _ rest left old _ c.in_ok-push.ensures.items e (ap items_of c.replace.ensures.value) i.parts;
       same = omega (arith, ap length e, ap length f, i.same);
       one = All-tail AreOne inbox later (subst (All AreOne) f i.one);

@@ -1,7 +1,7 @@
-use Rattle.windows.proofs.Words.{rules, ◌≡◌, refl, sym, ap, ◌∙◌, subst, Contains, All-contains, HandView, SlipView, IsWorkBy, IsReady, Berth}
+use Rattle.windows.proofs.Words.{IfOk-from_err, rules, ◌≡◌, refl, sym, ap, ◌∙◌, subst, Contains, All-contains, HandView, SlipView, IsWorkBy, IsReady, Berth}
 use Rattle.windows.proofs.Posting.{posting_opens}
-use Rattle.windows.proofs.Work.{work_begins, work_more}
-use Rattle.windows.proofs.Refused.{holds_of_none, not_err}
+use Rattle.windows.proofs.Gathered.{work_begins, work_more}
+use Rattle.windows.proofs.Refused.{not_err}
 use Rattle.windows.proofs.workers.run_berths.Goals as goal
 use Rattle.windows.proofs.workers.run_berths.Goals.{in-None, in-Some+in_default}
 
@@ -48,10 +48,10 @@ returns g c =
 
 pub returns-in_err-run_taken : goal.returns-in_err-run_taken
 returns-in_err-run_taken g c =
-    let no = holds_of_none c.from_residual-in_err-run_taken.result c.from_residual-in_err-run_taken.ensures.0 in
+    let is = c.from_residual-in_err-run_taken.ensures.0 in
     record {
-      own = no _;
-      work = no _;
+      own = IfOk-from_err _ _ is;
+      work = IfOk-from_err _ _ is;
       errors = search rules;
       limit = λ is. (
         c.in-Some-take.berth,

@@ -1,6 +1,6 @@
 use Rattle.windows.proofs.Words.{rules, refl, ◌∙◌}
 use Rattle.windows.proofs.Posting.{posting_more, posted_more, all_posted}
-use Rattle.windows.proofs.Work.{run_more}
+use Rattle.windows.proofs.Gathered.{run_more}
 use Rattle.windows.proofs.workers.run_taken.Goals as goal
 
 pub returns-then-not-many : goal.returns-then-not-many
