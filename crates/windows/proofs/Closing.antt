@@ -1,5 +1,5 @@
 -- What the processes of a window make of a stage, and what the closing of the window leaves.
-use Rattle.windows.proofs.Words.{◌≡◌, ◌⊎◌, ◌↔◌, ℕ, zero, suc, ◌+◌, ◌-◌, ◌*◌, ◌<◌, ◌≤◌, inl, inr, refl, sym, ap, ◌∙◌, subst, List, [], ◌∷◌, ◌++◌, Some, length, map, slice_get, arith, append_assoc, append-nil, length-append, Bool, true, false, cond, not, nat_eq, IsTrue, All, slice_get_within, get_or_from_slice_get, length-map, length-filter_both, All-append, All-weaker, length_permutation, Contains-permutation, IsPermutation-sym, most_step_actions, EntryRecord, Mind, key_cmp, is_rising, Key, Letter, StepInput, IsInRange, Record, IsIn, Pair, pairs_of, IsLeastTick, setting_of, process_of, own_of, IsSeated, Setting, IsSound, IsProcess, Event, Events, Process, World, IsWorld, Has, NoneBelow, Run, taken, joined, entries, opening_process, IsTrace, closed_of_run, reached_next, reached_end, run_exists, one_run, joined_cases, one_input, not_None, same_Some, setting_sound, list_of, all_of, AreDisjoint, event_of, IsBerth, StageRecord, Act, StandsFor, IsRun, end_of, first_status, IsMerge, of_process, stage_of, AreHome, IsStageAfter, IsClosed, IsNextStart, IsWindowRun, BerthRun, IsPosted, AreBerths, IsSameStage, AreOne, Stay, IsReady, IsStay, HasLong, IsOutcome, RiseBy, Berth, Stage, is_or_not, in_map, map_in, joined_back, run_on, one_merge, h_stands, berths_run}
+use Rattle.windows.proofs.Words.{◌≡◌, ◌⊎◌, ◌↔◌, ℕ, zero, suc, ◌+◌, ◌-◌, ◌*◌, ◌<◌, ◌≤◌, inl, inr, refl, sym, ap, ◌∙◌, subst, List, [], ◌∷◌, ◌++◌, Some, length, map, slice_get, arith, append_assoc, append-nil, length-append, Bool, true, false, cond, not, nat_eq, IsTrue, All, slice_get_within, get_or_from_slice_get, length-map, length-filter_both, All-append, All-weaker, length_permutation, Contains-permutation, IsPermutation-sym, most_step_actions, EntryRecord, Mind, is_rising, Key, Letter, StepInput, IsInRange, Record, IsIn, Pair, pairs_of, IsLeastTick, setting_of, process_of, own_of, IsSeated, Setting, IsSound, IsProcess, Event, Events, Process, World, IsWorld, Has, NoneBelow, Run, taken, joined, entries, opening_process, IsTrace, closed_of_run, reached_next, reached_end, run_exists, one_run, joined_cases, one_input, same_Some, setting_sound, list_of, all_of, AreDisjoint, event_of, IsBerth, StageRecord, Act, StandsFor, IsRun, end_of, first_status, IsMerge, of_process, stage_of, AreHome, IsStageAfter, IsClosed, IsNextStart, IsWindowRun, BerthRun, IsPosted, AreBerths, IsSameStage, AreOne, Stay, IsReady, IsStay, HasLong, IsOutcome, RiseBy, Berth, Stage, in_map, map_in, joined_back, run_on, one_merge, h_stands, berths_run}
 use Rattle.std.specs.FinMap as finmap
 use Rattle.trace_laws.specs.Reached.{IsReached}
 use Rattle.trace_laws.proofs.Pairs.{in_pairs}

@@ -1,5 +1,5 @@
 -- What workers answer together, one worker more.
-use Rattle.windows.proofs.Words.{◌≡◌, ◌⊎◌, inl, inr, sym, ap, ◌∙◌, subst, List, [], ◌∷◌, ◌++◌, length, length-append, map, vec_len, arith, Option, Some, option_to_list, Result, Ok, Err, IfOk, IfErr, IsErrOf, Vec, All, All-head, All-push, All-same, Mind, RunError, Limit, Memory, map_push, AreThere, IsFirstRefusal, IsRefusal, IsRefusalOfOne, IsWorkIn, IsAnswerTo, IsOneTooLong, KnowOneTooLong, AreAnswers, Start, Work}
+use Rattle.windows.proofs.Words.{◌≡◌, ◌⊎◌, inl, inr, sym, ap, ◌∙◌, subst, List, [], ◌∷◌, ◌++◌, length, length-append, map, vec_len, arith, Option, Some, option_to_list, Result, Ok, Err, IfOk, IfErr, IsErrOf, Vec, All, All-head, All-push, All-same, Mind, RunError, Limit, Memory, map_push, AreThere, IsFirstRefusal, IsRefusal, IsWorkIn, IsAnswerTo, IsOneTooLong, KnowOneTooLong, AreAnswers, Start, Work}
 use Rattle.windows.specs.declared.shared.Shared.{Shared}
 use Rattle.windows.proofs.Gathered.{all_front, all_back}
 use Rattle.windows.proofs.Refused.{not_err, one_refused}

@@ -1,5 +1,5 @@
 -- Answers and refusals.
-use Rattle.windows.proofs.Words.{◌≡◌, ◌⊎◌, inl, inr, Result, Ok, Err, IfOk, IfErr, RunError, Memory, AreThere, IsFirstRefusal, IsRefusal, IsRefusalOfOne}
+use Rattle.windows.proofs.Words.{◌≡◌, ◌⊎◌, inl, inr, Result, Ok, Err, IfErr, RunError, Memory, AreThere, IsFirstRefusal, IsRefusal, IsRefusalOfOne}
 
 -- an answer is no refusal
 pub not_err : {A E : Type 0} (x : A) (d : E) → ◌≡◌ {A = Result A E} (Ok x) (Err d) → ⊥

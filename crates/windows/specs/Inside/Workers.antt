@@ -1,5 +1,5 @@
 -- What the workers of a window do.
-use Rattle.std.specs.Prelude.{◌≡◌, ◌↔◌, ◌<◌, ◌≤◌, ◌-◌, ◌++◌, ℕ, Bool, nat_eq, filter, List, [], ◌∷◌, length, map, Result, IfOk, IfErr, IsErrOf}
+use Rattle.std.specs.Prelude.{◌≡◌, ◌↔◌, ◌<◌, ◌≤◌, ◌-◌, ◌++◌, ℕ, Bool, nat_eq, filter, List, [], ◌∷◌, length, map}
 use Rattle.std.specs.List.{All, Contains, flat_map}
 use Rattle.std.specs.List.Sorted.{IsPermutation}
 use Rattle.process_api.specs.Mind.{Mind}
@@ -7,13 +7,10 @@ use Rattle.process_api.specs.declared.message.Letter.{Letter}
 use Rattle.scenario_record.specs.Record.{Record}
 use Rattle.steps.specs.Seat.{own_of}
 use Rattle.trace_laws.specs.History.{IsIn}
-use Rattle.process_api.specs.declared.run_error.RunError.{RunError}
-use Rattle.process_api.specs.declared.run_error.RunError.TheVariants.{Limit}
 use Rattle.mailboxes.specs.Mailbox.{MailboxId}
 use Rattle.mailboxes.specs.Mailboxes.{SlipView, IsSlipOf, unused, list_of, posted_to}
 use Rattle.windows.specs.Berth.{IsBerth, IsBerthOf, IsLong, RanTo, with_letters}
 use Rattle.deques.specs.Deques.{DequeId, HandView, RestView, all_put}
-use Rattle.windows.specs.Refusals.{IsRefusalOfOne}
 use Rattle.windows.specs.declared.berth.Berth.{Berth}
 use Rattle.windows.specs.declared.workers.Start.{Start}
 use Rattle.windows.specs.declared.workers.Work.{Work}

@@ -1,4 +1,4 @@
-use Rattle.windows.proofs.Words.{◌≡◌, ◌<◌, ◌≤◌, [], ◌∷◌, ◌++◌, ◌+◌, ◌*◌, map, ap, sym, subst, ◌∙◌, refl, rules, arith, append_assoc, append-nil, length, length-append, most_step_actions, setting_of, process_of, own_of, IsSeated, Has, event_of, all_filed, made_in, most_in_part, BerthRun, berth_opens, berth_longer, berth_ends}
+use Rattle.windows.proofs.Words.{◌≡◌, ◌<◌, [], ◌∷◌, ◌++◌, ◌+◌, ◌*◌, map, ap, sym, subst, ◌∙◌, refl, arith, append_assoc, append-nil, length, length-append, most_step_actions, setting_of, process_of, own_of, IsSeated, Has, event_of, all_filed, made_in, most_in_part, BerthRun, berth_opens, berth_longer, berth_ends}
 use Rattle.windows.proofs.Letters.{filed_more, one_longer, stands_next}
 use Rattle.windows.proofs.berth.run_into.Goals as goal
 

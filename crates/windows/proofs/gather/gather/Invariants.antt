@@ -1,4 +1,4 @@
-use Rattle.windows.proofs.Words.{◌≡◌, ◌≤◌, ◌+◌, ◌++◌, ℕ, List, length, map, vec_len, vec_capacity, All, flat_map, into_iter_items, Record, MailboxId, deques_of, IsWork, AreRun}
+use Rattle.windows.proofs.Words.{◌≡◌, ◌+◌, ◌++◌, ℕ, List, length, map, vec_len, All, flat_map, into_iter_items, Record, MailboxId, deques_of, IsWork, AreRun}
 use Rattle.windows.proofs.gather.gather.Given as goal
 
 abbrev pub invariant-loop-work : goal.invariant-loop-work

@@ -1,4 +1,4 @@
-use Rattle.windows.proofs.Words.{◌≡◌, ◌≤◌, ◌+◌, ◌++◌, length, map, vec_len, vec_capacity, All, into_iter_items, mailboxes_of, deques_of, all_put, IsDealt, IsFresh}
+use Rattle.windows.proofs.Words.{◌≡◌, ◌+◌, ◌++◌, map, vec_len, All, into_iter_items, mailboxes_of, deques_of, all_put, IsDealt, IsFresh}
 use Rattle.windows.proofs.gather.starts_of.Given as goal
 
 abbrev pub invariant-loop-hand : goal.invariant-loop-hand
