@@ -1,4 +1,3 @@
 pub mod Homes
-pub mod Inboxes
 pub mod Rows
-pub mod Ticks
+pub mod Words

@@ -1,15 +1,11 @@
 -- Tickets and lists of letters that change at one place.
-use Rattle.std.proofs.Common.{◌≡◌, ℕ, zero, suc, ◌<◌, ◌≤◌, Bool, true, false, eqb, List, [], ◌∷◌, ◌++◌, length, map, replicate, set, get_or, refl, sym, ap, ◌∙◌, arith, append-nil}
-use Rattle.std.specs.Global.{Vec}
+use Rattle.mailboxes.proofs.Words.{◌≡◌, ℕ, zero, suc, ◌<◌, ◌≤◌, List, [], ◌∷◌, ◌++◌, length, map, replicate, set, get_or, refl, sym, ap, ◌∙◌, arith, append-nil, Vec, get_or-map, length-map, map-set, set-get_or, Letter, TicketView, letters_in}
+use Rattle.std.proofs.Common.{Bool, true, false, eqb}
 use Rattle.std.proofs.lemmas.Bool.{eqb-true, eqb-false}
 use Rattle.std.proofs.lemmas.Grind.{get_or-set_at}
-use Rattle.std.proofs.lemmas.List.{get_or-map, get_or-set_other, length-map, map-set, set-get_or}
-use Rattle.process_api.specs.declared.message.Letter.{Letter}
+use Rattle.std.proofs.lemmas.List.{get_or-set_other}
 use Rattle.ledger.specs.Places.{each_with}
-use Rattle.mailboxes.specs.Mailbox.{TicketView}
-use Rattle.mailboxes.specs.Mailboxes.{letters_in}
-use Rattle.mailboxes.proofs.Homes.{whose, posted_by}
-use Rattle.mailboxes.proofs.Inboxes.{items_of}
+use Rattle.mailboxes.proofs.Homes.{whose, posted_by, items_of}
 
 -- the list of letters at one place gets more
 pub row_more : {A : Type 0} (f : A → List Letter) (xs : List A) (i : ℕ) (old new : A) → old ≡ get_or xs i old → i < length xs

@@ -12,8 +12,8 @@ use trace_laws::Parcel;
 /// A mailbox to which nobody can post, with its letters. Contracts see these.
 #[derive(Drop)]
 pub struct Inbox {
-    mailbox: Mailbox,
-    home: Home,
+    pub(crate) mailbox: Mailbox,
+    pub(crate) home: Home,
 }
 
 impl Model for Inbox {
@@ -32,25 +32,6 @@ impl Model for Inbox {
 }
 
 impl Inbox {
-    /// A mailbox, once every ticket is back.
-    pub(crate) fn new(mailbox: Mailbox, home: Home) -> Inbox
-        requires home { home.mailbox ≡ mailbox }
-        requires out { home.out ≡ 0 }
-        ensures { result ≡ home.back }
-    {
-        Inbox { mailbox, home }
-    }
-
-    /// The mailbox and its owner's pass.
-    pub(crate) fn into_parts(self) -> (Mailbox, Home)
-        ensures home { result.1.mailbox ≡ result.0 }
-        ensures out { result.1.out ≡ 0 }
-        ensures letters { result.1.back ≡ self }
-    {
-        let Inbox { mailbox, home } = self;
-        (mailbox, home)
-    }
-
     /// The least tick of the letters, if there are any.
     pub fn soonest(&self) -> Option<u32>
         ensures { result ≡ soonest_in self.now }

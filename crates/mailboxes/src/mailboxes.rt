@@ -87,7 +87,7 @@ fn inboxes_of(
         let Some(mailbox) = boxes.next() else {
             unreachable!()
         };
-        inboxes.push(Inbox::new(mailbox, home))?;
+        inboxes.push(Inbox { mailbox, home })?;
     }
     Ok(inboxes)
 }
@@ -180,8 +180,16 @@ impl Mailboxes {
         ensures letters { IfOk result (λ inboxes. (r : ℕ) → list_of inboxes.items r ≡ posted_to slips.items r) }
         ensures err { IfErr result (λ e. e ≡ Memory) }
     {
-        let (shared, homes) = self.take_back(slips);
-        Ok(inboxes_of(alloc, shared.into_boxes(), homes)?)
+        let Mailboxes {
+            shared,
+            mut homes,
+            ..
+        } = self;
+        for slip in slips {
+            shared.take_back(&mut homes, slip);
+        }
+        let SharedMailboxes { boxes } = shared;
+        Ok(inboxes_of(alloc, boxes, homes)?)
     }
 
     /// Mailboxes again, as new ones are, of inboxes that are empty. The error is that memory was refused.
@@ -193,34 +201,14 @@ impl Mailboxes {
         let mut boxes = Vec::with_capacity(alloc, inboxes.len())?;
         let mut homes = Vec::with_capacity(alloc, inboxes.len())?;
         for inbox in inboxes {
-            let (mailbox, home) = inbox.into_parts();
+            let Inbox { mailbox, home } = inbox;
             boxes.push(mailbox)?;
             homes.push(home)?;
         }
         Ok(Mailboxes {
-            shared: SharedMailboxes::of_boxes(boxes),
+            shared: SharedMailboxes { boxes },
             homes,
             slips: 0,
         })
-    }
-
-    // Takes the slips back, which are all that were made. The queues are left, and the owner's passes.
-    fn take_back(self, slips: Vec<Slip>) -> (SharedMailboxes, Vec<Home>)
-        requires all { vec_len slips ≡ self.slips }
-        requires slips { All (IsSlipOf self.mailboxes) slips.items }
-        ensures shared { result.0 ≡ self.mailboxes }
-        ensures homes { result.0 ≡ map (λ h. h.mailbox) result.1.items }
-        ensures out { All (λ h. h.out ≡ 0) result.1.items }
-        ensures letters { (r : ℕ) → list_of (map (λ h. h.back) result.1.items) r ≡ posted_to slips.items r }
-    {
-        let Mailboxes {
-            shared,
-            mut homes,
-            ..
-        } = self;
-        for slip in slips {
-            shared.take_back(&mut homes, slip);
-        }
-        (shared, homes)
     }
 }

@@ -16,7 +16,7 @@ use trace_laws::Parcel;
 /// The queues of the mailboxes, one for each receiver, by which threads post. Contracts see which they are.
 #[derive(Drop)]
 pub struct SharedMailboxes {
-    boxes: Vec<Mailbox>,
+    pub(crate) boxes: Vec<Mailbox>,
 }
 
 impl Model for SharedMailboxes {
@@ -29,21 +29,6 @@ impl Model for SharedMailboxes {
 }
 
 impl SharedMailboxes {
-    /// The mailboxes, by receiver.
-    pub(crate) fn into_boxes(self) -> Vec<Mailbox>
-        ensures { result.items ≡ self }
-    {
-        let SharedMailboxes { boxes } = self;
-        boxes
-    }
-
-    /// These mailboxes, by receiver.
-    pub(crate) fn of_boxes(boxes: Vec<Mailbox>) -> SharedMailboxes
-        ensures { result ≡ boxes.items }
-    {
-        SharedMailboxes { boxes }
-    }
-
     /// Posts a letter to its receiver, 1 to n. Where memory is refused the letter comes back, and the slip and the
     /// mailboxes are as they were.
     pub fn post<R: Wait>(&self, rt: &R, slip: &mut Slip, letter: Parcel) -> Result<(), Parcel>
@@ -135,8 +120,8 @@ impl SharedMailboxes {
         let mut homes = Vec::with_capacity(alloc, usize::from(n))?;
         for _ in 0..n {
             let (mailbox, home) = Mailbox::open(alloc)?;
-            boxes.push_reserved(mailbox);
-            homes.push_reserved(home);
+            boxes.push(mailbox)?;
+            homes.push(home)?;
         }
         Ok((SharedMailboxes { boxes }, homes))
     }

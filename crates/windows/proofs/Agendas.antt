@@ -1,82 +1,73 @@
 -- Events in a row and events that wait, as one set.
-use Rattle.std.proofs.Common.{◌≡◌, ◌≢◌, ◌⊎◌, ◌≤◌, ◌<◌, ℕ, ◌+◌, inl, inr, refl, sym, ap, ◌∙◌, subst, List, [], ◌∷◌, ◌++◌, map, length, append-nil, append_assoc, min, arith, Less, Option, Some, None, MatchOption}
+use Rattle.windows.proofs.Words.{◌≡◌, ◌≢◌, ◌⊎◌, ◌≤◌, ◌<◌, ℕ, ◌+◌, inl, inr, refl, sym, ap, ◌∙◌, subst, List, [], ◌∷◌, ◌++◌, map, append_assoc, min, arith, Less, Option, Some, None, MatchOption, AllByRecursion, IsPermutation, cases_lt, Contains-permutation, IsPermutation-sym, key_cmp, Key, Letter, StepInput, keys_total, exact_keys, same_or_not, ticks_rise, weaker, IsIn, IsEmpty, IsLeastTick, Event, Events, Has, IsLeast, NoneBelow, joined, joined_one, least_below, insert_at, insert_other, joined_cases, one_input, remove_at, remove_other, removed, same_events, event_of, earlier_of, soonest_in, in_map, joined_back, map_in, AreFrom, AreOne, All, All-push, before_or_not, not_None, in_left, in_right, IsNextStart, first_tick}
 use Rattle.std.specs.FinMap as events
-use Rattle.std.specs.List.{AllByRecursion}
-use Rattle.std.specs.List.Sorted.{IsPermutation}
 use Rattle.std.specs.Option.{option_or}
-use Rattle.std.proofs.lemmas.Bool.{cases_lt}
-use Rattle.std.proofs.lemmas.List.Sorted.{Contains-permutation, IsPermutation-sym}
-use Rattle.process_api.specs.Order.{key_cmp}
-use Rattle.process_api.specs.declared.key.Key.{Key}
-use Rattle.process_api.specs.declared.message.Letter.{Letter}
-use Rattle.process_api.specs.declared.message.StepInput.{StepInput}
-use Rattle.process_api.proofs.KeyOrder.{keys_total, exact_keys, same_or_not, ticks_rise}
-use Rattle.process_api.proofs.Lists.{both, weaker}
-use Rattle.trace_laws.specs.History.{IsIn}
 use Rattle.pending_events.specs.Inside.Buckets.{latest}
-use Rattle.pending_events.specs.Pending.{IsEmpty, IsLeastTick}
 use Rattle.pending_events.proofs.Falling.{none_latest}
 use Rattle.pending_events.proofs.Rows.{get_joined}
-use Rattle.trace_laws.specs.Step.{Event, Events}
-use Rattle.trace_laws.specs.World.{Has, IsLeast, NoneBelow, joined}
-use Rattle.trace_laws.proofs.Joining.{joined_one}
-use Rattle.trace_laws.proofs.Runs.{least_below}
-use Rattle.trace_laws.proofs.Sets.{insert_at, insert_other, joined_cases, one_input, remove_at, remove_other, removed, same_events}
-use Rattle.trace_laws.specs.Taken.{event_of}
-use Rattle.mailboxes.specs.Mailbox.{earlier_of, soonest_in}
-use Rattle.window_laws.proofs.Unions.{in_map, joined_back, map_in}
-use Rattle.windows.specs.Inside.Agenda.{AreFrom, AreOne, IsSoonestOf, SomeAt}
 use Rattle.windows.proofs.Letters.{joined_both}
-use Rattle.windows.proofs.Members.{contains_in, in_contains}
-use Rattle.windows.proofs.Starts.{from_least}
+use Rattle.windows.proofs.Ranked.{contains_in, in_contains}
+use Rattle.windows.proofs.Places.{all_at, all_place}
+
+-- ---- the tick at which the next window opens
+
+pub none_pending : (horizon : ℕ) → IsNextStart horizon [] horizon
+none_pending horizon = record { to_horizon = omega arith; late = all_at (NoneBelow horizon) [] (λ i m at. absurd (not_None m at)); least = inl refl }
+
+-- nothing is before the least tick
+pub from_least : (m : Events) (tick : ℕ) → IsLeastTick m tick → NoneBelow tick m
+from_least m tick least k y h = go (before_or_not k least.0)
+  where
+    go : (key_cmp k least.0 ≡ Less) ⊎ ((k ≡ least.0) ⊎ (key_cmp least.0 k ≡ Less)) → tick ≤ k.tick
+    go (inl before) = absurd (least.2.none_before k y h before)
+    go (inr (inl same)) = omega (arith, ap (λ (z : Key). z.tick) same, least.3)
+    go (inr (inr after)) = omega (arith, ticks_rise least.0 k after, least.3)
+
+none_earlier : (m : Events) (a b : ℕ) → a ≤ b → NoneBelow b m → NoneBelow a m
+none_earlier m a b le none k y h = omega (arith, le, none k y h)
+
+module _ (horizon : ℕ) (own : List Events) (m : Events) where
+  later_all : (a b : ℕ) → a ≤ b → All (NoneBelow b) own → All (NoneBelow a) own
+  later_all a b le all = all_at (NoneBelow a) own (λ i x at. none_earlier x a b le (all_place (NoneBelow b) own all i x at))
+
+  keeps : (next : ℕ) → (next ≡ horizon) ⊎ ((set : Events) × IsIn set own × IsLeastTick set next) → (next ≡ horizon) ⊎ ((set : Events) × IsIn set (own ++ m ∷ []) × IsLeastTick set next)
+  keeps next (inl at) = inl at
+  keeps next (inr r) = inr (r.0, in_left r.0 own (m ∷ []) r.1, r.2)
+
+  pub one_empty : (next : ℕ) → IsNextStart horizon own next → IsEmpty m → IsNextStart horizon (own ++ m ∷ []) next
+  one_empty next is none = record {
+    to_horizon = is.to_horizon;
+    late = All-push (NoneBelow next) own m is.late (λ k y h. absurd (none k y h));
+    least = keeps next is.least;
+  }
+
+  pub one_pending : (next tick : ℕ) → IsNextStart horizon own next → IsLeastTick m tick → IsNextStart horizon (own ++ m ∷ []) (min next tick)
+  one_pending next tick is at = record {
+    to_horizon = omega (arith, is.to_horizon);
+    late = All-push (NoneBelow (min next tick)) own m (later_all (min next tick) next (omega arith) is.late) (none_earlier m (min next tick) tick (omega arith) (from_least m tick at));
+    least = go (cases_lt tick next);
+  }
+    where
+      go : (tick < next) ⊎ (next ≤ tick) → (min next tick ≡ horizon) ⊎ ((set : Events) × IsIn set (own ++ m ∷ []) × IsLeastTick set (min next tick))
+      go (inl less) = inr (m, in_right m own (m ∷ []) (inl refl), subst (IsLeastTick m) (omega (arith, less)) at)
+      go (inr more) = subst (λ n. (n ≡ horizon) ⊎ ((set : Events) × IsIn set (own ++ m ∷ []) × IsLeastTick set n)) (omega (arith, more)) (keeps next is.least)
 
 -- ---- the least tick
 
-first_at : (tick : ℕ) (xs ys : List Event) → SomeAt tick xs → SomeAt tick (xs ++ ys)
-first_at tick [] ys h = absurd h
-first_at tick (x ∷ xs) ys (inl e) = inl e
-first_at tick (x ∷ xs) ys (inr h) = inr (first_at tick xs ys h)
+earlier_three : (a b c : Option ℕ) → earlier_of a (earlier_of b c) ≡ earlier_of (earlier_of a b) c
+earlier_three None b c = refl
+earlier_three (Some a) None c = refl
+earlier_three (Some a) (Some b) None = refl
+earlier_three (Some a) (Some b) (Some c) = ap Some (omega arith)
 
-last_at : (tick : ℕ) (xs ys : List Event) → SomeAt tick ys → SomeAt tick (xs ++ ys)
-last_at tick [] ys h = h
-last_at tick (x ∷ xs) ys h = inr (last_at tick xs ys h)
-
--- from an earlier tick
-from_earlier : (a b : ℕ) → a ≤ b → (es : List Event) → AreFrom b es → AreFrom a es
-from_earlier a b le es h = weaker (λ (e : Event). b ≤ e.0.tick) (λ e. a ≤ e.0.tick) (λ e l. omega (arith, l, le)) es h
-
--- the soonest of two lists together
-pub soonest_both : (xs ys : List Event) (a b : Option ℕ) → IsSoonestOf xs a → IsSoonestOf ys b → IsSoonestOf (xs ++ ys) (earlier_of a b)
-soonest_both xs ys None b h k = subst (λ zs. IsSoonestOf (zs ++ ys) b) (sym h) k
-soonest_both xs ys (Some a) None h k = subst (λ zs. IsSoonestOf zs (Some a)) (sym (append-nil xs) ∙ ap (λ zs. xs ++ zs) (sym k)) h
-soonest_both xs ys (Some a) (Some b) h k = (
-  both (λ (e : Event). min a b ≤ e.0.tick) xs ys (from_earlier (min a b) a (omega arith) xs h.0) (from_earlier (min a b) b (omega arith) ys k.0),
-  go (cases_lt a b),
-)
-  where
-    go : (a < b) ⊎ (b ≤ a) → SomeAt (min a b) (xs ++ ys)
-    go (inl less) = subst (λ t. SomeAt t (xs ++ ys)) (omega (arith, less)) (first_at a xs ys h.1)
-    go (inr more) = subst (λ t. SomeAt t (xs ++ ys)) (omega (arith, more)) (last_at b xs ys k.1)
-
-pub soonest_one : (e : Event) → IsSoonestOf (e ∷ []) (Some e.0.tick)
-soonest_one e = ((omega arith, tt), inl refl)
-
-pub soonest_more : (es : List Event) (e : Event) (next : Option ℕ) → IsSoonestOf es next → IsSoonestOf (es ++ e ∷ []) (earlier_of next (Some e.0.tick))
-soonest_more es e next h = soonest_both es (e ∷ []) next (Some e.0.tick) h (soonest_one e)
+pub tick_more : (es : List Event) (e : Event) → first_tick (es ++ e ∷ []) ≡ earlier_of (first_tick es) (Some e.0.tick)
+tick_more [] e = refl
+tick_more (x ∷ es) e = ap (earlier_of (Some x.0.tick)) (tick_more es e) ∙ earlier_three (Some x.0.tick) (first_tick es) (Some e.0.tick)
 
 -- of letters
-pub soonest_events : (xs : List Letter) → IsSoonestOf (map event_of xs) (soonest_in xs)
-soonest_events [] = refl
-soonest_events (x ∷ xs) = soonest_both (event_of x ∷ []) (map event_of xs) (Some x.key.tick) (soonest_in xs) (soonest_one (event_of x)) (soonest_events xs)
-
--- what has joined is there
-joined_keeps : (es : List Event) (m : Events) (k : Key) (y : StepInput) → Has m k y → (z : StepInput) × Has (joined m es) k z
-joined_keeps [] m k y h = (y, h)
-joined_keeps (e ∷ es) m k y h = let now = there (same_or_not k e.0) in joined_keeps es (events.insert m e.0 e.1) k now.0 now.1
-  where
-    there : (k ≡ e.0) ⊎ (k ≢ e.0) → (z : StepInput) × Has (events.insert m e.0 e.1) k z
-    there (inl s) = (e.1, subst (λ q. Has (events.insert m e.0 e.1) q e.1) (sym s) (insert_at m e.0 e.1))
-    there (inr n) = (y, insert_other m e.0 e.1 k n ∙ h)
+pub tick_of_letters : (xs : List Letter) → first_tick (map event_of xs) ≡ soonest_in xs
+tick_of_letters [] = refl
+tick_of_letters (x ∷ xs) = ap (earlier_of (Some x.key.tick)) (tick_of_letters xs)
 
 -- an event of the tick is there, and none is below it
 least_at : (m : Events) (t : ℕ) (k : Key) (y : StepInput) → Has m k y → k.tick ≡ t → ((q : Key) (z : StepInput) → Has m q z → t ≤ q.tick) → IsLeastTick m t
@@ -85,12 +76,6 @@ least_at m t k y there at low = go (least_below (k.tick + 1) m)
     go : NoneBelow (k.tick + 1) m ⊎ ((l : Key) × (x : StepInput) × IsLeast m l x × (l.tick < k.tick + 1)) → IsLeastTick m t
     go (inl none) = let far = none k y there in absurd (omega (arith, far))
     go (inr l) = let below = l.3 in let above = low l.0 l.1 l.2.there in (l.0, l.1, l.2, omega (arith, below, above, at))
-
--- an event of a tick
-at_tick : (tick : ℕ) (es : List Event) (m : Events) → SomeAt tick es → (k : Key) × (z : StepInput) × Has (joined m es) k z × (k.tick ≡ tick)
-at_tick tick [] m h = absurd h
-at_tick tick (e ∷ es) m (inl is) = let r = joined_keeps es (events.insert m e.0 e.1) e.0 e.1 (insert_at m e.0 e.1) in (e.0, r.0, r.1, is)
-at_tick tick (e ∷ es) m (inr h) = at_tick tick es (events.insert m e.0 e.1) h
 
 pub of_list : (P : Key → Type 0) (es : List Event) → AllByRecursion (λ e. P e.0) es → (k : Key) (y : StepInput) → IsIn (k, y) es → P k
 of_list P [] all k y i = absurd i
@@ -106,22 +91,38 @@ module _ (m : Events) (es : List Event) where
       go (inl i) = of_list P es new k y i
       go (inr there) = old k y there
 
-  -- the least tick of both
-  pub least_both : (a b : Option ℕ) → MatchOption a (IsEmpty m) (λ tick. IsLeastTick m tick) → IsSoonestOf es b → MatchOption (earlier_of a b) (IsEmpty (joined m es)) (λ tick. IsLeastTick (joined m es) tick)
-  least_both None None h k = subst (λ zs. IsEmpty (joined m zs)) (sym k) h
-  least_both (Some a) None h k = subst (λ zs. IsLeastTick (joined m zs) a) (sym k) h
-  least_both None (Some b) h k =
-      let r = at_tick b es m k.1 in
-      least_at (joined m es) b r.0 r.1 r.2 r.3 (of_joined (λ q. b ≤ q.tick) (λ q y there. absurd (h q y there)) k.0)
-  least_both (Some a) (Some b) h k = go (cases_lt a b)
+-- the least tick of a set, with one event more and with several
+module _ (m : Events) (e : Event) where
+  kept : (k : Key) (y : StepInput) → Has m k y → (z : StepInput) × Has (events.insert m e.0 e.1) k z
+  kept k y h = there (same_or_not k e.0)
     where
-      go : (a < b) ⊎ (b ≤ a) → IsLeastTick (joined m es) (min a b)
+      there : (k ≡ e.0) ⊎ (k ≢ e.0) → (z : StepInput) × Has (events.insert m e.0 e.1) k z
+      there (inl s) = (e.1, subst (λ q. Has (events.insert m e.0 e.1) q e.1) (sym s) (insert_at m e.0 e.1))
+      there (inr n) = (y, insert_other m e.0 e.1 k n ∙ h)
+
+  -- where none is earlier
+  of_both : (t : ℕ) → ((q : Key) (y : StepInput) → Has m q y → t ≤ q.tick) → t ≤ e.0.tick → (q : Key) (y : StepInput) → Has (events.insert m e.0 e.1) q y → t ≤ q.tick
+  of_both t old new = of_joined m (e ∷ []) (λ q. t ≤ q.tick) old (new, tt)
+
+  least_insert : (a : Option ℕ) → MatchOption a (IsEmpty m) (λ t. IsLeastTick m t) → MatchOption (earlier_of a (Some e.0.tick)) (IsEmpty (events.insert m e.0 e.1)) (λ t. IsLeastTick (events.insert m e.0 e.1) t)
+  least_insert None none = least_at _ e.0.tick e.0 e.1 (insert_at m e.0 e.1) refl (of_both e.0.tick (λ q y there. absurd (none q y there)) (omega arith))
+  least_insert (Some a) least = go (cases_lt a e.0.tick)
+    where
+      go : (a < e.0.tick) ⊎ (e.0.tick ≤ a) → IsLeastTick (events.insert m e.0 e.1) (min a e.0.tick)
       go (inl less) =
-          let r = joined_keeps es m h.0 h.1 h.2.there in
-          subst (IsLeastTick (joined m es)) (omega (arith, less)) (least_at (joined m es) a h.0 r.0 r.1 h.3 (of_joined (λ q. a ≤ q.tick) (from_least m a h) (from_earlier a b (omega (arith, less)) es k.0)))
+          let k = kept least.0 least.1 least.2.there in
+          subst (IsLeastTick (events.insert m e.0 e.1)) (omega (arith, less)) (least_at _ a least.0 k.0 k.1 least.3 (of_both a (from_least m a least) (omega (arith, less))))
       go (inr more) =
-          let r = at_tick b es m k.1 in
-          subst (IsLeastTick (joined m es)) (omega (arith, more)) (least_at (joined m es) b r.0 r.1 r.2 r.3 (of_joined (λ q. b ≤ q.tick) (λ q y there. let far = from_least m a h q y there in omega (arith, far, more)) k.0))
+          subst (IsLeastTick (events.insert m e.0 e.1)) (omega (arith, more)) (least_at _ e.0.tick e.0 e.1 (insert_at m e.0 e.1) refl
+          (of_both e.0.tick (λ q y there. let far = from_least m a least q y there in omega (arith, far, more)) (omega arith)))
+
+pub least_joined : (es : List Event) (m : Events) (a : Option ℕ) → MatchOption a (IsEmpty m) (λ t. IsLeastTick m t) → MatchOption (earlier_of a (first_tick es)) (IsEmpty (joined m es)) (λ t. IsLeastTick (joined m es) t)
+least_joined [] m None h = h
+least_joined [] m (Some a) h = h
+least_joined (e ∷ es) m a h =
+    let n : Events = events.insert m e.0 e.1 in
+    subst (λ o. MatchOption o (IsEmpty (joined n es)) (λ t. IsLeastTick (joined n es) t)) (sym (earlier_three a (Some e.0.tick) (first_tick es)))
+    (least_joined es n (earlier_of a (Some e.0.tick)) (least_insert m e a h))
 
 -- ---- an event below the tick from which others are
 
@@ -202,10 +203,14 @@ joined_moved m xs ys same one =
     same_events (joined m (map event_of xs)) (joined m (map event_of ys)) (λ k y. moved_has m k y xs ys one to back)
     (λ k y. moved_has m k y ys xs (λ x z i j e. one x z (back x i) (back z j) e) back to)
 
--- no letter becomes no event
-pub no_letter : (xs : List Letter) → map event_of xs ≡ [] → xs ≡ []
+-- where there is no least tick there is no letter
+pub no_letter : (xs : List Letter) → soonest_in xs ≡ None → xs ≡ []
 no_letter [] e = refl
-no_letter (x ∷ xs) e = absurd (omega (arith, ap length e))
+no_letter (x ∷ xs) e = some (soonest_in xs) e
+  where
+    some : (o : Option ℕ) → earlier_of (Some x.key.tick) o ≡ None → x ∷ xs ≡ []
+    some None h = cc
+    some (Some t) h = cc
 
 -- ---- events are parted
 

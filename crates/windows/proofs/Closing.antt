@@ -1,58 +1,14 @@
 -- What the processes of a window make of a stage, and what the closing of the window leaves.
-use Rattle.std.proofs.Common.{◌≡◌, ◌⊎◌, ◌↔◌, ℕ, zero, suc, ◌+◌, ◌-◌, ◌*◌, ◌<◌, ◌≤◌, inl, inr, refl, sym, ap, ◌∙◌, subst, List, [], ◌∷◌, ◌++◌, Some, length, map, slice_get, arith, append_assoc, append-nil, length-append, Bool, true, false, cond, not, nat_eq}
-use Rattle.std.specs.Prelude.{IsTrue}
+use Rattle.windows.proofs.Words.{◌≡◌, ◌⊎◌, ◌↔◌, ℕ, zero, suc, ◌+◌, ◌-◌, ◌*◌, ◌<◌, ◌≤◌, inl, inr, refl, sym, ap, ◌∙◌, subst, List, [], ◌∷◌, ◌++◌, Some, length, map, slice_get, arith, append_assoc, append-nil, length-append, Bool, true, false, cond, not, nat_eq, IsTrue, All, slice_get_within, get_or_from_slice_get, length-map, length-filter_both, All-append, All-weaker, length_permutation, Contains-permutation, IsPermutation-sym, most_step_actions, EntryRecord, Mind, is_rising, Key, Letter, StepInput, IsInRange, Record, IsIn, Pair, pairs_of, IsLeastTick, setting_of, process_of, own_of, IsSeated, Setting, IsSound, IsProcess, Event, Events, Process, World, IsWorld, Has, NoneBelow, Run, taken, joined, entries, opening_process, IsTrace, closed_of_run, reached_next, reached_end, run_exists, one_run, joined_cases, one_input, same_Some, setting_sound, list_of, all_of, AreDisjoint, event_of, IsBerth, StageRecord, Act, StandsFor, IsRun, end_of, first_status, IsMerge, of_process, stage_of, AreHome, IsStageAfter, IsClosed, IsNextStart, IsWindowRun, BerthRun, IsPosted, AreBerths, IsSameStage, AreOne, Stay, IsReady, IsStay, HasLong, IsOutcome, RiseBy, Berth, Stage, in_map, map_in, joined_back, run_on, one_merge, h_stands, berths_run}
 use Rattle.std.specs.FinMap as finmap
-use Rattle.std.specs.List.{All}
-use Rattle.std.proofs.lemmas.Option.{slice_get_within, get_or_from_slice_get}
-use Rattle.std.proofs.lemmas.List.{length-map}
-use Rattle.std.proofs.lemmas.List.Filters.{length-filter_both}
-use Rattle.std.proofs.lemmas.List.Elements.{All-append, All-weaker}
-use Rattle.std.proofs.lemmas.List.Sorted.{length_permutation, Contains-permutation, IsPermutation-sym}
-use Rattle.process_api.specs.Bounds.{most_step_actions}
-use Rattle.process_api.specs.EntryRecord.{EntryRecord}
-use Rattle.process_api.specs.Mind.{Mind}
-use Rattle.process_api.specs.Order.{key_cmp, is_rising}
-use Rattle.process_api.specs.declared.key.Key.{Key}
-use Rattle.process_api.specs.declared.message.Letter.{Letter}
-use Rattle.process_api.specs.declared.message.StepInput.{StepInput}
-use Rattle.scenario_record.specs.Ranges.{IsInRange}
-use Rattle.scenario_record.specs.Record.{Record}
-use Rattle.trace_laws.specs.History.{IsIn, Pair, pairs_of}
-use Rattle.pending_events.specs.Pending.{IsLeastTick}
-use Rattle.trace_laws.specs.ScenarioSetting.{setting_of}
-use Rattle.steps.specs.Seat.{process_of, own_of, IsSeated}
-use Rattle.trace_laws.specs.Setting.{Setting, IsSound, IsProcess}
 use Rattle.trace_laws.specs.Reached.{IsReached}
-use Rattle.trace_laws.specs.Step.{Event, Events, Process}
-use Rattle.trace_laws.specs.World.{World, IsWorld, Has, NoneBelow, Run, taken, joined, entries, opening_process, IsTrace}
-use Rattle.trace_laws.proofs.Closed.{closed_of_run}
 use Rattle.trace_laws.proofs.Pairs.{in_pairs}
-use Rattle.trace_laws.proofs.Reaching.{reached_next, reached_end}
 use Rattle.trace_laws.proofs.Rising.{IsRising, rising_pairs, rising_entries}
-use Rattle.trace_laws.proofs.Runs.{run_exists, one_run}
-use Rattle.trace_laws.proofs.Sets.{joined_cases, one_input, not_None, same_Some}
-use Rattle.trace_laws.proofs.Sound.{setting_sound}
-use Rattle.mailboxes.specs.Mailboxes.{list_of}
-use Rattle.trace_merge.specs.Parts.{all_of, AreDisjoint}
-use Rattle.trace_laws.specs.Taken.{event_of}
-use Rattle.windows.specs.Berth.{IsBerth}
-use Rattle.window_laws.specs.Machine.{StageRecord, Act, StandsFor, IsRun, end_of, first_status}
-use Rattle.window_laws.specs.Theorems.{IsMerge}
-use Rattle.windows.specs.Stage.{of_process, stage_of, AreHome, IsStageAfter, IsClosed, IsNextStart, IsWindowRun}
-use Rattle.window_laws.specs.Window.{BerthRun, IsPosted, AreBerths, IsSameStage}
-use Rattle.windows.specs.Inside.Agenda.{AreOne}
-use Rattle.windows.specs.Inside.Workers.{Stay, IsReady, IsStay, HasLong, IsOutcome, RiseBy}
-use Rattle.windows.specs.declared.berth.Berth.{Berth}
-use Rattle.windows.specs.declared.stage.Stage.{Stage}
-use Rattle.window_laws.proofs.Family.{is_or_not}
 use Rattle.window_laws.proofs.Outcome.{IsWhole, whole, own_run, pairs_are, rest_in, letter_in}
-use Rattle.window_laws.proofs.Unions.{in_map, map_in, joined_back}
-use Rattle.window_laws.proofs.Whole.{run_on, one_merge}
-use Rattle.window_laws.proofs.Together.{h_stands, berths_run}
-use Rattle.windows.proofs.Places.{there, there_map, from_map, place_in, same_at, at_index, before_suc, by_place, at_nobody, at_delivered, all_at, all_place, disjoint_from, no_more, in_all, all_in, part_few, in_place}
+use Rattle.steps.specs.declared.seat.Seat.{Seat}
+use Rattle.windows.proofs.Places.{there, there_map, from_map, place_in, same_at, at_index, before_suc, by_place, each_process, no_event, at_nobody, at_delivered, all_at, all_place, disjoint_from, no_more, in_all, all_in, part_few, in_place}
 use Rattle.windows.proofs.Cut.{run_before}
-use Rattle.windows.proofs.Members.{contains_in, in_contains}
-use Rattle.windows.proofs.Ranked.{rises_counted}
+use Rattle.windows.proofs.Ranked.{contains_in, in_contains, rises_counted}
 
 pairs_rise : (p : ℕ) (l : List Pair) → IsRising l → IsRising (pairs_of p l)
 pairs_rise p [] r = tt
@@ -93,19 +49,15 @@ module _ {Mind : Type 0} (S : Setting Mind) where
       omega (arith, n, m, length-append was.history (list ++ more.0), length-append list more.0)
 
 -- what put at most so much on each link put at most more
-more_put : {M : Type 0} (mind : M → Mind) (s : Record) (p less more : ℕ) (b : Berth M) → less ≤ more → IsBerth mind s p less b → IsBerth mind s p more b
-more_put mind s p less more b le is = record {
-  seated = record {
-    low = is.seated.low;
-    high = is.seated.high;
-    is_mind = is.seated.is_mind;
-    horizon = is.seated.horizon;
-    crash = is.seated.crash;
-    places = is.seated.places;
-    counts = λ q. omega (arith, is.seated.counts q, le);
-  };
-  is = is.is;
-  own = is.own;
+more_put : {M : Type 0} (mind : M → Mind) (s : Record) (less more : ℕ) (seat : Seat M) → less ≤ more → IsSeated mind s less seat → IsSeated mind s more seat
+more_put mind s less more seat le is = record {
+  low = is.low;
+  high = is.high;
+  is_mind = is.is_mind;
+  horizon = is.horizon;
+  crash = is.crash;
+  places = is.places;
+  counts = λ q. omega (arith, is.counts q, le);
 }
 
 module _ {M : Type 0} (mind : M → Mind) (old : Stage M) (ranges : IsInRange old.scenario.now) (trace_so_far : List EntryRecord) (is : IsStageAfter mind trace_so_far old) where
@@ -134,7 +86,9 @@ module _ {M : Type 0} (mind : M → Mind) (old : Stage M) (ranges : IsInRange ol
   part_at i b at = sym (at_index i (map (λ z. z.part.items) olds) b.part.items [] (there_map (λ z. z.part.items) olds i b at)) ∙ (is.stands 0).part (suc i)
 
   pub stage_ready : All (IsReady mind s) olds
-  stage_ready = all_at (IsReady mind s) olds (λ i b at. ((suc i, more_put mind s (suc i) _ _ b (omega (arith, is.within, ranges.limit_high)) (berth_at i b at)), part_at i b at))
+  stage_ready = all_at (IsReady mind s) olds (λ i b at.
+      let home = berth_at i b at in
+      ((suc i, record { seated = more_put mind s _ _ b.seat (omega (arith, is.within, ranges.limit_high)) home.seated; is = home.is; own = home.own }), part_at i b at))
 
   pub stage_rises : RiseBy (λ (b : Berth M). own_of mind b.seat) olds
   stage_rises = rises_counted (λ (b : Berth M). own_of mind b.seat) 1 olds (λ i b at. (berth_at i b at).is ∙ omega arith)
@@ -389,22 +343,13 @@ module _ {M : Type 0} (mind : M → Mind) (old : Stage M) (ranges : IsInRange ol
             go (inl r) = left_in p own k y r
             go (inr u) = (posted_in u.0 u.1 k y u.2, u.3)
 
-        no_event : (k : Key) (y : StepInput) → Has finmap.empty k y → ⊥
-        no_event k y i = not_None y (sym (finmap.get-empty key_cmp k) ∙ i)
-
         same_horizon : new.scenario.now.horizon ≡ S.horizon
         same_horizon = ap (λ (r : Record). r.horizon) same_scenario
 
         -- nothing is pending before the next window, which isn't before the end of this one
         none_late : (p : ℕ) → NoneBelow new.start (h.own p)
-        none_late p k y i = go (is_or_not S p)
-          where
-            go : IsProcess S p ⊎ ¬ (IsProcess S p) → new.start ≤ k.tick
-            go (inl own) = by_place s.processes (λ p. Has (h.own p) k y → new.start ≤ k.tick) (λ j inside m.
-                let r = row j inside in
-                let here = there_map (λ b. b.pending) berths j r.1 r.3.berth in
-                all_place (NoneBelow new.start) (map (λ b. b.pending) berths) closed.start.late j r.1.pending here k y (subst (λ e. Has e k y) (at_index j _ r.1.pending finmap.empty here) m)) p own i
-            go (inr not) = absurd (no_event k y (subst (λ m. Has m k y) (nobody (λ b. b.pending) finmap.empty p not) i))
+        none_late = each_process (λ b. b.pending) finmap.empty (NoneBelow new.start) berths
+            (λ i b at. all_place (NoneBelow new.start) (map (λ z. z.pending) berths) closed.start.late i b.pending (there_map (λ z. z.pending) berths i b at)) (λ k y m. absurd (no_event k y m))
 
         from_end : end ≤ new.start
         from_end = go closed.start.least
@@ -423,11 +368,7 @@ module _ {M : Type 0} (mind : M → Mind) (old : Stage M) (ranges : IsInRange ol
             go (inr r) = pending_at r.0 r.1 r.2
 
         new_part : (p : ℕ) → h.part p ≡ []
-        new_part p = go (is_or_not S p)
-          where
-            go : IsProcess S p ⊎ ¬ (IsProcess S p) → h.part p ≡ []
-            go (inl own) = by_place s.processes (λ p. h.part p ≡ []) (λ i inside. let r = row i inside in at_index i _ r.1.part.items [] (there_map (λ b. b.part.items) berths i r.1 r.3.berth) ∙ r.3.part) p own
-            go (inr not) = nobody (λ b. b.part.items) [] p not
+        new_part = each_process (λ b. b.part.items) [] (λ l. l ≡ []) berths (all_place (λ z. z.part.items ≡ []) berths closed.parts) refl
 
         are_berths : AreBerths S window g (λ p. pairs_of p list) rest events_of h
         are_berths = record {
@@ -492,15 +433,8 @@ module _ {M : Type 0} (mind : M → Mind) (old : Stage M) (ranges : IsInRange ol
                   r.1,
                   subst (λ n. slice_get berths n ≡ Some r.1) (sym (before_suc i)) r.3.berth,
                   record {
-                    seated = subst (λ z. IsSeated mind s (most_step_actions * new.so_far + most_step_actions * length r.1.part.items) z) (sym r.3.seat) (record {
-                      low = was.seated.low;
-                      high = was.seated.high;
-                      is_mind = was.seated.is_mind;
-                      horizon = was.seated.horizon;
-                      crash = was.seated.crash;
-                      places = was.seated.places;
-                      counts = λ q. omega (arith, was.seated.counts q, more);
-                    });
+                    seated = subst (IsSeated mind s (most_step_actions * new.so_far + most_step_actions * length r.1.part.items)) (sym r.3.seat)
+                        (more_put mind s _ _ r.0.after.seat (omega (arith, more)) was.seated);
                     is = ap (own_of mind) r.3.seat ∙ was.is;
                     own = λ k y m. (own_in (suc i) (own_at i inside) k y (subst (λ e. Has e k y) (sym (at_index i _ r.1.pending finmap.empty (there_map (λ b. b.pending) berths i r.1 r.3.berth))) m)).1;
                   },

@@ -1,25 +1,6 @@
 -- What the list does before a tick, and what it does from there on.
-use Rattle.std.proofs.Common.{◌≡◌, ◌≢◌, ◌⊎◌, ℕ, ◌<◌, ◌≤◌, inl, inr, List, [], ◌∷◌, ◌++◌, sym, ap, ◌∙◌, subst, arith, Result, Ok, Err, IfErr, IsErrOf}
-use Rattle.std.specs.List.{All}
-use Rattle.std.proofs.lemmas.List.{map-append}
-use Rattle.std.proofs.lemmas.List.Elements.{All-nil, All-cons}
-use Rattle.process_api.specs.EntryRecord.{EntryRecord}
-use Rattle.process_api.specs.declared.key.Key.{Key}
-use Rattle.process_api.specs.declared.message.StepInput.{StepInput}
-use Rattle.process_api.specs.declared.run_error.RunError.{RunError}
-use Rattle.process_api.specs.declared.run_error.RunError.TheVariants.{Limit, Spawn}
-use Rattle.scenario_record.specs.Ranges.{IsInRange}
-use Rattle.scenario_record.specs.Record.{Record}
-use Rattle.process_api.specs.Mind.{Mind}
-use Rattle.trace_laws.specs.History.{IsIn, Pair}
-use Rattle.trace_laws.specs.ScenarioSetting.{setting_of}
-use Rattle.trace_laws.specs.Setting.{Setting, IsSound}
-use Rattle.trace_laws.specs.World.{World, IsWorld, Has, NoneBelow, Run, made, taken, entries, IsTrace}
-use Rattle.trace_laws.proofs.Sound.{setting_sound}
+use Rattle.windows.proofs.Words.{◌≡◌, ◌≢◌, ◌⊎◌, ℕ, ◌<◌, ◌≤◌, inl, inr, List, [], ◌∷◌, ◌++◌, sym, ap, ◌∙◌, subst, arith, Result, Ok, Err, IfErr, IsErrOf, All, map-append, All-nil, All-cons, EntryRecord, Key, StepInput, RunError, Limit, Spawn, IsInRange, Record, Mind, IsIn, Pair, setting_of, Setting, IsSound, World, IsWorld, Has, NoneBelow, Run, made, taken, entries, IsTrace, setting_sound, IsRefusalOfSink, IsStageAfter, Stage}
 use Rattle.trace_laws.proofs.Worlds.{taken_cases, made_sent, taken_world}
-use Rattle.windows.specs.Sink.{IsRefusalOfSink}
-use Rattle.windows.specs.Stage.{IsStageAfter}
-use Rattle.windows.specs.declared.stage.Stage.{Stage}
 
 module _ {Mind : Type 0} (S : Setting Mind) where
   -- what is taken below a tick is of a tick before it

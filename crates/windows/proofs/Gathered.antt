@@ -1,30 +1,9 @@
 -- What is brought together after a window.
-use Rattle.std.proofs.Common.{◌≡◌, ◌⊎◌, ◌↔◌, ℕ, zero, suc, ◌-◌, ◌<◌, ◌≤◌, inl, inr, List, [], ◌∷◌, ◌++◌, length, map, replicate, set, get_or, refl, sym, ap, ◌∙◌, subst, append_assoc, append-nil, arith}
-use Rattle.std.specs.List.{All, swap}
-use Rattle.std.specs.List.Sorted.{IsPermutation, IsNonDecreasingBy, apply_swaps, SwapsInRange}
+use Rattle.windows.proofs.Words.{◌≡◌, ◌⊎◌, ◌↔◌, ℕ, zero, suc, ◌-◌, ◌<◌, ◌≤◌, inl, inr, List, [], ◌∷◌, ◌++◌, length, map, replicate, set, get_or, refl, sym, ap, ◌∙◌, subst, append_assoc, append-nil, arith, cond, filter, ⊎_elim, All, swap, IsPermutation, IsNonDecreasingBy, apply_swaps, SwapsInRange, cases_eq, eq-eqb, ne_eqb, eqb-true, map-append, map-set, length-map, length-set, length-replicate, get_or-set_other, get_or-map, get_or-replicate, flat_map-append, All-nil, All-push, All-append, All-map, All-take, All-drop, Contains-append_left, filter-append, IsPermutation-refl, IsPermutation-trans, IsPermutation-sym, IsPermutation-middle, IsPermutation-append, IsPermutation-append_left, IsPermutation-push_more, IsPermutation-map, All-permutation, Contains-permutation, Mind, Letter, Record, MailboxId, SlipView, IsSlipOf, unused, filed, list_of, posted_to, IsIn, own_of, NoneBelow, in_filter, filter_in, in_append, in_left, in_right, all_filed, with_letters, DequeId, RestView, all_put, Stay, stay, taken_in, is_to, sent_in, IsSent, IsStay, IsReady, IsFresh, AreRunBy, AreRun, IsRest, HasLong, IsOutcome, RiseBy, Start, Berth, slip_of, HandView, TookOne, IsWork}
 use Rattle.std.proofs.Math.Seq.{take-append_seam, drop-append_seam}
-use Rattle.std.proofs.lemmas.Bool.{cases_eq}
 use Rattle.std.proofs.lemmas.Grind.{get_or-set_at}
-use Rattle.std.proofs.lemmas.List.{map-append, map-set, length-map, length-set, length-replicate, get_or-set_other, get_or-map}
-use Rattle.std.proofs.lemmas.List.Concat.{flat_map-append}
-use Rattle.std.proofs.lemmas.List.Elements.{All-nil, All-cons, All-append, All-map, All-take, All-drop, Contains-append_left}
-use Rattle.std.proofs.lemmas.List.Sorted.{IsPermutation-refl, IsPermutation-trans, IsPermutation-sym, IsPermutation-middle, IsPermutation-append_left, IsPermutation-append_right, IsPermutation-push_more, IsPermutation-map, All-permutation, Contains-permutation}
-use Rattle.process_api.specs.Mind.{Mind}
-use Rattle.process_api.specs.declared.message.Letter.{Letter}
-use Rattle.scenario_record.specs.Record.{Record}
-use Rattle.mailboxes.specs.Mailbox.{MailboxId}
-use Rattle.mailboxes.specs.Mailboxes.{SlipView, IsSlipOf, unused, filed, list_of, posted_to}
-use Rattle.trace_laws.specs.History.{IsIn}
-use Rattle.steps.specs.Seat.{own_of}
-use Rattle.trace_laws.specs.World.{NoneBelow}
-use Rattle.window_laws.proofs.Unions.{iff_join}
-use Rattle.windows.proofs.Ranked.{in_permutation, rises_same, sorted_is}
-use Rattle.trace_laws.proofs.Steps.{in_append, in_left, in_right}
-use Rattle.windows.specs.Berth.{all_filed, with_letters}
-use Rattle.deques.specs.Deques.{DequeId, RestView, all_put}
-use Rattle.windows.specs.Inside.Workers.{Stay, stay, taken_in, left_in, all_stays, with_stays, IsSent, IsStay, IsReady, IsFresh, AreRunBy, AreWorks, AreRun, IsRest, HasLong, IsOutcome, RiseBy}
-use Rattle.windows.specs.declared.workers.Start.{Start}
-use Rattle.windows.specs.declared.berth.Berth.{Berth}
+use Rattle.windows.proofs.Ranked.{in_permutation, same_order, sorted_is}
+use Rattle.windows.proofs.Letters.{filed_more}
 
 -- ---- who waits
 
@@ -37,49 +16,6 @@ module _ {X : Type 0} where
   pub one_idle : (ys put idle idle' : List X) (b : X) → IsPermutation ys (put ++ idle) → idle' ≡ idle ++ b ∷ [] → IsPermutation (ys ++ b ∷ []) (put ++ idle')
   one_idle ys put idle idle' b same is =
       subst (IsPermutation (ys ++ b ∷ [])) (append_assoc put idle (b ∷ []) ∙ ap (λ l. put ++ l) (sym is)) (IsPermutation-append_left (b ∷ []) _ _ same)
-
--- ---- works are brought together
-
-module _ {M : Type 0} (mind : M → Mind) (s : Record) (end : ℕ) (mailboxes : List MailboxId) where
-  pub works_none : (taken done : List (Berth M)) (slips : List SlipView) → taken ≡ [] → done ≡ [] → slips ≡ [] → AreWorks mind s end mailboxes taken done slips
-  works_none taken done slips t d p = record { stays = []; each = All-nil (IsStay mind s end); taken_are = subst (IsPermutation []) (sym t) (IsPermutation-refl []); done_are = sym d; posted = sym p }
-
-  pub works_more : (slip : SlipView) (mine ran taken taken' done done' : List (Berth M)) (slips slips' : List SlipView)
-      → AreWorks mind s end mailboxes taken done slips → AreRunBy mind s end mailboxes ran slip mine
-      → IsPermutation (taken ++ ran) taken' → done' ≡ done ++ mine → slips' ≡ slips ++ slip ∷ [] → AreWorks mind s end mailboxes taken' done' slips'
-  works_more slip mine ran taken taken' done done' slips slips' are work t d p =
-      let flat : all_stays (are.stays ++ work.stays ∷ []) ≡ all_stays are.stays ++ work.stays =
-      flat_map-append (λ (l : List (Stay M)). l) are.stays (work.stays ∷ []) ∙ ap (λ l. all_stays are.stays ++ l) (append-nil work.stays) in
-      let both : IsPermutation (taken_in (all_stays are.stays) ++ taken_in work.stays) taken' =
-      IsPermutation-trans _ _ _ (IsPermutation-append_left (taken_in work.stays) _ _ are.taken_are) (IsPermutation-trans _ _ _ (IsPermutation-append_right taken _ _ work.taken_are) t) in
-      record {
-        stays = are.stays ++ work.stays ∷ [];
-        each = subst (All (IsStay mind s end)) (sym flat) (All-append (IsStay mind s end) (all_stays are.stays) work.stays are.each work.each);
-        taken_are = subst (λ l. IsPermutation l taken') (sym (ap taken_in flat ∙ map-append (λ (x : Stay M). x.before) (all_stays are.stays) work.stays)) both;
-        done_are = ap left_in flat ∙ map-append (λ (x : Stay M). x.after) (all_stays are.stays) work.stays ∙ (λ i. are.done_are i ++ work.done_are i) ∙ sym d;
-        posted = map-append (with_stays (unused mailboxes)) are.stays (work.stays ∷ []) ∙ (λ i. are.posted i ++ sym work.posted i ∷ []) ∙ sym p;
-      }
-
-  pub works_taken : (taken taken' done : List (Berth M)) (slips : List SlipView) → AreWorks mind s end mailboxes taken done slips → IsPermutation taken taken' → AreWorks mind s end mailboxes taken' done slips
-  works_taken taken taken' done slips are same = record { stays = are.stays; each = are.each; taken_are = IsPermutation-trans _ _ _ are.taken_are same; done_are = are.done_are; posted = are.posted }
-
--- ---- which letters the slips have
-
-iff_none : {A C : Type 0} → (C → ⊥) → A ↔ (A ⊎ C)
-iff_none {A} {C} none = ((λ a. inl a), back)
-  where
-    back : A ⊎ C → A
-    back (inl a) = a
-    back (inr c) = absurd (none c)
-
-none_there : (x : Letter) (n k : ℕ) → IsIn x (get_or (replicate n []) k []) → ⊥
-none_there x zero k i = absurd i
-none_there x (suc n) zero i = absurd i
-none_there x (suc n) (suc k) i = none_there x n k i
-
-long_letters : (rows : List (List Letter)) (letters : List Letter) → length (all_filed rows letters) ≡ length rows
-long_letters rows [] = refl
-long_letters rows (y ∷ letters) = long_letters (filed rows y) letters ∙ length-set rows (y.key.receiver - 1) (list_of rows y.key.receiver ++ y ∷ [])
 
 all_of_map : {X Y : Type 0} (P : Y → Type 0) (f : X → Y) (xs : List X) → All P (map f xs) → All (λ x. P (f x)) xs
 all_of_map P f xs h k d lt = subst P (get_or-map f xs k d (f d) lt) (h k (f d) (subst (λ n. k < n) (sym (length-map xs f)) lt))
@@ -104,114 +40,83 @@ module _ {X Y : Type 0} (f : X → Y) where
   lifted : (xs : List X) (ys : List Y) → IsPermutation (map f xs) ys → (zs : List X) × IsPermutation xs zs × (map f zs ≡ ys)
   lifted xs ys p = (apply_swaps xs p.moves, record { moves = p.moves; below = subst (λ n. SwapsInRange n p.moves) (length-map xs f) p.below; is = refl }, map_swaps xs p.moves ∙ sym p.is)
 
--- runs together
-module _ {M : Type 0} (stays more : List (Stay M)) (r : ℕ) (x : Letter) where
-  sent_left : IsSent stays r x → IsSent (stays ++ more) r x
-  sent_left (t, i, j, to) = (t, in_left t stays more i, j, to)
+-- ---- which letters the slips have
 
-  sent_right : IsSent more r x → IsSent (stays ++ more) r x
-  sent_right (t, i, j, to) = (t, in_right t stays more i, j, to)
-
-  sent_split : IsSent (stays ++ more) r x → IsSent stays r x ⊎ IsSent more r x
-  sent_split (t, i, j, to) = go (in_append t stays more i)
+module _ (r : ℕ) where
+  one_filed : (rows : List (List Letter)) (y : Letter) → r - 1 < length rows → list_of (filed rows y) r ≡ list_of rows r ++ filter (is_to r) (y ∷ [])
+  one_filed rows y lt = go (cases_eq (r - 1) (y.key.receiver - 1))
     where
-      go : IsIn t stays ⊎ IsIn t more → IsSent stays r x ⊎ IsSent more r x
-      go (inl i) = inl (t, i, j, to)
-      go (inr i) = inr (t, i, j, to)
+      go : (r - 1 ≡ y.key.receiver - 1) ⊎ (r - 1 ≡ y.key.receiver - 1 → ⊥) → list_of (filed rows y) r ≡ list_of rows r ++ filter (is_to r) (y ∷ [])
+      go (inl e) = get_or-set_at rows (y.key.receiver - 1) (r - 1) (list_of rows y.key.receiver ++ y ∷ []) [] e (omega (arith, e, lt))
+          ∙ (λ i. get_or rows (sym e i) [] ++ cond (sym (eq-eqb (y.key.receiver - 1) (r - 1) (sym e)) i) (y ∷ []) [])
+      go (inr n) = get_or-set_other rows (y.key.receiver - 1) (r - 1) (list_of rows y.key.receiver ++ y ∷ []) [] n ∙ sym (append-nil (list_of rows r))
+          ∙ ap (λ b. list_of rows r ++ cond b (y ∷ []) []) (sym (ne_eqb (y.key.receiver - 1) (r - 1) (λ e. n (sym e))))
 
-module _ (x : Letter) where
-  in_both : (xs ys : List Letter) → IsIn x (xs ++ ys) ↔ (IsIn x xs ⊎ IsIn x ys)
-  in_both xs ys = (in_append x xs ys, back)
-    where
-      back : IsIn x xs ⊎ IsIn x ys → IsIn x (xs ++ ys)
-      back (inl i) = in_left x xs ys i
-      back (inr i) = in_right x xs ys i
+  all_filed_at : (rows : List (List Letter)) (letters : List Letter) → r - 1 < length rows → list_of (all_filed rows letters) r ≡ list_of rows r ++ filter (is_to r) letters
+  all_filed_at rows [] lt = sym (append-nil (list_of rows r))
+  all_filed_at rows (y ∷ letters) lt =
+      all_filed_at (filed rows y) letters (subst (λ n. r - 1 < n) (sym (length-set rows (y.key.receiver - 1) (list_of rows y.key.receiver ++ y ∷ []))) lt)
+      ∙ ap (λ l. l ++ filter (is_to r) letters) (one_filed rows y lt)
+      ∙ append_assoc (list_of rows r) (filter (is_to r) (y ∷ [])) (filter (is_to r) letters) ∙ ap (λ l. list_of rows r ++ l) (sym (filter-append (is_to r) (y ∷ []) letters))
 
-  in_row : (rows : List (List Letter)) (i k : ℕ) (y : Letter) → k < length rows → IsIn x (get_or (set rows i (get_or rows i [] ++ y ∷ [])) k []) ↔ (IsIn x (get_or rows k []) ⊎ ((x ≡ y) × (i ≡ k)))
-  in_row rows i k y lt = go (cases_eq k i)
-    where
-      one : k ≡ i → IsIn x (y ∷ []) → (x ≡ y) × (i ≡ k)
-      one e (inl same) = (same, sym e)
-      one e (inr none) = absurd none
+  -- by a slip that was unused before
+  posted_by : (mailboxes : List MailboxId) (letters : List Letter) → r - 1 < length mailboxes → list_of (with_letters (unused mailboxes) letters).posted r ≡ filter (is_to r) letters
+  posted_by mailboxes letters lt =
+      let n = length mailboxes in
+      all_filed_at (replicate n []) letters (omega (arith, lt, length-replicate {A = List Letter} n [])) ∙ ap (λ l. l ++ filter (is_to r) letters) (get_or-replicate n (r - 1) [] [] lt)
 
-      go : (k ≡ i) ⊎ (k ≡ i → ⊥) → IsIn x (get_or (set rows i (get_or rows i [] ++ y ∷ [])) k []) ↔ (IsIn x (get_or rows k []) ⊎ ((x ≡ y) × (i ≡ k)))
-      go (inl e) = subst (λ l. IsIn x l ↔ (IsIn x (get_or rows k []) ⊎ ((x ≡ y) × (i ≡ k)))) (sym (get_or-set_at rows i k (get_or rows i [] ++ y ∷ []) [] e (omega arith)))
-          (subst (λ j. IsIn x (get_or rows j [] ++ y ∷ []) ↔ (IsIn x (get_or rows k []) ⊎ ((x ≡ y) × (i ≡ k)))) e
-          (iff_join (in_both (get_or rows k []) (y ∷ [])) (iff_none (λ (never : ⊥). never)) (λ never. absurd never) (one e) (λ d. inr (inl d.0))))
-      go (inr n) = subst (λ l. IsIn x l ↔ (IsIn x (get_or rows k []) ⊎ ((x ≡ y) × (i ≡ k)))) (sym (get_or-set_other rows i k (get_or rows i [] ++ y ∷ []) [] n)) (iff_none (λ d. n (sym d.1)))
+  -- a letter of some runs to the receiver
+  module _ {M : Type 0} where
+    from_sent : (stays : List (Stay M)) (x : Letter) → IsIn x (sent_in stays) → (t : Stay M) × IsIn t stays × IsIn x t.letters
+    from_sent [] x i = absurd i
+    from_sent (t ∷ stays) x i = ⊎_elim (λ (j : IsIn x t.letters). (t, inl refl, j)) (λ (j : IsIn x (sent_in stays)). let s = from_sent stays x j in (s.0, inr s.1, s.2)) (in_append x t.letters (sent_in stays) i)
 
-  module _ (r : ℕ) where
-    in_letters : (rows : List (List Letter)) (letters : List Letter) → r - 1 < length rows
-        → IsIn x (list_of (all_filed rows letters) r) ↔ (IsIn x (list_of rows r) ⊎ (IsIn x letters × (x.key.receiver - 1 ≡ r - 1)))
-    in_letters rows [] lt = iff_none (λ e. e.0)
-    in_letters rows (y ∷ letters) lt =
-        iff_join (in_letters (filed rows y) letters (subst (λ n. r - 1 < n) (sym (length-set rows (y.key.receiver - 1) (list_of rows y.key.receiver ++ y ∷ []))) lt))
-        (in_row rows (y.key.receiver - 1) (r - 1) y lt)
-        (λ e. (inl e.0, ap (λ (z : Letter). z.key.receiver - 1) e.0 ∙ e.1)) (λ e. (inr e.0, e.1)) (λ e. split e.0 e.1)
-      where
-        split : (x ≡ y) ⊎ IsIn x letters → x.key.receiver - 1 ≡ r - 1 → ((x ≡ y) × (y.key.receiver - 1 ≡ r - 1)) ⊎ (IsIn x letters × (x.key.receiver - 1 ≡ r - 1))
-        split (inl e) to = inl (e, ap (λ (z : Letter). z.key.receiver - 1) (sym e) ∙ to)
-        split (inr i) to = inr (i, to)
+    to_sent : (stays : List (Stay M)) (t : Stay M) (x : Letter) → IsIn t stays → IsIn x t.letters → IsIn x (sent_in stays)
+    to_sent [] t x i j = absurd i
+    to_sent (u ∷ stays) t x (inl e) j = in_left x u.letters (sent_in stays) (subst (λ (v : Stay M). IsIn x v.letters) e j)
+    to_sent (u ∷ stays) t x (inr i) j = in_right x u.letters (sent_in stays) (to_sent stays t x i j)
 
-    module _ {M : Type 0} where
-      in_stays : (slip : SlipView) (stays : List (Stay M)) → r - 1 < length slip.posted → IsIn x (list_of (with_stays slip stays).posted r) ↔ (IsIn x (list_of slip.posted r) ⊎ IsSent stays r x)
-      in_stays slip [] lt = iff_none (λ (e : IsSent {M = M} [] r x). e.1)
-      in_stays slip (t ∷ stays) lt =
-          iff_join (in_stays (with_letters slip t.letters) stays (subst (λ n. r - 1 < n) (sym (long_letters slip.posted t.letters)) lt)) (in_letters slip.posted t.letters lt)
-          (λ e. (t, inl refl, e.0, e.1)) (sent_right (t ∷ []) stays r x) (λ e. apart (sent_split (t ∷ []) stays r x e))
-        where
-          apart : IsSent (t ∷ []) r x ⊎ IsSent stays r x → (IsIn x t.letters × (x.key.receiver - 1 ≡ r - 1)) ⊎ IsSent stays r x
-          apart (inl (u, inl e, j, to)) = inl (subst (λ (v : Stay M). IsIn x v.letters) e j, to)
-          apart (inl (u, inr none, j, to)) = absurd none
-          apart (inr e) = inr e
+    is_sent : (stays : List (Stay M)) (x : Letter) → IsIn x (filter (is_to r) (sent_in stays)) ↔ IsSent stays r x
+    is_sent stays x = (
+      (λ i. let f = in_filter (is_to r) x (sent_in stays) i in let s = from_sent stays x f.0 in (s.0, s.1, s.2, eqb-true _ _ f.1)),
+      (λ s. filter_in (is_to r) x (sent_in stays) (to_sent stays s.0 x s.1 s.2) (eq-eqb _ _ s.3)),
+    )
 
-      slips_step : (mailboxes : List MailboxId) → r - 1 < length mailboxes → (stays : List (Stay M)) (all : List (List (Stay M)))
-          → IsIn x (posted_to (map (with_stays (unused mailboxes)) all) r) ↔ IsSent (all_stays all) r x
-          → IsIn x (posted_to (map (with_stays (unused mailboxes)) (stays ∷ all)) r) ↔ IsSent (all_stays (stays ∷ all)) r x
-      slips_step mailboxes lt stays all rest = ((λ i. now (both.0 i)), (λ e. both.1 (inr e)))
-        where
-          later : IsSent stays r x ⊎ IsSent (all_stays all) r x → IsSent stays r x ⊎ IsIn x (posted_to (map (with_stays (unused mailboxes)) all) r)
-          later (inl e) = inl e
-          later (inr e) = inr (rest.1 e)
-
-          both : IsIn x (posted_to (map (with_stays (unused mailboxes)) (stays ∷ all)) r) ↔ (IsIn x (list_of (unused mailboxes).posted r) ⊎ IsSent (stays ++ all_stays all) r x)
-          both = iff_join (in_both (list_of (with_stays (unused mailboxes) stays).posted r) (posted_to (map (with_stays (unused mailboxes)) all) r))
-              (in_stays (unused mailboxes) stays (subst (λ n. r - 1 < n) (sym (length-replicate (length mailboxes) [])) lt))
-              (sent_left stays (all_stays all) r x) (λ i. sent_right stays (all_stays all) r x (rest.0 i)) (λ e. later (sent_split stays (all_stays all) r x e))
-
-          now : IsIn x (list_of (unused mailboxes).posted r) ⊎ IsSent (stays ++ all_stays all) r x → IsSent (stays ++ all_stays all) r x
-          now (inl i) = absurd (none_there x (length mailboxes) (r - 1) i)
-          now (inr e) = e
-
-      -- each list of stays has its slip
-      pub in_slips : (mailboxes : List MailboxId) → r - 1 < length mailboxes → (all : List (List (Stay M))) → IsIn x (posted_to (map (with_stays (unused mailboxes)) all) r) ↔ IsSent (all_stays all) r x
-      in_slips mailboxes lt [] = ((λ i. absurd i), (λ e. absurd e.1))
-      in_slips mailboxes lt (stays ∷ all) = slips_step mailboxes lt stays all (in_slips mailboxes lt all)
-
--- ---- from works to a run
-
-module _ {M : Type 0} where
-  stays_mailboxes : (slip : SlipView) (stays : List (Stay M)) → (with_stays slip stays).mailboxes ≡ slip.mailboxes
-  stays_mailboxes slip [] = refl
-  stays_mailboxes slip (t ∷ stays) = stays_mailboxes (with_letters slip t.letters) stays
-
-  slips_of : (mailboxes : List MailboxId) (all : List (List (Stay M))) → All (IsSlipOf mailboxes) (map (with_stays (unused mailboxes)) all)
-  slips_of mailboxes [] = All-nil (IsSlipOf mailboxes)
-  slips_of mailboxes (stays ∷ all) = All-cons (IsSlipOf mailboxes) (with_stays (unused mailboxes) stays) (map (with_stays (unused mailboxes)) all) (stays_mailboxes (unused mailboxes) stays) (slips_of mailboxes all)
-
-place_in : (r n m : ℕ) → 1 ≤ r → r ≤ n → m ≡ n → r - 1 < m
-place_in r n m low high e = omega arith
+-- ---- runs are brought together
 
 module _ {M : Type 0} (mind : M → Mind) (s : Record) (end : ℕ) (mailboxes : List MailboxId) where
-  pub run_of_works : (taken put done : List (Berth M)) (slips : List SlipView) → AreWorks mind s end mailboxes taken done slips → IsPermutation put taken → length mailboxes ≡ s.processes
-      → AreRun mind s end mailboxes put done slips
-  run_of_works taken put done slips works same count = record {
-    stays = all_stays works.stays;
-    each = works.each;
-    olds_are = IsPermutation-trans _ _ _ works.taken_are (IsPermutation-sym put taken same);
-    news_are = works.done_are;
-    of_mailboxes = subst (All (IsSlipOf mailboxes)) works.posted (slips_of mailboxes works.stays);
-    posted = λ r low high x. subst (λ l. IsIn x (posted_to l r) ↔ IsSent (all_stays works.stays) r x) works.posted (in_slips x r mailboxes (place_in r s.processes (length mailboxes) low high count) works.stays);
+  pub run_none : (olds news : List (Berth M)) (slips : List SlipView) → olds ≡ [] → news ≡ [] → slips ≡ [] → AreRun mind s end mailboxes olds news slips
+  run_none olds news slips o n p = record {
+    stays = [];
+    each = All-nil (IsStay mind s end);
+    olds_are = subst (IsPermutation []) (sym o) (IsPermutation-refl []);
+    news_are = sym n;
+    of_mailboxes = subst (All (IsSlipOf mailboxes)) (sym p) (All-nil (IsSlipOf mailboxes));
+    posted = λ r low high. ap (λ l. posted_to l r) p;
+  }
+
+  pub run_taken_as : (olds olds' news : List (Berth M)) (slips : List SlipView) → AreRun mind s end mailboxes olds news slips → IsPermutation olds olds' → AreRun mind s end mailboxes olds' news slips
+  run_taken_as olds olds' news slips run same = record {
+    stays = run.stays;
+    each = run.each;
+    olds_are = IsPermutation-trans _ _ _ run.olds_are same;
+    news_are = run.news_are;
+    of_mailboxes = run.of_mailboxes;
+    posted = run.posted;
+  }
+
+  -- what was run by one slip more joins
+  pub run_joined : length mailboxes ≡ s.processes → (slip : SlipView) (mine ran olds news news' : List (Berth M)) (slips slips' : List SlipView) → AreRun mind s end mailboxes olds news slips
+      → AreRunBy mind s end mailboxes ran slip mine → news' ≡ news ++ mine → slips' ≡ slips ++ slip ∷ [] → AreRun mind s end mailboxes (olds ++ ran) news' slips'
+  run_joined count slip mine ran olds news news' slips slips' run one n p = record {
+    stays = run.stays ++ one.stays;
+    each = All-append (IsStay mind s end) run.stays one.stays run.each one.each;
+    olds_are = subst (λ l. IsPermutation l (olds ++ ran)) (sym (map-append (λ (t : Stay M). t.before) run.stays one.stays)) (IsPermutation-append _ _ _ _ run.olds_are one.taken_are);
+    news_are = map-append (λ (t : Stay M). t.after) run.stays one.stays ∙ (λ i. run.news_are i ++ one.done_are i) ∙ sym n;
+    of_mailboxes = subst (All (IsSlipOf mailboxes)) (sym p) (All-push (IsSlipOf mailboxes) slips slip run.of_mailboxes one.of_mailboxes);
+    posted = λ r low high. ap (λ l. posted_to l r) p ∙ flat_map-append (λ (v : SlipView). list_of v.posted r) slips (slip ∷ [])
+        ∙ (λ i. run.posted r low high i ++ (append-nil (list_of slip.posted r) ∙ ap (λ (v : SlipView). list_of v.posted r) one.posted ∙ posted_by r mailboxes (sent_in one.stays) (omega (arith, low, high, count))) i)
+        ∙ sym (filter-append (is_to r) (sent_in run.stays) (sent_in one.stays)) ∙ ap (filter (is_to r)) (sym (flat_map-append (λ (t : Stay M). t.letters) run.stays one.stays));
   }
 
   abbrev idle : List (Berth M) → List (Stay M)
@@ -221,10 +126,9 @@ module _ {M : Type 0} (mind : M → Mind) (s : Record) (end : ℕ) (mailboxes : 
   idle_map f same [] = refl
   idle_map f same (b ∷ bs) = λ i. same b i ∷ idle_map f same bs i
 
-  idle_silent : (bs : List (Berth M)) (t : Stay M) (x : Letter) → IsIn t (idle bs) → IsIn x t.letters → ⊥
-  idle_silent [] t x i j = absurd i
-  idle_silent (b ∷ bs) t x (inl e) j = absurd (subst (λ (u : Stay M). IsIn x u.letters) e j)
-  idle_silent (b ∷ bs) t x (inr i) j = idle_silent bs t x i j
+  idle_silent : (bs : List (Berth M)) → sent_in (idle bs) ≡ []
+  idle_silent [] = refl
+  idle_silent (b ∷ bs) = idle_silent bs
 
   idle_stay : (b : Berth M) → NoneBelow end b.pending → IsStay mind s end (stay b b [])
   idle_stay b none = (record { history = []; run = (none, refl, refl, refl); part = sym (append-nil b.part.items) }, λ p most is. is)
@@ -239,12 +143,9 @@ module _ {M : Type 0} (mind : M → Mind) (s : Record) (end : ℕ) (mailboxes : 
         (IsPermutation-trans _ _ _ (IsPermutation-append_left rest _ _ run.olds_are) (IsPermutation-sym olds (put ++ rest) same));
     news_are = map-append (λ (t : Stay M). t.after) run.stays (idle rest) ∙ (λ i. run.news_are i ++ idle_map (λ t. t.after) (λ b. refl) rest i) ∙ sym is;
     of_mailboxes = run.of_mailboxes;
-    posted = λ r low high x. ((λ i. sent_left run.stays (idle rest) r x ((run.posted r low high x).0 i)), (λ e. (run.posted r low high x).1 (narrower r x (sent_split run.stays (idle rest) r x e))));
+    posted = λ r low high. run.posted r low high
+        ∙ ap (filter (is_to r)) (sym (flat_map-append (λ (t : Stay M). t.letters) run.stays (idle rest) ∙ ap (λ l. sent_in run.stays ++ l) (idle_silent rest) ∙ append-nil (sent_in run.stays)));
   }
-    where
-      narrower : (r : ℕ) (x : Letter) → IsSent run.stays r x ⊎ IsSent (idle rest) r x → IsSent run.stays r x
-      narrower r x (inl e) = e
-      narrower r x (inr (t, i, j, to)) = absurd (idle_silent rest t x i j)
 
   -- ---- in the order of the processes
 
@@ -255,27 +156,25 @@ module _ {M : Type 0} (mind : M → Mind) (s : Record) (end : ℕ) (mailboxes : 
       → All (IsReady mind s) olds → RiseBy (λ b. own_of mind b.seat) olds → IsPermutation done news → IsNonDecreasingBy (λ b. own_of mind b.seat) news
       → length lists ≡ s.processes → ((r : ℕ) → 1 ≤ r → r ≤ s.processes → IsPermutation (posted_to slips r) (list_of lists r)) → IsOutcome mind s end olds news lists
   outcome olds done news slips lists run ready rises order up count gives =
-      let l = lifted (λ (t : Stay M). t.before) run.stays olds run.olds_are in
+      let own : Berth M → ℕ = λ b. own_of mind b.seat in
+      let l = lifted (λ (t : Stay M). t.after) run.stays news (subst (λ bs. IsPermutation bs news) (sym run.news_are) order) in
       let stays : List (Stay M) = l.0 in
       let each : All (IsStay mind s end) stays = All-permutation (IsStay mind s end) run.stays stays l.1 run.each in
-      let own : Berth M → ℕ = λ b. own_of mind b.seat in
-      let front : RiseBy own (taken_in stays) = subst (RiseBy own) (sym l.2) rises in
-      let before : Stay M → Berth M = λ t. t.before in
-      let mine : All (λ t. IsReady mind s t.before) stays = all_of_map (IsReady mind s) before stays (subst (All (IsReady mind s)) (sym l.2) ready) in
-      let same : All (λ (t : Stay M). own t.after ≡ own t.before) stays = λ k d lt. same_owner (get_or stays k d) (mine k d lt) (each k d lt) in
-      let back : RiseBy own (left_in stays) = rises_same own (λ (t : Stay M). t.after) (λ (t : Stay M). t.before) stays same front in
-      let mixed : IsPermutation (left_in stays) done = subst (IsPermutation (left_in stays)) run.news_are (IsPermutation-sym _ _ (IsPermutation-map (λ (t : Stay M). t.after) run.stays stays l.1)) in
-      let is : news ≡ left_in stays = sorted_is own (left_in stays) news back (IsPermutation-trans _ _ _ mixed order) up in
+      let mixed : IsPermutation olds (taken_in stays) =
+      IsPermutation-trans _ _ _ (IsPermutation-sym _ _ run.olds_are) (IsPermutation-map (λ (t : Stay M). t.before) run.stays stays l.1) in
+      let mine : All (λ t. IsReady mind s t.before) stays = all_of_map (IsReady mind s) (λ (t : Stay M). t.before) stays (All-permutation (IsReady mind s) _ _ mixed ready) in
+      let same : All (λ (t : Stay M). own t.before ≡ own t.after) stays = λ k d lt. sym (same_owner (get_or stays k d) (mine k d lt) (each k d lt)) in
       record {
         stays = stays;
         each = each;
-        olds_are = l.2;
-        news_are = sym is;
+        olds_are = sorted_is own olds (taken_in stays) rises mixed (same_order own (λ (t : Stay M). t.before) (λ (t : Stay M). t.after) stays same (subst (IsNonDecreasingBy own) (sym l.2) up));
+        news_are = l.2;
         count = count;
-        letters = λ r low high x. (
-          (λ i. moved run.stays stays l.1 r x ((run.posted r low high x).0 (in_permutation _ _ (IsPermutation-sym _ _ (gives r low high)) x i))),
-          (λ e. in_permutation _ _ (gives r low high) x ((run.posted r low high x).1 (moved stays run.stays (IsPermutation-sym _ _ l.1) r x e))),
-        );
+        letters = λ r low high x.
+            let there = is_sent r run.stays x in (
+              (λ i. moved run.stays stays l.1 r x (there.0 (subst (IsIn x) (run.posted r low high) (in_permutation _ _ (IsPermutation-sym _ _ (gives r low high)) x i)))),
+              (λ e. in_permutation _ _ (gives r low high) x (subst (IsIn x) (sym (run.posted r low high)) (there.1 (moved stays run.stays (IsPermutation-sym _ _ l.1) r x e)))),
+            );
       }
     where
       moved : (ts us : List (Stay M)) → IsPermutation ts us → (r : ℕ) (x : Letter) → IsSent ts r x → IsSent us r x
@@ -309,21 +208,53 @@ module _ {M : Type 0} (mind : M → Mind) (s : Record) (end : ℕ) where
   pub run_at : (m m' : List MailboxId) (waiting put put' done : List (Berth M)) (slips : List SlipView) → AreRun mind s end m put done slips → m ≡ m' → put ≡ put' → IsPermutation waiting put'
       → AreRun mind s end m' waiting done slips
   run_at m m' waiting put put' done slips run e same dealt =
-      let r : AreRun mind s end m' put' done slips = subst (λ l. AreRun mind s end l put' done slips) e (subst (λ l. AreRun mind s end m l done slips) same run) in
-      record {
-        stays = r.stays;
-        each = r.each;
-        olds_are = IsPermutation-trans _ _ _ r.olds_are (IsPermutation-sym waiting put' dealt);
-        news_are = r.news_are;
-        of_mailboxes = r.of_mailboxes;
-        posted = r.posted;
-      }
+      run_taken_as mind s end m' put' waiting done slips (subst (λ l. AreRun mind s end l put' done slips) e (subst (λ l. AreRun mind s end m l done slips) same run)) (IsPermutation-sym waiting put' dealt)
 
-  pub run_of_parts : (m m1 m2 : List MailboxId) (old new : RestView (Berth M)) (put done mine done' : List (Berth M)) (slips slips' : List SlipView) (slip : SlipView)
-      → AreWorks mind s end m1 old.taken done slips → IsRest mind s end m2 old new slip mine → m1 ≡ m → m2 ≡ m → all_put old.own ≡ put → done' ≡ done ++ mine → slips' ≡ slips ++ slip ∷ []
+  pub run_of_parts : (m m2 : List MailboxId) (old new : RestView (Berth M)) (put done mine done' : List (Berth M)) (slips slips' : List SlipView) (slip : SlipView)
+      → AreRun mind s end m old.taken done slips → IsRest mind s end m2 old new slip mine → m2 ≡ m → all_put old.own ≡ put → done' ≡ done ++ mine → slips' ≡ slips ++ slip ∷ []
       → length m ≡ s.processes → AreRun mind s end m put done' slips'
-  run_of_parts m m1 m2 old new put done mine done' slips slips' slip works rest e1 e2 same d p count =
-      let are : AreWorks mind s end m old.taken done slips = subst (λ l. AreWorks mind s end l old.taken done slips) e1 works in
-      let run : AreRunBy mind s end m rest.rest slip mine = subst (λ l. AreRunBy mind s end l rest.rest slip mine) e2 rest.run in
-      let all : AreWorks mind s end m new.taken done' slips' = works_more mind s end m slip mine rest.rest old.taken new.taken done done' slips slips' are run rest.taken d p in
-      run_of_works mind s end m new.taken put done' slips' all (subst (λ l. IsPermutation l new.taken) same rest.same) count
+  run_of_parts m m2 old new put done mine done' slips slips' slip are rest e same d p count =
+      let run : AreRunBy mind s end m rest.rest slip mine = subst (λ l. AreRunBy mind s end l rest.rest slip mine) e rest.run in
+      let all : AreRun mind s end m (old.taken ++ rest.rest) done' slips' = run_joined mind s end m count slip mine rest.rest old.taken done done' slips slips' are run d p in
+      run_taken_as mind s end m _ put done' slips' all (IsPermutation-trans _ _ _ rest.taken (IsPermutation-sym _ _ (subst (λ l. IsPermutation l new.taken) same rest.same)))
+
+-- ---- a worker's work grows by one berth at a time
+
+module _ {M : Type 0} where
+  sent_more : (slip : SlipView) (stays : List (Stay M)) (t : Stay M) → with_letters (with_letters slip (sent_in stays)) t.letters ≡ with_letters slip (sent_in (stays ++ t ∷ []))
+  sent_more slip stays t = ap (slip_of slip.mailboxes) (filed_more slip.posted (sent_in stays) t.letters
+      ∙ ap (all_filed slip.posted) (sym (flat_map-append (λ (u : Stay M). u.letters) stays (t ∷ []) ∙ ap (λ l. sent_in stays ++ l) (append-nil t.letters))))
+
+  module _ (mind : M → Mind) (s : Record) (end : ℕ) (mailboxes : List MailboxId) where
+    pub run_begins : (taken : List (Berth M)) (slip : SlipView) (done : List (Berth M)) → taken ≡ [] → slip ≡ unused mailboxes → done ≡ [] → AreRunBy mind s end mailboxes taken slip done
+    run_begins taken slip done t p d = record {
+      of_mailboxes = ap (λ (v : SlipView). v.mailboxes) p;
+      stays = [];
+      each = All-nil (IsStay mind s end);
+      taken_are = subst (IsPermutation []) (sym t) (IsPermutation-refl []);
+      done_are = sym d;
+      posted = p;
+    }
+
+    pub run_more : (slip slip' : SlipView) (done done' : List (Berth M)) (before after : Berth M) (letters : List Letter) → IsStay mind s end (stay before after letters) → IsSlipOf mailboxes slip' → slip' ≡ with_letters slip letters
+        → done' ≡ done ++ after ∷ [] → (taken : List (Berth M)) → AreRunBy mind s end mailboxes taken slip done → AreRunBy mind s end mailboxes (taken ++ before ∷ []) slip' done'
+    run_more slip slip' done done' before after letters one of posts adds taken run = record {
+      of_mailboxes = of;
+      stays = run.stays ++ stay before after letters ∷ [];
+      each = All-push (IsStay mind s end) run.stays (stay before after letters) run.each one;
+      taken_are = subst (λ l. IsPermutation l (taken ++ before ∷ [])) (sym (map-append (λ (t : Stay M). t.before) run.stays (stay before after letters ∷ [])))
+          (IsPermutation-append_left (before ∷ []) _ _ run.taken_are);
+      done_are = map-append (λ (t : Stay M). t.after) run.stays (stay before after letters ∷ []) ∙ ap (λ l. l ++ after ∷ []) run.done_are ∙ sym adds;
+      posted = posts ∙ ap (λ v. with_letters v letters) run.posted ∙ sent_more (unused mailboxes) run.stays (stay before after letters);
+    }
+
+    module _ (deques : List DequeId) where
+      pub work_begins : (hand : HandView (Berth M)) (slip : SlipView) (done : List (Berth M)) → IsFresh deques mailboxes hand slip → done ≡ [] → IsWork mind s end deques mailboxes hand slip done
+      work_begins hand slip done fresh none = record { of_deques = fresh.of_deques; run = run_begins hand.taken slip done fresh.none_taken fresh.none_posted none }
+
+      pub work_more : (hand hand' : HandView (Berth M)) (slip slip' : SlipView) (done done' : List (Berth M)) (b : Berth M) → IsWork mind s end deques mailboxes hand slip done → TookOne hand hand' b
+          → AreRunBy mind s end mailboxes (hand.taken ++ b ∷ []) slip' done' → IsWork mind s end deques mailboxes hand' slip' done'
+      work_more hand hand' slip slip' done done' b work (taken, is, takes, among) run = record {
+        of_deques = ap (λ (h : HandView (Berth M)). h.deques) is ∙ work.of_deques;
+        run = record { of_mailboxes = run.of_mailboxes; stays = run.stays; each = run.each; taken_are = IsPermutation-trans _ _ _ run.taken_are (subst (IsPermutation (hand.taken ++ b ∷ [])) (sym (ap (λ (h : HandView (Berth M)). h.taken) is)) takes); done_are = run.done_are; posted = run.posted };
+      }

@@ -1,12 +1,5 @@
 -- What a sink took, part by part.
-use Rattle.std.proofs.Common.{◌≡◌, ◌≤◌, ℕ, refl, sym, ap, ◌∙◌, subst, List, [], ◌∷◌, ◌++◌, length, append_assoc, append-nil, arith, Result, Ok, Err, OnErr}
-use Rattle.process_api.specs.EntryRecord.{EntryRecord}
-use Rattle.scenario_record.specs.Record.{Record}
-use Rattle.trace_laws.specs.ScenarioSetting.{setting_of}
-use Rattle.trace_laws.specs.World.{IsTrace}
-use Rattle.trace_laws.proofs.Closed.{one_trace}
-use Rattle.windows.specs.Sink.{TookAll}
-use Rattle.window_laws.specs.Theorems.{end_to_end}
+use Rattle.windows.proofs.Words.{◌≡◌, ◌≤◌, ℕ, refl, sym, ap, ◌∙◌, subst, List, [], ◌∷◌, ◌++◌, length, append_assoc, append-nil, arith, Result, Ok, Err, OnErr, EntryRecord, Record, setting_of, IsTrace, one_trace, TookAll, end_to_end}
 
 -- one part more
 pub took_more : {K : Type 0} (took : K → List EntryRecord → K → Type 0) (old mid new : K) (parts : List (List EntryRecord)) (part : List EntryRecord) → TookAll took old parts mid → took mid part new → TookAll took old (parts ++ part ∷ []) new

@@ -1,19 +1,8 @@
 -- What workers answer together, one worker more.
-use Rattle.std.proofs.Common.{◌≡◌, ◌⊎◌, inl, inr, sym, ap, ◌∙◌, subst, List, [], ◌∷◌, ◌++◌, length, length-append, map, vec_len, arith, Option, Some, option_to_list, Result, Ok, Err, IfOk, IfErr, IsErrOf}
-use Rattle.std.specs.Global.{Vec}
-use Rattle.std.specs.List.{All}
-use Rattle.std.proofs.lemmas.List.Elements.{All-head, All-push, All-same}
-use Rattle.process_api.specs.Mind.{Mind}
-use Rattle.process_api.specs.declared.run_error.RunError.{RunError}
-use Rattle.process_api.specs.declared.run_error.RunError.TheVariants.{Limit, Memory}
-use Rattle.deques.proofs.Deals.{map_push}
-use Rattle.windows.specs.Refusals.{AreThere, IsFirstRefusal, IsRefusal, IsRefusalOfOne}
-use Rattle.windows.specs.Inside.Shared.{IsWorkIn, IsAnswerTo, IsOneTooLong, KnowOneTooLong, AreAnswers}
+use Rattle.windows.proofs.Words.{◌≡◌, ◌⊎◌, inl, inr, sym, ap, ◌∙◌, subst, List, [], ◌∷◌, ◌++◌, length, length-append, map, vec_len, arith, Option, Some, option_to_list, Result, Ok, Err, IfOk, IfErr, IsErrOf, Vec, All, All-head, All-push, All-same, Mind, RunError, Limit, Memory, map_push, AreThere, IsFirstRefusal, IsRefusal, IsWorkIn, IsAnswerTo, IsOneTooLong, KnowOneTooLong, AreAnswers, Start, Work}
 use Rattle.windows.specs.declared.shared.Shared.{Shared}
-use Rattle.windows.specs.declared.workers.Start.{Start}
-use Rattle.windows.specs.declared.workers.Work.{Work}
 use Rattle.windows.proofs.Gathered.{all_front, all_back}
-use Rattle.windows.proofs.Refused.{not_err}
+use Rattle.windows.proofs.Refused.{not_err, one_refused}
 
 pub popped : {X : Type 0} (xs ys : List X) (o : Option X) (x : X) → xs ≡ ys ++ option_to_list o → o ≡ Some x → xs ≡ ys ++ x ∷ []
 popped xs ys o x e is = e ∙ ap (λ r. ys ++ option_to_list r) is
@@ -24,17 +13,8 @@ answer_at mind w w' start start' r e is answer = subst (λ v. IsAnswerTo mind v 
 same_err : {A : Type 0} (e d : RunError) → ◌≡◌ {A = Result A RunError} (Err e) (Err d) → e ≡ d
 same_err e d is = cc
 
-not_limit : (e : RunError) → e ≡ Memory → e ≡ Limit → ⊥
+not_limit : {A : Type 0} (e : RunError) → e ≡ Memory → ◌≡◌ {A = Result A RunError} (Err e) (Err Limit) → ⊥
 not_limit e memory limit = cc
-
-by_three : {A B C D : Type 0} → (A → D) → (B → D) → (C → D) → A ⊎ (B ⊎ C) → D
-by_three f g h (inl a) = f a
-by_three f g h (inr (inl b)) = g b
-by_three f g h (inr (inr c)) = h c
-
-of_one : (e : RunError) → IsRefusalOfOne e → IsRefusal e
-of_one e (inl limit) = inl limit
-of_one e (inr memory) = inr (inl memory)
 
 module _ {M G : Type 0} (mind : M → Mind) (w : Shared M G) (starts starts' : List (Start M)) (start : Start M) (first : starts ≡ starts' ++ start ∷ [])
     (rest : Result (Vec (Work M)) RunError) (mine : Result (Work M) RunError) (are : AreAnswers mind w starts' rest) (answer : IsAnswerTo mind w start mine) where
@@ -61,25 +41,13 @@ module _ {M G : Type 0} (mind : M → Mind) (w : Shared M G) (starts starts' : L
       let last = all_back (λ (b : Start M). b.hand.known ≡ known) starts' (start ∷ []) (subst (All (λ (b : Start M). b.hand.known ≡ known)) first all) in
       subst (IsOneTooLong mind w.window.now) (All-head (λ (b : Start M). b.hand.known ≡ known) start [] last) (answer.limit is)
 
-  all_refused : (e : RunError) → (e ≡ Memory) ⊎ (IsErrOf rest e ⊎ IsErrOf mine e) → AreAnswers mind w starts (Err e)
-  all_refused e why = record {
-    count = tt;
-    own = tt;
-    works = tt;
-    errors = by_three (λ (memory : e ≡ Memory). inr (inl memory)) (λ (theirs : rest ≡ Err e). subst (λ r. IfErr r IsRefusal) theirs are.errors)
-        (λ (ours : mine ≡ Err e). of_one e (subst (λ r. IfErr r IsRefusalOfOne) ours answer.errors)) why;
-    limit = λ is.
-        let same : e ≡ Limit = same_err e Limit is in
-        by_three (λ (memory : e ≡ Memory). absurd (not_limit e memory same)) (λ (theirs : rest ≡ Err e). their_limit (theirs ∙ ap Err same)) (λ (ours : mine ≡ Err e). our_limit (ours ∙ ap Err same)) why;
-  }
-
-  -- the refusal is one of theirs or ours, or that of memory
-  one_of : (e : RunError) → IsFirstRefusal rest mine e ⊎ ((e ≡ Memory) × AreThere rest mine) → (e ≡ Memory) ⊎ (IsErrOf rest e ⊎ IsErrOf mine e)
-  one_of e (inl first) = inr first.one
-  one_of e (inr last) = inl last.0
+  all_refused : (e : RunError) → IsErrOf rest e ⊎ IsErrOf mine e → AreAnswers mind w starts (Err e)
+  all_refused e (inl theirs) = record { count = tt; own = tt; works = tt; errors = subst (λ r. IfErr r IsRefusal) theirs are.errors; limit = λ is. their_limit (theirs ∙ is) }
+  all_refused e (inr ours) = record { count = tt; own = tt; works = tt; errors = subst (λ r. IfErr r IsRefusal) ours (one_refused mine answer.errors); limit = λ is. our_limit (ours ∙ ap Err (same_err e Limit is)) }
 
   -- where one worker more answers, after those that began before it
   pub answers_more : (r : Result (Vec (Work M)) RunError) → IfOk r (λ works. (before : Vec (Work M)) × (work : Work M) × (rest ≡ Ok before) × (mine ≡ Ok work) × (works.items ≡ before.items ++ work ∷ []))
       → IfErr r (λ e. IsFirstRefusal rest mine e ⊎ ((e ≡ Memory) × AreThere rest mine)) → AreAnswers mind w starts r
   answers_more (Ok works) ok err = all_worked works ok.0 ok.1 ok.2 ok.3 ok.4
-  answers_more (Err e) ok err = all_refused e (one_of e err)
+  answers_more (Err e) ok (inl first) = all_refused e first.one
+  answers_more (Err e) ok (inr last) = record { count = tt; own = tt; works = tt; errors = inr (inl last.0); limit = λ is. absurd (not_limit e last.0 is) }

@@ -1,49 +1,11 @@
 -- The stage at the opening of a run.
-use Rattle.std.proofs.Common.{◌≡◌, ◌≢◌, ◌⊎◌, ℕ, zero, suc, ◌-◌, ◌*◌, ◌<◌, ◌≤◌, inl, inr, refl, sym, ap, ◌∙◌, subst, List, [], ◌∷◌, Some, length, map, slice_get, arith}
+use Rattle.windows.proofs.Words.{◌≡◌, ◌≢◌, ◌⊎◌, ℕ, zero, suc, ◌-◌, ◌*◌, ◌<◌, ◌≤◌, inl, inr, refl, sym, ap, ◌∙◌, subst, [], Some, length, map, slice_get, arith, All, length-map, All-nil, most_step_actions, Mind, numbers_to, Key, StepInput, same_or_not, IsInRange, Record, opening_mind, place_in, setting_of, process_of, own_of, IsSeated, Setting, IsSound, IsProcess, Process, Has, starts, start_of, opened, opening, opening_process, opening_world, number_at, length-numbers_to, opening_reached, inserted, insert_at, insert_other, setting_sound, opens_with_mind, IsBerth, StageRecord, StandsFor, of_process, stage_of, start_event, IsOpened, AreHome, IsStageAfter, Berth, Stage, is_or_not}
 use Rattle.std.specs.FinMap as finmap
-use Rattle.std.specs.List.{All}
-use Rattle.std.proofs.lemmas.List.{length-map}
-use Rattle.std.proofs.lemmas.List.Elements.{All-nil}
-use Rattle.process_api.specs.Bounds.{most_step_actions}
-use Rattle.process_api.specs.Mind.{Mind}
-use Rattle.process_api.specs.Numbers.{numbers_to}
-use Rattle.process_api.specs.Order.{key_cmp}
-use Rattle.process_api.specs.declared.key.Key.{Key}
-use Rattle.process_api.specs.declared.message.StepInput.{StepInput}
 use Rattle.process_api.specs.declared.message.StepInput.TheVariants.{Start}
-use Rattle.process_api.proofs.KeyOrder.{same_or_not}
+use Rattle.std.proofs.lemmas.Simd.{map-map}
+use Rattle.trace_laws.proofs.Closed.{starts_are}
 use Rattle.process_api.proofs.Minds.{mind_place, same_own}
-use Rattle.scenario_record.specs.Ranges.{IsInRange}
-use Rattle.scenario_record.specs.Record.{Record, opening_mind, place_in}
-use Rattle.trace_laws.specs.ScenarioSetting.{setting_of}
-use Rattle.steps.specs.Seat.{process_of, own_of, IsSeated}
-use Rattle.trace_laws.specs.Setting.{Setting, IsSound, IsProcess}
-use Rattle.trace_laws.specs.Step.{Process}
-use Rattle.trace_laws.specs.World.{Has, starts, start_of, opened, opening, opening_process}
-use Rattle.trace_laws.proofs.Closed.{opening_world}
-use Rattle.steps.proofs.Openings.{number_at, length-numbers_to}
-use Rattle.trace_laws.proofs.Reaching.{opening_reached}
-use Rattle.trace_laws.proofs.Sets.{inserted, insert_at, insert_other, not_None}
-use Rattle.trace_laws.proofs.Sound.{setting_sound, opens_with_mind}
-use Rattle.windows.specs.Berth.{IsBerth}
-use Rattle.window_laws.specs.Machine.{StageRecord, StandsFor}
-use Rattle.windows.specs.Stage.{of_process, stage_of, start_event, IsOpened, AreHome, IsStageAfter}
-use Rattle.windows.specs.declared.berth.Berth.{Berth}
-use Rattle.windows.specs.declared.stage.Stage.{Stage}
-use Rattle.window_laws.proofs.Family.{is_or_not}
-use Rattle.windows.proofs.Places.{there_map, from_map, at_index, at_nobody, all_place, before_suc, by_place}
-
-none_there : (k : Key) (x : StepInput) → Has finmap.empty k x → ⊥
-none_there k x h = not_None x (sym (finmap.get-empty key_cmp k) ∙ h)
-
--- the starts of processes 1 to n
-starts_are : (n : ℕ) (k : Key) (x : StepInput) → Has (starts n) k x → (k ≡ start_of k.receiver) × (x ≡ Start)
-starts_are zero k x h = absurd (none_there k x h)
-starts_are (suc n) k x h = go (starts_are n k x) (inserted (starts n) (start_of (suc n)) Start k x h)
-  where
-    go : (Has (starts n) k x → (k ≡ start_of k.receiver) × (x ≡ Start)) → ((k ≡ start_of (suc n)) × (x ≡ Start)) ⊎ ((k ≢ start_of (suc n)) × Has (starts n) k x) → (k ≡ start_of k.receiver) × (x ≡ Start)
-    go earlier (inl e) = (e.0 ∙ ap start_of (sym (ap (λ (z : Key). z.receiver) e.0)), e.1)
-    go earlier (inr old) = earlier old.1
+use Rattle.windows.proofs.Places.{there_map, from_map, at_index, at_nobody, all_place, before_suc, by_place, each_process, no_event}
 
 starts_there : (n p : ℕ) → 1 ≤ p → p ≤ n → Has (starts n) (start_of p) Start
 starts_there zero p low high = absurd (omega arith)
@@ -60,11 +22,7 @@ start_is p k x h = go (inserted finmap.empty (start_of p) Start k x h)
   where
     go : ((k ≡ start_of p) × (x ≡ Start)) ⊎ ((k ≢ start_of p) × Has finmap.empty k x) → (k ≡ start_of p) × (x ≡ Start)
     go (inl e) = e
-    go (inr h2) = absurd (none_there k x h2.1)
-
-opened_all : (s : Record) (xs : List ℕ) → map opened (map (opening_mind s) xs) ≡ map (λ q. opened (opening_mind s q)) xs
-opened_all s [] = refl
-opened_all s (x ∷ xs) = ap (λ ps. opened (opening_mind s x) ∷ ps) (opened_all s xs)
+    go (inr h2) = absurd (no_event k x h2.1)
 
 module _ {M : Type 0} (mind : M → Mind) (stage : Stage M) (ranges : IsInRange stage.scenario.now) (at_start : stage.start ≡ 0) (no_entries : stage.so_far ≡ 0)
     (processes : map (λ b. process_of mind b.seat) stage.berths.items ≡ map opened (map (opening_mind stage.scenario.now) (numbers_to stage.scenario.now.processes)))
@@ -85,14 +43,14 @@ module _ {M : Type 0} (mind : M → Mind) (stage : Stage M) (ranges : IsInRange 
   first : (i : ℕ) → i < s.processes → (b : Berth M) × IsFirst i b
   first i inside =
       let mind_is = opening_mind s (suc i) in
-      let there = ap (λ ps. slice_get ps i) (processes ∙ opened_all s (numbers_to s.processes)) ∙ ap (slice_get (map (λ q. opened (opening_mind s q)) (numbers_to s.processes))) (sym (before_suc i))
+      let there = ap (λ ps. slice_get ps i) (processes ∙ map-map opened (opening_mind s) (numbers_to s.processes)) ∙ ap (slice_get (map (λ q. opened (opening_mind s q)) (numbers_to s.processes))) (sym (before_suc i))
       ∙ number_at (λ q. opened (opening_mind s q)) s.processes (suc i) (omega arith) (omega arith) in
       let b = from_map (λ (z : Berth M). process_of mind z.seat) stage.berths.items i (opened mind_is) there in
       let mine : mind_is.lower.place.own ≡ suc i = same_own mind_is.lower.place (place_in s (suc i)) (mind_place (place_in s (suc i)) mind_is (opens_with_mind s ranges (suc i))) in
       (b.0, (b.1, b.2, ap (λ (q : Process Mind). q.mind.lower.place.own) b.2 ∙ mine, all_place (IsOpened mind s) stage.berths.items berths i b.0 b.1))
 
   count : length stage.berths.items ≡ s.processes
-  count = sym (length-map stage.berths.items (λ b. process_of mind b.seat)) ∙ (ap length (processes ∙ opened_all s (numbers_to s.processes)) ∙ (length-map (numbers_to s.processes) (λ q. opened (opening_mind s q)) ∙ length-numbers_to s.processes))
+  count = sym (length-map stage.berths.items (λ b. process_of mind b.seat)) ∙ (ap length (processes ∙ map-map opened (opening_mind s) (numbers_to s.processes)) ∙ (length-map (numbers_to s.processes) (λ q. opened (opening_mind s q)) ∙ length-numbers_to s.processes))
 
   module _ (window : ℕ) where
     abbrev g : StageRecord Mind
@@ -113,20 +71,16 @@ module _ {M : Type 0} (mind : M → Mind) (stage : Stage M) (ranges : IsInRange 
 
         go : IsProcess S p ⊎ ¬ (IsProcess S p) → Has (opening S).pending k x × (k.receiver ≡ p)
         go (inl own) = by own (start_is p k x (subst (λ m. Has m k x) (own_first p own) h))
-        go (inr not) = absurd (none_there k x (subst (λ m. Has m k x) (nobody (λ z. z.pending) finmap.empty p not) h))
+        go (inr not) = absurd (no_event k x (subst (λ m. Has m k x) (nobody (λ z. z.pending) finmap.empty p not) h))
 
     from_world : (p : ℕ) (k : Key) (x : StepInput) → Has (opening S).pending k x × (k.receiver ≡ p) → Has (g.own p) k x
     from_world p k x (h, to) =
         let e = starts_are S.processes k x h in
         let own : IsProcess S p = subst (IsProcess S) to ((opening_world S sound).received k x h) in
-        subst (λ m. Has m k x) (sym (own_first p own)) (subst (λ (t : Key × StepInput). Has (start_event p) t.0 t.1) (λ i. (sym (e.0 ∙ ap start_of to) i, sym e.1 i)) (insert_at finmap.empty (start_of p) Start))
+        subst (λ m. Has m k x) (sym (own_first p own)) (subst (λ (t : Key × StepInput). Has (start_event p) t.0 t.1) (λ i. (sym (e.2 ∙ ap start_of to) i, sym e.3 i)) (insert_at finmap.empty (start_of p) Start))
 
     no_part : (p : ℕ) → g.part p ≡ []
-    no_part p = go (is_or_not S p)
-      where
-        go : IsProcess S p ⊎ ¬ (IsProcess S p) → g.part p ≡ []
-        go (inl own) = by_place s.processes (λ p. g.part p ≡ []) (λ i inside. let b = first i inside in at_index i (map (λ z. z.part.items) stage.berths.items) b.0.part.items [] (there_map (λ z. z.part.items) stage.berths.items i b.0 b.1.0) ∙ b.1.3.2) p own
-        go (inr not) = nobody (λ z. z.part.items) [] p not
+    no_part = each_process (λ z. z.part.items) [] (λ l. l ≡ []) stage.berths.items (λ i b at. (all_place (IsOpened mind s) stage.berths.items berths i b at).2) refl
 
     pub opening_stands : StandsFor S window g (opening S)
     opening_stands = record {
@@ -136,8 +90,8 @@ module _ {M : Type 0} (mind : M → Mind) (stage : Stage M) (ranges : IsInRange 
       late = λ k x h. omega (arith, at_start);
       part = no_part;
       status = λ p. refl;
-      tray = λ a. none_there;
-      mailbox = λ r. none_there;
+      tray = λ a. no_event;
+      mailbox = λ r. no_event;
     }
 
   home : AreHome mind s (stage.so_far) stage.berths.items

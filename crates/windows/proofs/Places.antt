@@ -1,27 +1,15 @@
 -- Lists that have process 1 first.
-use Rattle.std.proofs.Common.{◌≡◌, ◌≢◌, ◌⊎◌, ℕ, zero, suc, ◌+◌, ◌-◌, ◌<◌, ◌≤◌, inl, inr, refl, sym, ap, ◌∙◌, subst, List, [], ◌∷◌, Some, length, map, slice_get, option_map, arith, Bool, true, false, cond, nat_eq, not, filter, ⊎_elim}
-use Rattle.std.specs.List.{All, AllByRecursion}
-use Rattle.std.proofs.lemmas.Bool.{eqb-true, cases_lt}
-use Rattle.std.proofs.lemmas.List.{get_or_past, length-map, length-append}
-use Rattle.std.proofs.lemmas.List.Filters.{length-filter_both}
-use Rattle.std.proofs.lemmas.List.Elements.{All-from_recursion, All-get_or}
-use Rattle.std.proofs.lemmas.Option.{slice_get-map, slice_get_within, get_or_from_slice_get}
-use Rattle.process_api.specs.EntryRecord.{EntryRecord}
-use Rattle.process_api.specs.declared.message.Letter.{Letter}
-use Rattle.trace_laws.specs.History.{IsIn, Pair, pairs_of}
-use Rattle.trace_laws.specs.Step.{Events}
-use Rattle.trace_laws.specs.World.{joined, entries}
-use Rattle.trace_laws.proofs.Sets.{not_None, same_Some}
-use Rattle.trace_laws.proofs.Steps.{in_append, in_left, in_right}
-use Rattle.trace_merge.specs.Parts.{all_of, AreApart, AreDisjoint}
-use Rattle.trace_laws.specs.Taken.{event_of}
-use Rattle.windows.specs.Stage.{of_process, delivered}
+use Rattle.windows.proofs.Words.{◌≡◌, ◌≢◌, ◌⊎◌, ℕ, zero, suc, ◌+◌, ◌-◌, ◌<◌, ◌≤◌, inl, inr, refl, sym, ap, ◌∙◌, subst, List, [], ◌∷◌, Some, length, map, slice_get, option_map, arith, Bool, true, false, cond, nat_eq, not, filter, ⊎_elim, All, AllByRecursion, eqb-true, cases_lt, get_or_past, length-map, length-append, length-filter_both, All-from_recursion, All-get_or, slice_get-map, slice_get_within, get_or_from_slice_get, EntryRecord, Letter, IsIn, Pair, pairs_of, Events, joined, entries, not_None, same_Some, in_append, in_left, in_right, all_of, AreApart, AreDisjoint, event_of, of_process, delivered, ◌++◌, append-nil, nil_from_length, key_cmp, Key, StepInput, Has}
+use Rattle.std.specs.FinMap as finmap
 
 none_inside : (i : ℕ) → i < 0 → ⊥
 none_inside i h = omega arith
 
 one_less : (i n : ℕ) → suc i < suc n → i < n
 one_less i n h = omega arith
+
+pub no_event : (k : Key) (y : StepInput) → Has finmap.empty k y → ⊥
+no_event k y i = not_None y (sym (finmap.get-empty key_cmp k) ∙ i)
 
 -- ---- what stands at a place
 
@@ -71,6 +59,13 @@ at_nobody (suc q) xs none h = get_or_past xs q none (past q (length xs) h)
   where
     past : (q n : ℕ) → ¬ ((1 ≤ suc q) × (suc q ≤ n)) → n ≤ q
     past q n h = ⊎_elim (λ (below : q < n). absurd (h (omega arith, omega (arith, below)))) (λ (high : n ≤ q). high) (cases_lt q n)
+
+-- what holds of each value, and of what is given for others, holds of each process
+pub each_process : {X Y : Type 0} (f : X → Y) (none : Y) (P : Y → Type 0) (xs : List X) → ((i : ℕ) (x : X) → slice_get xs i ≡ Some x → P (f x)) → P none → (p : ℕ) → P (of_process p (map f xs) none)
+each_process f none P xs each other zero = other
+each_process f none P [] each other (suc q) = other
+each_process f none P (x ∷ xs) each other (suc zero) = each 0 x refl
+each_process f none P (x ∷ xs) each other (suc (suc q)) = each_process f none P xs (λ i y at. each (suc i) y at) other (suc q)
 
 pub at_delivered : (ms : List Events) (ls : List (List Letter)) (i : ℕ) (m : Events) (l : List Letter) → slice_get ms i ≡ Some m → slice_get ls i ≡ Some l → slice_get (delivered ms ls) i ≡ Some (joined m (map event_of l))
 at_delivered [] ls i m l a b = absurd (not_None m a)
@@ -182,3 +177,12 @@ pub part_few : (parts : List (List EntryRecord)) (i : ℕ) (part : List EntryRec
 part_few [] i part at = absurd (not_None part at)
 part_few (p ∷ parts) zero part at = omega (arith, ap length (same_Some p part at), length-append p (all_of parts))
 part_few (p ∷ parts) (suc i) part at = omega (arith, part_few parts i part at, length-append p (all_of parts))
+
+-- ---- what a loop over a list begins with and comes to: what was made so far and what the rest gives is what all give
+
+module _ {A B X : Type 0} (f : A → X) (g : B → X) (made : List A) (rest : List B) where
+  pub opens : (xs : List B) → made ≡ [] → rest ≡ xs → map f made ++ map g rest ≡ map g xs
+  opens xs none all = λ i. map f (none i) ++ map g (all i)
+
+  pub ends : (all : List X) → length rest ≡ 0 → map f made ++ map g rest ≡ all → map f made ≡ all
+  ends all none is = sym (append-nil (map f made)) ∙ (ap (λ l. map f made ++ map g l) (sym (nil_from_length rest none)) ∙ is)

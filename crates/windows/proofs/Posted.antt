@@ -1,30 +1,6 @@
 -- What a window's processes come to where their letters are known as slips posted them, and facts of values that are equal.
-use Rattle.std.proofs.Common.{◌≡◌, ℕ, ◌+◌, ◌-◌, ◌≤◌, ◌<◌, sym, ◌∙◌, subst, List, [], ◌++◌, length, map, arith}
-use Rattle.std.specs.List.{All}
-use Rattle.std.specs.List.Sorted.{IsPermutation}
-use Rattle.std.specs.Prelude.{IsTrue}
-use Rattle.std.proofs.lemmas.List.{length-map}
-use Rattle.std.proofs.lemmas.List.Sorted.{IsPermutation-refl}
-use Rattle.std.proofs.lemmas.Option.{get_or_from_slice_get}
-use Rattle.process_api.specs.EntryRecord.{EntryRecord}
-use Rattle.process_api.specs.Mind.{Mind}
-use Rattle.process_api.specs.Numbers.{numbers_to}
-use Rattle.process_api.specs.Order.{is_rising}
-use Rattle.process_api.specs.declared.message.Letter.{Letter}
-use Rattle.scenario_record.specs.Ranges.{IsInRange}
-use Rattle.scenario_record.specs.Record.{Record}
-use Rattle.trace_laws.specs.ScenarioSetting.{setting_of}
-use Rattle.trace_laws.specs.World.{IsTrace}
-use Rattle.steps.proofs.Openings.{number_at, length-numbers_to}
-use Rattle.mailboxes.specs.Mailboxes.{SlipView, list_of, posted_to}
-use Rattle.trace_merge.specs.Parts.{all_of, AreDisjoint}
-use Rattle.windows.specs.Inside.Agenda.{AreOne}
+use Rattle.windows.proofs.Words.{◌≡◌, ℕ, ◌+◌, ◌-◌, ◌≤◌, ◌<◌, sym, ◌∙◌, subst, List, [], ◌++◌, length, map, arith, All, IsPermutation, IsTrue, length-map, IsPermutation-refl, get_or_from_slice_get, EntryRecord, Mind, numbers_to, is_rising, Letter, IsInRange, Record, setting_of, IsTrace, number_at, length-numbers_to, SlipView, list_of, posted_to, all_of, AreDisjoint, AreOne, end_of, IsStageAfter, IsWindowRun, IsOutcome, Berth, Stage}
 use Rattle.windows.specs.Inside.Closing.{AreLettersOf, IsOutcomeBy, IsClosedBy}
-use Rattle.window_laws.specs.Machine.{end_of}
-use Rattle.windows.specs.Stage.{IsStageAfter, IsWindowRun}
-use Rattle.windows.specs.Inside.Workers.{IsOutcome}
-use Rattle.windows.specs.declared.berth.Berth.{Berth}
-use Rattle.windows.specs.declared.stage.Stage.{Stage}
 use Rattle.windows.proofs.Closing.{outcome_many, outcome_one, outcome_rising, outcome_disjoint, outcome_limit, outcome_next}
 
 -- the letters to each receiver in the order of the slips

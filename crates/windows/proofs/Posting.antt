@@ -1,13 +1,7 @@
 -- Letters that wait in a tray, and are posted.
-use Rattle.std.proofs.Common.{◌≡◌, ℕ, zero, suc, ◌-◌, ap, sym, ◌∙◌, refl, List, [], ◌∷◌, ◌++◌, length, replicate, set, get_or, append_assoc, append-nil, arith}
-use Rattle.std.proofs.lemmas.List.{length-replicate, length-set}
-use Rattle.process_api.specs.declared.message.Letter.{Letter}
+use Rattle.windows.proofs.Words.{◌≡◌, ℕ, zero, suc, ◌-◌, ap, sym, ◌∙◌, refl, List, [], ◌∷◌, ◌++◌, length, replicate, set, get_or, append_assoc, append-nil, arith, length-replicate, length-set, Letter, MailboxId, SlipView, IsSlipOf, filed, slip_of, with_lists, all_filed, with_letters, ArePosting}
 use Rattle.ledger.specs.Places.{each_with}
 use Rattle.ledger.proofs.Lists.{with-length}
-use Rattle.mailboxes.specs.Mailbox.{MailboxId}
-use Rattle.mailboxes.specs.Mailboxes.{SlipView, IsSlipOf, filed, slip_of, with_lists}
-use Rattle.windows.specs.Berth.{all_filed, with_letters}
-use Rattle.windows.specs.Inside.Shared.{ArePosting}
 
 -- a letter is filed, and what was filed is posted, in one order or the other
 set_with : (rows lists : List (List Letter)) (k : ℕ) (x : Letter) → length lists ≡ length rows

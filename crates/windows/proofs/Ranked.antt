@@ -1,15 +1,23 @@
 -- A list that rises by its keys is the only sorted order of its elements.
-use Rattle.std.proofs.Common.{◌≡◌, ℕ, suc, ◌+◌, ◌<◌, ◌≤◌, false, List, [], ◌∷◌, map, length, get_or, slice_get, Some, refl, sym, ap, ◌∙◌, subst, arith, inl, inr, nat_eq}
-use Rattle.std.specs.List.{All, AllByRecursion, IsDistinct}
-use Rattle.std.specs.List.Sorted.{IsPermutation, IsNonDecreasingBy}
-use Rattle.std.proofs.lemmas.Bool.{eqb-false, ne_eqb}
+use Rattle.windows.proofs.Words.{◌≡◌, ℕ, suc, ◌+◌, ◌<◌, ◌≤◌, false, List, [], ◌∷◌, map, length, get_or, slice_get, Some, refl, sym, ap, ◌∙◌, subst, arith, inl, inr, nat_eq, All, AllByRecursion, IsPermutation, IsNonDecreasingBy, eqb-false, ne_eqb, get_or-map, length-map, Contains-permutation, IsPermutation-map, IsPermutation-sym, IsIn, AllAbove, RiseBy, zero, Contains, Contains-append_right}
+use Rattle.std.specs.List.{IsDistinct}
 use Rattle.std.proofs.lemmas.Bool.Decides.{nat_tests}
-use Rattle.std.proofs.lemmas.List.Elements.{All-head, All-tail}
-use Rattle.std.proofs.lemmas.List.Sorted.{Contains-permutation, IsPermutation-map, IsPermutation-sym}
 use Rattle.std.proofs.lemmas.Map.Keys.{IsDistinct-IsPermutation}
-use Rattle.trace_laws.specs.History.{IsIn}
-use Rattle.windows.specs.Inside.Workers.{AllAbove, RiseBy}
-use Rattle.windows.proofs.Members.{contains_in, in_contains}
+
+-- ---- `IsIn`, by cases on the list, and std's `Contains`, by index, say the same
+
+at_place : {X : Type 0} (xs : List X) (x : X) (k : ℕ) → k < length xs → get_or xs k x ≡ x → IsIn x xs
+at_place [] x k inside e = absurd (omega arith)
+at_place (y ∷ ys) x zero inside e = inl (sym e)
+at_place (y ∷ ys) x (suc k) inside e = inr (at_place ys x k (omega arith) e)
+
+pub contains_in : {X : Type 0} (xs : List X) (x : X) → Contains xs x → IsIn x xs
+contains_in xs x c = at_place xs x c.0 c.1 c.2
+
+pub in_contains : {X : Type 0} (xs : List X) (x : X) → IsIn x xs → Contains xs x
+in_contains [] x i = absurd i
+in_contains (y ∷ ys) x (inl e) = (0, omega arith, sym e)
+in_contains (y ∷ ys) x (inr i) = Contains-append_right (y ∷ []) ys x (in_contains ys x i)
 
 flips : (a b : ℕ) → nat_eq a b ≡ nat_eq b a
 flips a b = grind (arith, nat_tests)
@@ -80,17 +88,11 @@ module _ {X : Type 0} (key : X → ℕ) where
     rises_counted (suc k) xs (λ i y at. let there = h (suc i) y at in omega arith),
   )
 
-module _ {X Y : Type 0} (key : Y → ℕ) (f g : X → Y) where
-  above_same : (j k : ℕ) → j ≡ k → (xs : List X) → All (λ x. key (f x) ≡ key (g x)) xs → AllAbove key k (map g xs) → AllAbove key j (map f xs)
-  above_same j k e [] same h = tt
-  above_same j k e (x ∷ xs) same h =
-      let here : key (f x) ≡ key (g x) = All-head (λ x. key (f x) ≡ key (g x)) x xs same in let lt = h.0 in
-      (omega arith, above_same j k e xs (All-tail (λ x. key (f x) ≡ key (g x)) x xs same) h.1)
-
-  -- what keeps each key keeps the order
-  pub rises_same : (xs : List X) → All (λ x. key (f x) ≡ key (g x)) xs → RiseBy key (map g xs) → RiseBy key (map f xs)
-  rises_same [] same r = tt
-  rises_same (x ∷ xs) same r = (
-    above_same (key (f x)) (key (g x)) (All-head (λ x. key (f x) ≡ key (g x)) x xs same) xs (All-tail (λ x. key (f x) ≡ key (g x)) x xs same) r.0,
-    rises_same xs (All-tail (λ x. key (f x) ≡ key (g x)) x xs same) r.1,
-  )
+-- what keeps each key keeps the order
+pub same_order : {X Y : Type 0} (key : Y → ℕ) (f g : X → Y) (xs : List X) → All (λ x. key (f x) ≡ key (g x)) xs → IsNonDecreasingBy key (map g xs) → IsNonDecreasingBy key (map f xs)
+same_order key f g [] same up i j d le lt = absurd (omega arith)
+same_order key f g (x ∷ xs) same up i j d le lt =
+    let less : j < length (x ∷ xs) = omega (arith, lt, length-map (x ∷ xs) f) in
+    let at : (k : ℕ) → k < length (x ∷ xs) → key (get_or (map f (x ∷ xs)) k d) ≡ key (get_or (map g (x ∷ xs)) k d) =
+    λ k l. ap key (get_or-map f (x ∷ xs) k x d l) ∙ (same k x l ∙ ap key (sym (get_or-map g (x ∷ xs) k x d l))) in
+    omega (arith, at i (omega (arith, le, less)), at j less, up i j d le (omega (arith, less, length-map (x ∷ xs) g)))

@@ -1,13 +1,5 @@
--- What a call promises of its answer says nothing where it is refused.
-use Rattle.std.proofs.Common.{◌≡◌, ◌⊎◌, inl, inr, Result, Ok, Err, IfOk, IfErr, IsErrOf}
-use Rattle.std.specs.Result.{IsErr}
-use Rattle.std.proofs.lemmas.Result.{IfOk-from_err}
-use Rattle.process_api.specs.declared.run_error.RunError.{RunError}
-use Rattle.process_api.specs.declared.run_error.RunError.TheVariants.{Limit, Memory}
-use Rattle.windows.specs.Refusals.{AreThere, IsFirstRefusal, IsRefusal, IsRefusalOfOne}
-
-pub holds_of_none : {A E : Type 0} (r : Result A E) → IsErr r → (P : A → Type 0) → IfOk r P
-holds_of_none r is P = IfOk-from_err r P is
+-- Answers and refusals.
+use Rattle.windows.proofs.Words.{◌≡◌, ◌⊎◌, inl, inr, Result, Ok, Err, IfErr, IsErrOf, RunError, Limit, Memory, AreThere, IsFirstRefusal, IsRefusal, IsRefusalOfOne}
 
 -- an answer is no refusal
 pub not_err : {A E : Type 0} (x : A) (d : E) → ◌≡◌ {A = Result A E} (Ok x) (Err d) → ⊥

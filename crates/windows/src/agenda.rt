@@ -5,7 +5,8 @@ ghost use Rattle.trace_laws.specs.Step.{Event as EventPair};
 ghost use Rattle.trace_laws.specs.World.{IsLeast, NoneBelow, joined};
 ghost use Rattle.pending_events.specs.Pending.{IsEmpty, IsLeastTick};
 ghost use Rattle.trace_laws.specs.Taken.{event_of};
-ghost use Rattle.windows.specs.Inside.Agenda.{all_in, all_ahead, in_box, AreLists, AreOne, IsParted, IsSoonestOf};
+ghost use Rattle.mailboxes.specs.Mailbox.{soonest_in};
+ghost use Rattle.windows.specs.Inside.Agenda.{all_in, all_ahead, in_box, AreLists, AreOne, IsParted};
 ghost use Rattle.windows.specs.Stage.{start_event};
 
 use mailboxes::{Inbox, earlier};
@@ -61,9 +62,8 @@ impl Model for Agenda {
 }
 
 /// The least tick of the letters of an inbox, if there are any.
-#[tactic(auto, using(crate::proofs::Agendas::soonest_events))]
 fn soonest_of(inbox: &Option<Inbox>) -> Option<u32>
-    ensures { IsSoonestOf (map event_of (in_box inbox.now)) result }
+    ensures { result ≡ soonest_in (in_box inbox.now) }
 {
     match inbox {
         Some(inbox) => inbox.soonest(),

@@ -5,7 +5,7 @@ ghost use Rattle.process_api.specs.declared.message.Letter.{Letter};
 ghost use Rattle.steps.specs.Seat.{process_of, own_of, IsMindIn, IsSeated};
 ghost use Rattle.trace_laws.specs.World.{joined, opened};
 ghost use Rattle.mailboxes.specs.Mailboxes.{IsSlipOf};
-ghost use Rattle.windows.specs.Berth.{all_filed, with_letters, made_in, most_in_part, AreFiled, IsBerth, IsBerthOf, IsLong, RanTo};
+ghost use Rattle.windows.specs.Berth.{all_filed, with_letters, made_in, AreFiled, IsBerth, IsBerthOf, IsLong, RanTo};
 ghost use Rattle.window_laws.specs.Machine.{for_self};
 ghost use Rattle.windows.specs.Refusals.{IsRefusalOfOne};
 
@@ -118,25 +118,6 @@ impl<M: Process> Berth<M> {
     }
 }
 
-/// Whether a part with so many entries, which may have `left`, takes one more.
-///
-/// # Errors
-///
-/// `Limit` where it has `left` entries, and `Memory` where it has 2^50, for which there is no memory.
-fn check_room(made: u64, left: u64) -> Result<(), RunError>
-    ensures ok { OnOk result ((made < left) × (made < most_in_part)) }
-    ensures errors { IfErr result IsRefusalOfOne }
-    ensures limit { IsErrOf result RunError.Limit → left ≤ made }
-{
-    if made >= left {
-        return Err(RunError::Limit);
-    }
-    if made >= MOST_IN_PART {
-        return Err(RunError::Memory);
-    }
-    Ok(())
-}
-
 /// As [`run_berth`], but the letters come into a tray, where they wait to be posted.
 ///
 /// # Errors
@@ -166,7 +147,13 @@ pub(crate) fn run_into<M: Process, R: Wait>(
         return Err(RunError::Limit);
     }
     while let Some(event) = berth.pending.take_below(rt, end)? {
-        check_room(berth.part.len() as u64, left)?;
+        let made = berth.part.len() as u64;
+        if made >= left {
+            return Err(RunError::Limit);
+        }
+        if made >= MOST_IN_PART {
+            return Err(RunError::Memory);
+        }
         berth.take(rt, streams, tray, event)?;
     }
     Ok(())

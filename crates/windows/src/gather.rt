@@ -68,7 +68,7 @@ pub(crate) fn starts_of<M: Process>(
     let mut starts = Vec::with_capacity(alloc, hands.len())?;
     for hand in hands {
         let slip = mailboxes.slip(alloc)?;
-        starts.push_reserved(Start { hand, slip });
+        starts.push(Start { hand, slip })?;
     }
     Ok(starts)
 }
@@ -90,8 +90,8 @@ pub(crate) fn gather<M: Process>(
     let mut slips = Vec::with_capacity(alloc, works.len())?;
     for mut work in works {
         done.append(&mut work.done)?;
-        hands.push_reserved(work.hand);
-        slips.push_reserved(work.slip);
+        hands.push(work.hand)?;
+        slips.push(work.slip)?;
     }
     Ok((Rest::of_hands(alloc, hands)?, done, slips))
 }

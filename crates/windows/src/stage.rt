@@ -71,37 +71,6 @@ fn berths_of<M: Process>(
     Ok(berths)
 }
 
-/// A berth gives its part of the window, and keeps an empty one.
-fn take_part<M>(alloc: Global, berth: &mut Berth<M>) -> Result<Vec<Entry>, AllocError>
-    ensures seat { OnOk result (berth.new.seat ≡ berth.old.seat) }
-    ensures pending { OnOk result (berth.new.pending ≡ berth.old.pending) }
-    ensures empty { OnOk result (berth.new.part.items ≡ []) }
-    ensures entries { IfOk result (λ v. v.items ≡ berth.old.part.items) }
-{
-    // as much room as this window's part took
-    let next = Vec::with_capacity(alloc, berth.part.len())?;
-    Ok(replace(&mut berth.part, next))
-}
-
-/// Each berth gives its part of the window. Answers the berths, and the parts in the same order.
-fn take_parts<M: Process>(
-    alloc: Global,
-    berths: Vec<Berth<M>>,
-) -> Result<(Vec<Berth<M>>, Vec<Vec<Entry>>), AllocError>
-    ensures seats { IfOk result (λ r. map (λ b. b.seat) r.0.items ≡ map (λ b. b.seat) berths.items) }
-    ensures pending { IfOk result (λ r. map (λ b. b.pending) r.0.items ≡ map (λ b. b.pending) berths.items) }
-    ensures empty { IfOk result (λ r. All (λ b. b.part.items ≡ []) r.0.items) }
-    ensures parts { IfOk result (λ r. map (λ v. v.items) r.1.items ≡ map (λ b. b.part.items) berths.items) }
-{
-    let mut done = Vec::with_capacity(alloc, berths.len())?;
-    let mut parts = Vec::with_capacity(alloc, berths.len())?;
-    for mut berth in berths {
-        parts.push(take_part(alloc, &mut berth)?)?;
-        done.push(berth)?;
-    }
-    Ok((done, parts))
-}
-
 // One inbox more, if there is one.
 fn keep(kept: &mut Vec<Inbox>, inbox: Option<Inbox>) -> Result<(), AllocError>
     requires inbox { in_box inbox ≡ [] }
@@ -114,33 +83,38 @@ fn keep(kept: &mut Vec<Inbox>, inbox: Option<Inbox>) -> Result<(), AllocError>
     Ok(())
 }
 
-/// Each berth gets its mailbox with the letters. Both lists have process 1 first. Answers the berths, and the mailboxes
-/// that they had before, which are empty.
-fn deliver_all<M: Process, R: Wait>(
+/// Each berth gives its part of the window, and gets its mailbox with the letters. Both lists have process 1 first.
+/// Answers the berths, the parts in the same order, and the mailboxes that the berths had before, which are empty.
+fn hand_over<M: Process, R: Wait>(
     rt: &R,
     alloc: Global,
     berths: Vec<Berth<M>>,
     inboxes: Vec<Inbox>,
-) -> Result<(Vec<Berth<M>>, Vec<Inbox>), AllocError>
+) -> Result<(Vec<Berth<M>>, Vec<Vec<Entry>>, Vec<Inbox>), AllocError>
     requires count { vec_len inboxes ≡ vec_len berths }
     requires one { All AreOne inboxes.items }
     ensures seats { IfOk result (λ r. map (λ b. b.seat) r.0.items ≡ map (λ b. b.seat) berths.items) }
     ensures pending { IfOk result (λ r.
         map (λ b. b.pending) r.0.items ≡ delivered (map (λ b. b.pending) berths.items) inboxes.items) }
-    ensures parts { IfOk result (λ r. map (λ b. b.part) r.0.items ≡ map (λ b. b.part) berths.items) }
-    ensures emptied { IfOk result (λ r. All (λ i. i ≡ []) r.1.items) }
+    ensures empty { IfOk result (λ r. All (λ b. b.part.items ≡ []) r.0.items) }
+    ensures parts { IfOk result (λ r. map (λ v. v.items) r.1.items ≡ map (λ b. b.part.items) berths.items) }
+    ensures emptied { IfOk result (λ r. All (λ i. i ≡ []) r.2.items) }
 {
     let mut done = Vec::with_capacity(alloc, berths.len())?;
+    let mut parts = Vec::with_capacity(alloc, berths.len())?;
     let mut emptied = Vec::new(alloc);
     let mut inboxes = inboxes.into_iter();
     for mut berth in berths {
         let Some(inbox) = inboxes.next() else {
             unreachable!()
         };
+        // as much room as this window's part took
+        let next = Vec::with_capacity(alloc, berth.part.len())?;
+        parts.push(replace(&mut berth.part, next))?;
         keep(&mut emptied, berth.pending.deliver(rt, inbox)?)?;
         done.push(berth)?;
     }
-    Ok((done, emptied))
+    Ok((done, parts, emptied))
 }
 
 /// How many entries the parts have together, if that is at most `left`.
@@ -273,12 +247,11 @@ impl<'s, M: Process> Stage<'s, M> {
         ensures limit { IsErrOf result RunError.Limit
             → left < length (all_of (map (λ b. b.part.items) ran.berths.items)) }
     {
-        let (berths, parts) = take_parts(alloc, ran.berths)?;
+        let inboxes = ran.mailboxes.into_inboxes(alloc, ran.slips)?;
+        let (berths, parts, emptied) = hand_over(rt, alloc, ran.berths, inboxes)?;
         let Some(made) = count_within(&parts, left) else {
             return Err(RunError::Limit);
         };
-        let inboxes = ran.mailboxes.into_inboxes(alloc, ran.slips)?;
-        let (berths, emptied) = deliver_all(rt, alloc, berths, inboxes)?;
         self.so_far += made;
         self.workers = ran.workers;
         self.start = next_start(&berths, self.scenario.horizon());

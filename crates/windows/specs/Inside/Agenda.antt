@@ -1,10 +1,11 @@
 -- The pending events of a process: those of the window that is run, and others.
-use Rattle.std.specs.Prelude.{◌≡◌, ◌⊎◌, ◌≤◌, ◌<◌, ◌++◌, ℕ, List, [], ◌∷◌, map, Option, Some, None, MatchOption}
+use Rattle.std.specs.Prelude.{◌≡◌, ◌≤◌, ◌<◌, ◌++◌, ℕ, List, [], ◌∷◌, map, Option, Some, None}
 use Rattle.std.specs.FinMap as events
 use Rattle.std.specs.List.{AllByRecursion}
 use Rattle.process_api.specs.declared.key.Key.{Key}
 use Rattle.process_api.specs.declared.message.Letter.{Letter}
 use Rattle.process_api.specs.declared.message.StepInput.{StepInput}
+use Rattle.mailboxes.specs.Mailbox.{earlier_of}
 use Rattle.trace_laws.specs.History.{IsIn}
 use Rattle.trace_laws.specs.Step.{Event, Events}
 use Rattle.trace_laws.specs.Taken.{event_of}
@@ -12,18 +13,14 @@ use Rattle.trace_laws.specs.World.{Has, joined}
 use Rattle.windows.specs.declared.agenda.Lists.{Lists}
 use Rattle.windows.specs.declared.agenda.Parted.{Parted}
 
--- some event is of this tick
-abbrev pub SomeAt : ℕ → List Event → Type 0
-SomeAt tick [] = ⊥
-SomeAt tick (e ∷ es) = (e.0.tick ≡ tick) ⊎ SomeAt tick es
+-- the least tick of these events, if there are any
+abbrev pub first_tick : List Event → Option ℕ
+first_tick [] = None
+first_tick (e ∷ es) = earlier_of (Some e.0.tick) (first_tick es)
 
 -- all events are of this tick or later
 abbrev pub AreFrom : ℕ → List Event → Type 0
 AreFrom tick es = AllByRecursion (λ e. tick ≤ e.0.tick) es
-
--- there is no event, or this is the least tick of one
-abbrev pub IsSoonestOf : List Event → Option ℕ → Type 0
-IsSoonestOf es soonest = MatchOption soonest (es ≡ []) (λ tick. AreFrom tick es × SomeAt tick es)
 
 abbrev pub all_in : Lists → Events
 all_in a = joined a.row a.later.items
@@ -45,7 +42,7 @@ AreOne letters = (x y : Letter) → IsIn x letters → IsIn y letters → x.key 
 pub record AreLists (a : Lists) : Type 0 where
   pub below : (key : Key) (input : StepInput) → Has a.row key input → key.tick < a.end
   pub from : AreFrom a.end a.later.items
-  pub next : IsSoonestOf a.later.items a.next
+  pub next : a.next ≡ first_tick a.later.items
 
 -- these events, parted
 pub record IsParted (end : ℕ) (es : List Event) (p : Parted) : Type 0 where
@@ -53,4 +50,4 @@ pub record IsParted (end : ℕ) (es : List Event) (p : Parted) : Type 0 where
   pub same : joined events.empty (p.due.items ++ p.later.items) ≡ joined events.empty es
   pub below : AllByRecursion (λ e. e.0.tick < end) p.due.items
   pub from : AreFrom end p.later.items
-  pub next : IsSoonestOf p.later.items p.next
+  pub next : p.next ≡ first_tick p.later.items

@@ -9,8 +9,8 @@ use Rattle.mailboxes.specs.Mailbox.{MailboxId}
 use Rattle.process_api.specs.declared.message.Letter.{Letter}
 use Rattle.mailboxes.specs.Mailboxes.{SlipView, IsSlipOf}
 use Rattle.deques.specs.Deques.{HandView, RestView}
-use Rattle.windows.specs.Refusals.{IsRefusal}
-use Rattle.windows.specs.Inside.Workers.{IsFresh, IsReady, IsWork, IsAnswer, IsRest, AreRun, AreRunBy, HasLong, HaveLong}
+use Rattle.windows.specs.Refusals.{IsRefusal, IsRefusalOfOne}
+use Rattle.windows.specs.Inside.Workers.{IsFresh, IsReady, IsWork, IsRest, AreRun, AreRunBy, HasLong}
 use Rattle.windows.specs.declared.berth.Berth.{Berth}
 use Rattle.windows.specs.declared.shared.Shared.{Shared}
 use Rattle.windows.specs.declared.shared.Window.{Window}
@@ -56,15 +56,18 @@ module _ {M : Type 0} (mind : M → Mind) where
     abbrev pub IsWorkIn : Work M → Type 0
     IsWorkIn x = IsWorkBy x.hand x.slip x.done.items
 
-    -- what a worker may answer
-    abbrev pub IsAnswerTo : Start M → Result (Work M) RunError → Type 0
-    IsAnswerTo s r =
-        IsAnswer mind w.window.now.streams w.window.now.end w.window.now.left w.fronts.now.items w.mailboxes.now
-        s.hand r
+    -- A worker answers its work, with the deque that was its own; or that memory was refused; or the limit, where one
+    -- of the berths that it knows is too long
+    pub record IsAnswerTo (s : Start M) (r : Result (Work M) RunError) : Type 0 where
+      pub own : IfOk r (λ x. x.hand.own ≡ s.hand.own)
+      pub work : IfOk r IsWorkIn
+      pub errors : IfErr r IsRefusalOfOne
+      pub limit : IsErrOf r Limit → IsOneTooLong w.window.now s.hand.known
 
     -- one of the berths that all of these workers know is too long
     abbrev pub KnowOneTooLong : List (Start M) → Type 0
-    KnowOneTooLong starts = HaveLong mind w.window.now.streams w.window.now.end w.window.now.left starts
+    KnowOneTooLong starts =
+        (known : List (Berth M)) → All (λ b. b.hand.known ≡ known) starts → IsOneTooLong w.window.now known
 
     -- what the workers that began so answer together: the work of each, or why there is none
     pub record AreAnswers (starts : List (Start M)) (r : Result (Vec (Work M)) RunError) : Type 0 where

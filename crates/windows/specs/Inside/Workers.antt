@@ -1,5 +1,5 @@
 -- What the workers of a window do.
-use Rattle.std.specs.Prelude.{◌≡◌, ◌↔◌, ◌<◌, ◌≤◌, ◌-◌, ◌++◌, ℕ, List, [], ◌∷◌, length, map, Result, IfOk, IfErr, IsErrOf}
+use Rattle.std.specs.Prelude.{◌≡◌, ◌↔◌, ◌<◌, ◌≤◌, ◌-◌, ◌++◌, ℕ, Bool, nat_eq, filter, List, [], ◌∷◌, length, map}
 use Rattle.std.specs.List.{All, Contains, flat_map}
 use Rattle.std.specs.List.Sorted.{IsPermutation}
 use Rattle.process_api.specs.Mind.{Mind}
@@ -7,13 +7,10 @@ use Rattle.process_api.specs.declared.message.Letter.{Letter}
 use Rattle.scenario_record.specs.Record.{Record}
 use Rattle.steps.specs.Seat.{own_of}
 use Rattle.trace_laws.specs.History.{IsIn}
-use Rattle.process_api.specs.declared.run_error.RunError.{RunError}
-use Rattle.process_api.specs.declared.run_error.RunError.TheVariants.{Limit}
 use Rattle.mailboxes.specs.Mailbox.{MailboxId}
 use Rattle.mailboxes.specs.Mailboxes.{SlipView, IsSlipOf, unused, list_of, posted_to}
 use Rattle.windows.specs.Berth.{IsBerth, IsBerthOf, IsLong, RanTo, with_letters}
 use Rattle.deques.specs.Deques.{DequeId, HandView, RestView, all_put}
-use Rattle.windows.specs.Refusals.{IsRefusalOfOne}
 use Rattle.windows.specs.declared.berth.Berth.{Berth}
 use Rattle.windows.specs.declared.workers.Start.{Start}
 use Rattle.windows.specs.declared.workers.Work.{Work}
@@ -23,6 +20,10 @@ pub record Stay (M : Type 0) : Type 0 where
   pub before : Berth M
   pub after : Berth M
   pub letters : List Letter
+
+-- whether a letter is to receiver r
+abbrev pub is_to : ℕ → Letter → Bool
+is_to r x = nat_eq (x.key.receiver - 1) (r - 1)
 
 module _ {M : Type 0} where
   abbrev pub stay : Berth M → Berth M → List Letter → Stay M
@@ -35,13 +36,9 @@ module _ {M : Type 0} where
   abbrev pub left_in : List (Stay M) → List (Berth M)
   left_in stays = map (λ t. t.after) stays
 
-  abbrev pub all_stays : List (List (Stay M)) → List (Stay M)
-  all_stays stays = flat_map (λ l. l) stays
-
-  -- a slip after the letters of these runs were posted by it
-  abbrev pub with_stays : SlipView → List (Stay M) → SlipView
-  with_stays slip [] = slip
-  with_stays slip (t ∷ stays) = with_stays (with_letters slip t.letters) stays
+  -- the letters of these runs
+  abbrev pub sent_in : List (Stay M) → List Letter
+  sent_in stays = flat_map (λ t. t.letters) stays
 
   -- a letter to receiver r is one of these runs
   abbrev pub IsSent : List (Stay M) → (r : ℕ) → Letter → Type 0
@@ -71,36 +68,13 @@ module _ {M : Type 0} where
       pub each : All (IsStay end) stays
       pub taken_are : IsPermutation (taken_in stays) taken
       pub done_are : left_in stays ≡ done
-      pub posted : slip ≡ with_stays (unused mailboxes) stays
+      pub posted : slip ≡ with_letters (unused mailboxes) (sent_in stays)
 
     -- a worker ran what it took from these deques
     pub record IsWork (end : ℕ) (deques : List DequeId) (mailboxes : List MailboxId) (hand : HandView (Berth M))
         (slip : SlipView) (done : List (Berth M)) : Type 0 where
       pub of_deques : hand.deques ≡ deques
       pub run : AreRunBy end mailboxes hand.taken slip done
-
-    -- A worker answers its work, with the deque that was its own; or that memory was refused; or the limit, where one
-    -- of the berths that it knows is too long
-    pub record IsAnswer (end left : ℕ) (deques : List DequeId) (mailboxes : List MailboxId)
-        (hand : HandView (Berth M)) (r : Result (Work M) RunError) : Type 0 where
-      pub own : IfOk r (λ w. w.hand.own ≡ hand.own)
-      pub work : IfOk r (λ w. IsWork end deques mailboxes w.hand w.slip w.done.items)
-      pub errors : IfErr r IsRefusalOfOne
-      pub limit : IsErrOf r Limit → HasLong end left hand.known
-
-    -- one of the berths that all of these workers know is too long
-    abbrev pub HaveLong : (end left : ℕ) → List (Start M) → Type 0
-    HaveLong end left starts =
-        (known : List (Berth M)) → All (λ b. b.hand.known ≡ known) starts → HasLong end left known
-
-    -- what some workers took, what they left, and their slips
-    pub record AreWorks (end : ℕ) (mailboxes : List MailboxId) (taken done : List (Berth M))
-        (slips : List SlipView) : Type 0 where
-      pub stays : List (List (Stay M))
-      pub each : All (IsStay end) (all_stays stays)
-      pub taken_are : IsPermutation (taken_in (all_stays stays)) taken
-      pub done_are : left_in (all_stays stays) ≡ done
-      pub posted : map (with_stays (unused mailboxes)) stays ≡ slips
 
     -- what the starter took itself, after the workers: with it each berth was taken, as often as it was put in
     pub record IsRest (end : ℕ) (mailboxes : List MailboxId) (old new : RestView (Berth M)) (slip : SlipView)
@@ -111,7 +85,7 @@ module _ {M : Type 0} where
       pub same : IsPermutation (all_put old.own) new.taken
 
     -- each of these processes had its window: it ran, or it had nothing to run. The slips have just the letters of
-    -- these runs
+    -- these runs, in their order
     pub record AreRun (end : ℕ) (mailboxes : List MailboxId) (olds news : List (Berth M))
         (slips : List SlipView) : Type 0 where
       pub stays : List (Stay M)
@@ -119,7 +93,7 @@ module _ {M : Type 0} where
       pub olds_are : IsPermutation (taken_in stays) olds
       pub news_are : left_in stays ≡ news
       pub of_mailboxes : All (IsSlipOf mailboxes) slips
-      pub posted : (r : ℕ) → 1 ≤ r → r ≤ s.processes → (x : Letter) → IsIn x (posted_to slips r) ↔ IsSent stays r x
+      pub posted : (r : ℕ) → 1 ≤ r → r ≤ s.processes → posted_to slips r ≡ filter (is_to r) (sent_in stays)
 
     -- The same in the order of the processes. The list of receiver r has just the letters to it
     pub record IsOutcome (end : ℕ) (olds news : List (Berth M)) (lists : List (List Letter)) : Type 0 where
@@ -138,13 +112,13 @@ module _ {M : Type 0} where
   abbrev pub given_to : List (Work M) → List (Berth M)
   given_to works = all_put (map (λ w. w.hand.own) works)
 
-  -- whatever these workers did, it is brought together
+  -- whatever these workers did, with a mailbox for each process, it is brought together
   abbrev pub BringsTogether : (M → Mind) → List DequeId → List (Work M) → (taken done : List (Berth M))
       → List SlipView → Type 0
   BringsTogether mind deques works taken done slips =
-      (s : Record) (end : ℕ) (mailboxes : List MailboxId)
+      (s : Record) (end : ℕ) (mailboxes : List MailboxId) → length mailboxes ≡ s.processes
       → All (λ w. IsWork mind s end deques mailboxes w.hand w.slip w.done.items) works
-      → AreWorks mind s end mailboxes taken done slips
+      → AreRun mind s end mailboxes taken done slips
 
   -- of these deques and these mailboxes, and nothing was taken or posted yet
   pub record IsFresh (deques : List DequeId) (mailboxes : List MailboxId) (hand : HandView (Berth M))

@@ -1,6 +1,4 @@
-use Rattle.std.proofs.Common.{[], ◌∷◌, refl}
-use Rattle.ledger.specs.Ledger.{has_taken}
-use Rattle.ledger.proofs.Ledgers.{takes, learns}
+use Rattle.mailboxes.proofs.Words.{[], ◌∷◌, refl, has_taken, takes, learns}
 use Rattle.mailboxes.proofs.mailbox.drain.Goals as goal
 
 pub pop_as-requires-clause-rule : goal.pop_as-requires-clause-rule

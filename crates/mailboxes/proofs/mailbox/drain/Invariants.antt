@@ -1,6 +1,5 @@
-use Rattle.std.proofs.Common.{◌≡◌, ◌≢◌}
+use Rattle.mailboxes.proofs.Words.{◌≡◌, ◌≢◌, has_taken}
 use Rattle.crossbeam_queue.specs.SegTies.{IsSegPassOf}
-use Rattle.ledger.specs.Ledger.{has_taken}
 use Rattle.mailboxes.proofs.mailbox.drain.Given as goal
 
 abbrev pub invariant-loop : goal.invariant-loop

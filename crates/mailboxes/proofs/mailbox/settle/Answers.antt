@@ -1,7 +1,4 @@
-use Rattle.std.proofs.Common.{◌∙◌, ap, sym}
-use Rattle.process_api.specs.declared.message.Letter.{Letter}
-use Rattle.ledger.specs.declared.account.Account.{Account}
-use Rattle.ledger.proofs.Ledgers.{settles, merges}
+use Rattle.mailboxes.proofs.Words.{◌∙◌, ap, sym, Letter, Account, settles, merges}
 use Rattle.mailboxes.proofs.mailbox.settle.Goals as goal
 
 pub another-other-requires-clause-rule : goal.another-other-requires-clause-rule

@@ -1,11 +1,5 @@
-use Rattle.std.proofs.Common.{◌≡◌, ◌∙◌, ◌++◌, ◌∷◌, [], ap, map, drop, get_or, length, sym, subst, arith, append_assoc, append-nil}
-use Rattle.std.specs.List.{All}
-use Rattle.std.specs.Vec.Iter.{into_iter_items}
-use Rattle.std.proofs.lemmas.List.{length-map, nil_from_length}
-use Rattle.std.proofs.lemmas.List.Elements.{All-head, All-tail}
-use Rattle.mailboxes.specs.Mailbox.{HomeView}
-use Rattle.mailboxes.proofs.Homes.{back_of, mailbox_of}
-use Rattle.mailboxes.proofs.Inboxes.{IsIn}
+use Rattle.mailboxes.proofs.Words.{◌≡◌, ◌∙◌, ◌++◌, ◌∷◌, [], ap, map, drop, length, sym, subst, append_assoc, append-nil, All, into_iter_items, length-map, nil_from_length, All-tail}
+use Rattle.mailboxes.proofs.Homes.{back_of, mailbox_of, IsIn}
 use Rattle.mailboxes.proofs.mailboxes.inboxes_of.Goals as goal
 
 pub loop-home-init : goal.loop-home-init
@@ -21,14 +15,6 @@ loop-home-init c =
       same = ap length boxes ∙ length-map _ mailbox_of;
     }
 
-pub new-requires-clause-home : goal.new-requires-clause-home
-new-requires-clause-home c =
-    let mailbox = c.in-Some-next.mailbox in
-    sym (ap (λ l. get_or l 0 mailbox) (sym c.in-Some-next.ensures.items ∙ (c.loop-home.invariant.boxes ∙ ap (map mailbox_of) c.in-Some.ensures.steps.0)))
-
-pub new-requires-clause-out : goal.new-requires-clause-out
-new-requires-clause-out c = All-head IsIn c.in-Some.home (into_iter_items c.next.new.self) (subst (All IsIn) c.in-Some.ensures.steps.0 c.loop-home.invariant.out)
-
 pub loop-home-preserved : goal.loop-home-preserved
 loop-home-preserved c =
     let i = c.loop-home.invariant in
@@ -41,9 +27,7 @@ loop-home-preserved c =
       boxes = boxes;
       out = All-tail IsIn h rest (subst (All IsIn) e i.out);
       letters = ap (λ xs. xs ++ map back_of rest) c.in_ok-push.ensures.items
-          ∙ (append_assoc done (c.new.result ∷ []) (map back_of rest)
-          ∙ (ap (λ b. done ++ (b ∷ map back_of rest)) c.new.ensures
-          ∙ (ap (λ xs. done ++ map back_of xs) (sym e) ∙ i.letters)));
+          ∙ (append_assoc done (h.back ∷ []) (map back_of rest) ∙ (ap (λ xs. done ++ map back_of xs) (sym e) ∙ i.letters));
       same = ap length boxes ∙ length-map rest mailbox_of;
     }
 

@@ -1,6 +1,4 @@
-use Rattle.std.proofs.Common.{◌≡◌, ◌++◌, length, map}
-use Rattle.std.specs.List.{All}
-use Rattle.std.specs.Vec.Iter.{into_iter_items}
+use Rattle.mailboxes.proofs.Words.{◌≡◌, ◌++◌, length, map, All, into_iter_items}
 use Rattle.mailboxes.proofs.mailboxes.inboxes_of.Given as goal
 
 -- the inboxes so far, and what is left, of which each pass is of its mailbox

@@ -1,9 +1,5 @@
-use Rattle.std.proofs.Common.{◌≡◌, ◌∙◌, ◌++◌, [], ap, sym, subst, append-nil}
-use Rattle.std.specs.Vec.Iter.{into_iter_items}
-use Rattle.std.proofs.lemmas.List.{nil_from_length}
-use Rattle.mailboxes.specs.Mailboxes.{letters_in}
-use Rattle.ledger.proofs.Lists.{Shuffled, Shuffled-refl}
-use Rattle.mailboxes.proofs.Inboxes.{taken_more}
+use Rattle.mailboxes.proofs.Words.{◌∙◌, ◌++◌, ap, sym, subst, append-nil, into_iter_items, nil_from_length, letters_in, Shuffled, Shuffled-refl}
+use Rattle.mailboxes.proofs.Homes.{taken_more}
 use Rattle.mailboxes.proofs.mailboxes.letters_from_all.Goals as goal
 
 pub loop-inbox-init : goal.loop-inbox-init

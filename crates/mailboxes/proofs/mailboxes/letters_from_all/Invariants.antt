@@ -1,7 +1,4 @@
-use Rattle.std.proofs.Common.{◌++◌}
-use Rattle.std.specs.Vec.Iter.{into_iter_items}
-use Rattle.mailboxes.specs.Mailboxes.{letters_in}
-use Rattle.ledger.proofs.Lists.{Shuffled}
+use Rattle.mailboxes.proofs.Words.{◌++◌, into_iter_items, letters_in, Shuffled}
 use Rattle.mailboxes.proofs.mailboxes.letters_from_all.Given as goal
 
 -- the lists so far, and what the rest would give

@@ -1,5 +1,4 @@
-use Rattle.std.proofs.Common.{◌≡◌, ◌++◌}
-use Rattle.std.specs.Vec.Iter.{into_iter_items}
+use Rattle.mailboxes.proofs.Words.{◌≡◌, ◌++◌, into_iter_items}
 use Rattle.mailboxes.proofs.mailboxes.letters_of.Given as goal
 
 abbrev pub invariant-loop-parcel : goal.invariant-loop-parcel

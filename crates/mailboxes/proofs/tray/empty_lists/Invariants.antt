@@ -1,5 +1,4 @@
-use Rattle.std.proofs.Common.{◌≡◌, ◌≤◌, [], replicate, vec_len, vec_capacity}
-use Rattle.mailboxes.specs.Mailboxes.{letters_in}
+use Rattle.mailboxes.proofs.Words.{◌≡◌, ◌≤◌, [], replicate, vec_len, vec_capacity, letters_in}
 use Rattle.mailboxes.proofs.tray.empty_lists.Given as goal
 
 abbrev pub invariant-loop : goal.invariant-loop

@@ -1,11 +1,5 @@
-use Rattle.std.proofs.Common.{◌∙◌, ◌++◌, ◌∷◌, [], ◌<◌, ◌≤◌, ap, sym, subst, arith, Some}
-use Rattle.process_api.proofs.Lists.{both}
-use Rattle.trace_laws.specs.Step.{Event}
-use Rattle.trace_laws.specs.World.{Has, joined}
-use Rattle.trace_laws.proofs.Joining.{joined_one}
-use Rattle.mailboxes.specs.Mailbox.{earlier_of}
-use Rattle.windows.specs.Inside.Agenda.{AreFrom, IsSoonestOf}
-use Rattle.windows.proofs.Agendas.{insert_past, of_joined, soonest_more}
+use Rattle.windows.proofs.Words.{◌∙◌, ◌∷◌, [], ◌<◌, ◌≤◌, ap, sym, subst, arith, Some, both, Event, Has, joined, joined_one, earlier_of, AreFrom, first_tick}
+use Rattle.windows.proofs.Agendas.{insert_past, of_joined, tick_more}
 use Rattle.windows.proofs.agenda.join.Goals as goal
 
 early : (c : goal.In_ok-join) → c.args.event.0.tick < c.args.lists.now.end
@@ -30,8 +24,8 @@ returns-clause-lists c =
     record {
       below = c.requires.below;
       from = subst (AreFrom a.end) (sym c.in_ok-push.ensures.items) (both (λ (f : Event). a.end ≤ f.0.tick) a.later.items (e ∷ []) c.requires.from (late, tt));
-      next = subst (λ es. IsSoonestOf es c.earlier-lists.result) (sym c.in_ok-push.ensures.items)
-          (subst (IsSoonestOf (a.later.items ++ e ∷ [])) (sym (c.earlier-lists.ensures ∙ ap (λ k. earlier_of a.next (Some k.tick)) c.key-tick.ensures)) (soonest_more a.later.items e a.next c.requires.next));
+      next = c.earlier-lists.ensures
+          ∙ ((λ i. earlier_of (c.requires.next i) (Some (c.key-tick.ensures i).tick)) ∙ (sym (tick_more a.later.items e) ∙ ap first_tick (sym c.in_ok-push.ensures.items)));
     }
 
 pub returns-clause-joined : goal.returns-clause-joined

@@ -1,10 +1,5 @@
-use Rattle.std.proofs.Common.{◌∙◌, ◌++◌, [], ◌<◌, ap, map, sym, subst}
+use Rattle.windows.proofs.Words.{◌∙◌, ◌++◌, [], ◌<◌, ap, map, sym, subst, key_cmp, event_of, Has, joined, not_None, IsParted}
 use Rattle.std.specs.FinMap as events
-use Rattle.process_api.specs.Order.{key_cmp}
-use Rattle.trace_laws.specs.Taken.{event_of}
-use Rattle.trace_laws.specs.World.{Has, joined}
-use Rattle.trace_laws.proofs.Sets.{not_None}
-use Rattle.windows.specs.Inside.Agenda.{IsParted}
 use Rattle.windows.proofs.Agendas.{of_joined}
 use Rattle.windows.proofs.Letters.{joined_both}
 use Rattle.windows.proofs.agenda.part.Goals as goal

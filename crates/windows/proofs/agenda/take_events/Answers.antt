@@ -1,6 +1,5 @@
-use Rattle.std.proofs.Common.{◌∙◌, ap, sym}
+use Rattle.windows.proofs.Words.{◌∙◌, ap, sym, joined}
 use Rattle.std.specs.FinMap as events
-use Rattle.trace_laws.specs.World.{joined}
 use Rattle.windows.proofs.Letters.{joined_both}
 use Rattle.windows.proofs.agenda.take_events.Goals as goal
 

@@ -1,5 +1,4 @@
-use Rattle.std.proofs.Common.{ap, ◌∙◌}
-use Rattle.windows.specs.Berth.{with_letters}
+use Rattle.windows.proofs.Words.{ap, ◌∙◌, with_letters}
 use Rattle.windows.proofs.Posting.{posting_opens, posted_more}
 use Rattle.windows.proofs.berth.run_berth.Goals as goal
 

@@ -1,14 +1,5 @@
-use Rattle.std.proofs.Common.{◌≡◌, ◌<◌, ◌≤◌, [], ◌∷◌, ◌++◌, ◌+◌, ◌*◌, map, ap, sym, subst, ◌∙◌, refl, rules, arith, append_assoc, append-nil, length, length-append}
-use Rattle.process_api.specs.Bounds.{most_step_actions}
-use Rattle.trace_laws.specs.ScenarioSetting.{setting_of}
-use Rattle.steps.specs.Seat.{process_of, own_of, IsSeated}
-use Rattle.trace_laws.specs.World.{Has}
-use Rattle.trace_laws.specs.Taken.{event_of}
-use Rattle.windows.specs.Berth.{all_filed, made_in, most_in_part}
-use Rattle.window_laws.specs.Window.{BerthRun}
-use Rattle.window_laws.proofs.Berths.{berth_opens, berth_longer, berth_ends}
-use Rattle.windows.proofs.Letters.{filed_more}
-use Rattle.windows.proofs.Turns.{one_longer, stands_next}
+use Rattle.windows.proofs.Words.{◌≡◌, ◌<◌, [], ◌∷◌, ◌++◌, ◌+◌, ◌*◌, map, ap, sym, subst, ◌∙◌, refl, arith, append_assoc, append-nil, length, length-append, most_step_actions, setting_of, process_of, own_of, IsSeated, Has, event_of, all_filed, made_in, most_in_part, BerthRun, berth_opens, berth_longer, berth_ends}
+use Rattle.windows.proofs.Letters.{filed_more, one_longer, stands_next}
 use Rattle.windows.proofs.berth.run_into.Goals as goal
 
 pub loop-event-init : goal.loop-event-init
@@ -33,7 +24,7 @@ pub take-requires-clause-seated : goal.take-requires-clause-seated
 take-requires-clause-seated g c κs within =
     let most = most_step_actions * most_in_part in
     let now = c.loop-event.berth.part in
-    (most + most_step_actions * length now.items, c.loop-event.invariant.seated most c.requires.berth.1.seated, omega (arith, c.in_ok-check_room.ensures.ok.1, c.len-in-Some.ensures, now.ok.0))
+    (most + most_step_actions * length now.items, c.loop-event.invariant.seated most c.requires.berth.1.seated, omega (arith, now.ok.0))
 
 pub loop-event-preserved : goal.loop-event-preserved
 loop-event-preserved g c =
@@ -61,7 +52,7 @@ loop-event-preserved g c =
       );
       seated = λ most h. let same : (most + most_step_actions * length old.part.items) + most_step_actions ≡ most + most_step_actions * length new.part.items = omega (arith, longer) in
           subst (λ n. IsSeated mind c.args.streams.now n new.seat) same (done.seated (most + most_step_actions * length old.part.items) (i.seated most h));
-      within = omega (arith, longer, new.part.ok.0, old.part.ok.0, c.len-in-Some.ensures, c.in_ok-check_room.ensures.ok.0);
+      within = omega (arith, longer, new.part.ok.0, old.part.ok.0);
     }
 
 pub take-requires-clause-own : goal.take-requires-clause-own
@@ -75,13 +66,13 @@ loop-event-smaller g c =
     let old = c.loop-event.berth.part in
     let new = c.take.new.self.part in
     let longer : length new.items ≡ length old.items + 1 = one_longer old.items new.items _ c.in_ok-take.ensures.part in
-    omega (arith, longer, new.ok.0, old.ok.0, c.len-in-Some.ensures, c.in_ok-check_room.ensures.ok.0)
+    omega (arith, longer, new.ok.0, old.ok.0)
 
 pub returns-then-len-left-clause-limit : goal.returns-then-len-left-clause-limit
 returns-then-len-left-clause-limit g c is history after rest letters run = omega (arith, c.if-len-left.true, c.len.ensures, c.args.berth.now.part.ok.0)
 
-pub returns-in_err-check_room-clause-limit : goal.returns-in_err-check_room-clause-limit
-returns-in_err-check_room-clause-limit g c is history after rest letters run =
+pub returns-then-made-left-clause-limit : goal.returns-then-made-left-clause-limit
+returns-then-made-left-clause-limit g c is history after rest letters run =
     let mind = g.M.Process.mind in
     let b = c.args.berth.now in
     let i = c.loop-event.invariant in
@@ -91,11 +82,7 @@ returns-in_err-check_room-clause-limit g c is history after rest letters run =
     let longer : length made < length history =
     berth_longer (setting_of c.args.streams.now) (own_of mind b.seat) c.args.end (process_of mind b.seat) b.pending (process_of mind old.seat) old.pending made (map event_of i.stands.0) i.stands.4
     c.in-Some.event.0 c.in-Some.event.1 taken.0 taken.1 history after rest letters run in
-    let full : c.args.left ≤ c.len-in-Some.result = c.check_room.ensures.limit (search rules) in
-    omega (arith, longer, full, c.len-in-Some.ensures, old.part.ok.0, ap length i.stands.3, length-append b.part.items made)
-
-pub returns-clause-within : goal.returns-clause-within
-returns-clause-within g c = c.loop-event.invariant.within
+    omega (arith, longer, c.if-made-left.true, old.part.ok.0, ap length i.stands.3, length-append b.part.items made)
 
 pub returns-clause-ran : goal.returns-clause-ran
 returns-clause-ran g c =

@@ -1,12 +1,4 @@
-use Rattle.std.proofs.Common.{◌≡◌, ◌≤◌, ◌+◌, ◌*◌, ◌-◌, ◌++◌, List, length, map, vec_len}
-use Rattle.process_api.specs.Bounds.{most_step_actions}
-use Rattle.process_api.specs.EntryRecord.{EntryRecord}
-use Rattle.process_api.specs.declared.message.Letter.{Letter}
-use Rattle.trace_laws.specs.ScenarioSetting.{setting_of}
-use Rattle.steps.specs.Seat.{process_of, own_of, IsSeated}
-use Rattle.trace_laws.specs.Taken.{event_of}
-use Rattle.windows.specs.Berth.{all_filed}
-use Rattle.window_laws.proofs.Berths.{BerthStands}
+use Rattle.windows.proofs.Words.{◌≡◌, ◌≤◌, ◌+◌, ◌*◌, ◌-◌, ◌++◌, List, length, map, vec_len, most_step_actions, EntryRecord, Letter, setting_of, process_of, own_of, IsSeated, event_of, all_filed, BerthStands}
 use Rattle.windows.proofs.berth.run_into.Given as goal
 
 abbrev pub invariant-loop-event : goal.invariant-loop-event

@@ -1,15 +1,6 @@
-use Rattle.std.proofs.Common.{◌≡◌, ◌∷◌, ◌++◌, [], length, map, refl, sym, ap, ◌∙◌, subst, vec_len, arith}
-use Rattle.std.specs.List.{All, flat_map}
-use Rattle.std.specs.List.Sorted.{IsPermutation}
-use Rattle.std.specs.Vec.Iter.{into_iter_items}
-use Rattle.std.proofs.lemmas.List.Elements.{All-nil, All-push, All-same, All-head, All-tail}
-use Rattle.std.proofs.lemmas.List.Sorted.{IsPermutation-refl}
-use Rattle.deques.specs.Deques.{HandView, deques_of}
-use Rattle.windows.specs.Inside.Workers.{IsWork}
-use Rattle.windows.specs.declared.workers.Work.{Work}
-use Rattle.deques.proofs.Deals.{map_turn, flat_push}
-use Rattle.windows.proofs.Ended.{ends}
-use Rattle.windows.proofs.Gathered.{works_none, works_more, works_taken}
+use Rattle.windows.proofs.Words.{length-append, ◌≡◌, ◌∷◌, ◌++◌, [], length, map, refl, sym, ap, ◌∙◌, subst, vec_len, arith, All, flat_map, into_iter_items, All-nil, All-push, All-same, All-head, All-tail, HandView, deques_of, IsWork, AreRun, Work, map_turn, flat_push}
+use Rattle.windows.proofs.Places.{ends}
+use Rattle.windows.proofs.Gathered.{run_none, run_joined, run_taken_as}
 use Rattle.windows.proofs.gather.gather.Goals as goal
 
 pub loop-work-init : goal.loop-work-init
@@ -28,11 +19,9 @@ loop-work-init g c =
       of_all = All-same OfAll _ [] none (All-nil OfAll);
       left = subst (All WorkOfAll) (sym all) c.requires;
       count = omega (arith, many, c.in_ok-slips.ensures.len);
-      room = omega (arith, many, c.in_ok-hands.ensures.len, c.in_ok-hands.ensures.capacity, c.len.ensures);
-      space = omega (arith, many, c.in_ok-slips.ensures.len, c.in_ok-slips.ensures.capacity, c.len-2.ensures);
-      works = λ s end m is.
+      works = λ s end m count is.
           let W : Work _ → Type 0 = λ w. IsWork mind s end (deques_of dealt) m w.hand w.slip w.done.items in
-          (subst (All W) (sym all) is, works_none mind s end m _ _ _ (ap (flat_map (λ (h : HandView _). h.taken)) none) c.new-done.ensures.items c.in_ok-slips.ensures.items);
+          (subst (All W) (sym all) is, run_none mind s end m _ _ _ (ap (flat_map (λ (h : HandView _). h.taken)) none) c.new-done.ensures.items c.in_ok-slips.ensures.items);
     }
 
 pub loop-work-preserved : goal.loop-work-preserved
@@ -49,25 +38,22 @@ loop-work-preserved g c =
     let WorkOfAll : Work _ → Type 0 = λ w. w.hand.deques ≡ deques_of dealt in
     let of_all : WorkOfAll work = All-head WorkOfAll work left (subst (All WorkOfAll) e inv.left) in
     let hands = c.loop-work.hands.items in
-    let more : c.push_reserved.new.self.items ≡ hands ++ work.hand ∷ [] = c.push_reserved.ensures.items in
+    let more : c.push.new.self.items ≡ hands ++ work.hand ∷ [] = c.in_ok-push.ensures.items in
     let slips = c.loop-work.slips.items in
-    let listed : c.push_reserved-in-loop-work.new.self.items ≡ slips ++ work.slip ∷ [] = c.push_reserved-in-loop-work.ensures.items in
+    let listed : c.push-in-loop-work.new.self.items ≡ slips ++ work.slip ∷ [] = c.in_ok-push-2.ensures.items in
     let adds : c.append.new.self.items ≡ c.loop-work.done.items ++ work.done.items = c.in_ok-append.ensures.items in
-    let taken_of = λ (h : HandView _). h.taken in
     record {
       own = map_turn (λ (h : HandView _). h.own) own_of hands _ work.hand _ left work dealt more e refl inv.own;
       of_all = All-same OfAll _ _ more (All-push OfAll hands work.hand inv.of_all of_all);
       left = All-tail WorkOfAll work left (subst (All WorkOfAll) e inv.left);
-      count = omega (arith, inv.count, ap length e, c.push_reserved-in-loop-work.ensures.len);
-      room = omega (arith, inv.room, ap length e, c.push_reserved.ensures.len, c.push_reserved.ensures.capacity);
-      space = omega (arith, inv.space, ap length e, c.push_reserved-in-loop-work.ensures.len, c.push_reserved-in-loop-work.ensures.capacity);
-      works = λ s end m is.
+      count = omega (arith, inv.count, ap length e, ap length listed, length-append slips (work.slip ∷ []), c.loop-work.slips.ok.0, c.push-in-loop-work.new.self.ok.0);
+      works = λ s end m count is.
           let W : Work _ → Type 0 = λ w. IsWork mind s end (deques_of dealt) m w.hand w.slip w.done.items in
-          let r = inv.works s end m is in
+          let r = inv.works s end m count is in
           let ours : All W (work ∷ left) = subst (All W) e r.0 in (
             All-tail W work left ours,
-            works_more mind s end m work.slip work.done.items work.hand.taken (flat_map taken_of hands) _ c.loop-work.done.items c.append.new.self.items slips c.push_reserved-in-loop-work.new.self.items r.1 (All-head W work left ours).run
-                (subst (IsPermutation (flat_map taken_of hands ++ work.hand.taken)) (sym (flat_push taken_of hands _ work.hand more)) (IsPermutation-refl (flat_map taken_of hands ++ work.hand.taken))) adds listed,
+            subst (λ l. AreRun mind s end m l c.append.new.self.items c.push-in-loop-work.new.self.items) (sym (flat_push (λ (h : HandView _). h.taken) hands _ work.hand more))
+                (run_joined mind s end m count work.slip work.done.items work.hand.taken _ c.loop-work.done.items c.append.new.self.items slips _ r.1 (All-head W work left ours).run adds listed),
           );
     }
 
@@ -82,4 +68,4 @@ returns-clause-own g c =
     c.in_ok-of_hands.ensures.own ∙ ends _ _ _ _ _ (sym c.loop-work.work-iterator.rest.ok.0 ∙ c.in-None.ensures.steps.0) c.loop-work.invariant.own
 
 pub returns-clause-works : goal.returns-clause-works
-returns-clause-works g c = λ s end m is. works_taken g.M.Process.mind s end m _ _ _ _ (c.loop-work.invariant.works s end m is).1 c.in_ok-of_hands.ensures.taken
+returns-clause-works g c = λ s end m count is. run_taken_as g.M.Process.mind s end m _ _ _ _ (c.loop-work.invariant.works s end m count is).1 c.in_ok-of_hands.ensures.taken

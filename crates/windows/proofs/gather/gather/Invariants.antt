@@ -1,10 +1,4 @@
-use Rattle.std.proofs.Common.{◌≡◌, ◌≤◌, ◌+◌, ◌++◌, ℕ, List, length, map, vec_len, vec_capacity}
-use Rattle.std.specs.List.{All, flat_map}
-use Rattle.std.specs.Vec.Iter.{into_iter_items}
-use Rattle.scenario_record.specs.Record.{Record}
-use Rattle.mailboxes.specs.Mailbox.{MailboxId}
-use Rattle.deques.specs.Deques.{deques_of}
-use Rattle.windows.specs.Inside.Workers.{IsWork, AreWorks}
+use Rattle.windows.proofs.Words.{◌≡◌, ◌+◌, ◌++◌, ℕ, List, length, map, vec_len, All, flat_map, into_iter_items, Record, MailboxId, deques_of, IsWork, AreRun}
 use Rattle.windows.proofs.gather.gather.Given as goal
 
 abbrev pub invariant-loop-work : goal.invariant-loop-work
@@ -18,8 +12,6 @@ invariant-loop-work g l =
       of_all : All (λ h. h.deques ≡ deques_of dealt) l.hands.items;
       left : All (λ w. w.hand.deques ≡ deques_of dealt) rest;
       count : vec_len l.slips + length rest ≡ vec_len l.fn.works;
-      room : vec_len l.hands + length rest ≤ vec_capacity l.hands;
-      space : vec_len l.slips + length rest ≤ vec_capacity l.slips;
-      works : (s : Record) (end : ℕ) (m : List MailboxId) → All (λ w. IsWork mind s end (deques_of dealt) m w.hand w.slip w.done.items) all
-          → All (λ w. IsWork mind s end (deques_of dealt) m w.hand w.slip w.done.items) rest × AreWorks mind s end m (flat_map (λ h. h.taken) l.hands.items) l.done.items l.slips.items;
+      works : (s : Record) (end : ℕ) (m : List MailboxId) → length m ≡ s.processes → All (λ w. IsWork mind s end (deques_of dealt) m w.hand w.slip w.done.items) all
+          → All (λ w. IsWork mind s end (deques_of dealt) m w.hand w.slip w.done.items) rest × AreRun mind s end m (flat_map (λ h. h.taken) l.hands.items) l.done.items l.slips.items;
     }

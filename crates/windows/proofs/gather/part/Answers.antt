@@ -1,11 +1,6 @@
-use Rattle.std.proofs.Common.{rules, ◌≡◌, ◌∷◌, ◌++◌, [], sym, ◌∙◌, subst}
-use Rattle.std.specs.List.Sorted.{IsPermutation}
-use Rattle.std.proofs.lemmas.List.Elements.{All-push, All-same}
+use Rattle.windows.proofs.Words.{rules, ◌≡◌, ◌∷◌, ◌++◌, [], sym, ◌∙◌, subst, IsPermutation, All-push, All-same, map-id, NoneBelow, Berth}
 use Rattle.std.proofs.lemmas.Iterator.Adapters.{YieldsList-from_vec}
 use Rattle.std.proofs.lemmas.Iterator.Consumers.{YieldsList-end}
-use Rattle.std.proofs.lemmas.List.{map-id}
-use Rattle.trace_laws.specs.World.{NoneBelow}
-use Rattle.windows.specs.declared.berth.Berth.{Berth}
 use Rattle.windows.proofs.Gathered.{one_put, one_idle}
 use Rattle.windows.proofs.gather.part.Goals as goal
 

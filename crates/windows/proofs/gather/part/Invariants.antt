@@ -1,7 +1,4 @@
-use Rattle.std.proofs.Common.{◌++◌}
-use Rattle.std.specs.List.{All}
-use Rattle.std.specs.List.Sorted.{IsPermutation}
-use Rattle.trace_laws.specs.World.{NoneBelow}
+use Rattle.windows.proofs.Words.{◌++◌, All, IsPermutation, NoneBelow}
 use Rattle.windows.proofs.gather.part.Given as goal
 
 abbrev pub invariant-loop-berth : goal.invariant-loop-berth

@@ -1,13 +1,6 @@
-use Rattle.std.proofs.Common.{rules, ◌≡◌, ◌++◌, ◌∷◌, [], refl, sym, ap, ◌∙◌, subst, append_assoc, append-nil}
-use Rattle.std.specs.List.{Contains}
-use Rattle.std.specs.List.Sorted.{IsPermutation}
-use Rattle.std.proofs.lemmas.List.Elements.{All-contains}
-use Rattle.std.proofs.lemmas.List.Sorted.{IsPermutation-refl, IsPermutation-trans, IsPermutation-append_left}
-use Rattle.deques.specs.Deques.{RestView, all_put}
-use Rattle.mailboxes.specs.Mailboxes.{SlipView}
-use Rattle.windows.specs.Inside.Workers.{IsReady, AreRunBy}
+use Rattle.windows.proofs.Words.{rules, ◌≡◌, ◌++◌, ◌∷◌, [], refl, sym, ap, ◌∙◌, subst, append_assoc, append-nil, Contains, IsPermutation, All-contains, IsPermutation-refl, IsPermutation-trans, IsPermutation-append_left, RestView, all_put, SlipView, IsReady, AreRunBy}
 use Rattle.windows.proofs.Posting.{posting_opens}
-use Rattle.windows.proofs.Work.{run_begins}
+use Rattle.windows.proofs.Gathered.{run_begins}
 use Rattle.windows.proofs.gather.run_rest.Goals as goal
 use Rattle.windows.proofs.gather.run_rest.Goals.{in-None, in-Some+in_default}
 
@@ -28,9 +21,6 @@ pub run_taken-requires-clause-ready : goal.run_taken-requires-clause-ready
 run_taken-requires-clause-ready g c κs within =
     All-contains (IsReady g.M.Process.mind c.args.shared.now.window.now.streams) (all_put c.args.rest.now.own) c.in-Some-take_last.berth c.requires.ready
     (subst (λ l. Contains (all_put l) c.in-Some-take_last.berth) c.loop.invariant.3 c.in-Some-take_last.ensures.3)
-
-pub run_taken-requires-clause-posting : goal.run_taken-requires-clause-posting
-run_taken-requires-clause-posting g c κs within = c.loop.invariant.2
 
 pub returns-in_err-run_taken-clause-limit : goal.returns-in_err-run_taken-clause-limit
 returns-in_err-run_taken-clause-limit g c is = (

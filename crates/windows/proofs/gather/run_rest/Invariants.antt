@@ -1,9 +1,4 @@
-use Rattle.std.proofs.Common.{◌≡◌, ◌++◌, List}
-use Rattle.std.specs.List.Sorted.{IsPermutation}
-use Rattle.mailboxes.specs.Mailboxes.{with_lists}
-use Rattle.windows.specs.Inside.Shared.{ArePosting}
-use Rattle.windows.specs.Inside.Workers.{AreRunBy}
-use Rattle.windows.specs.declared.berth.Berth.{Berth}
+use Rattle.windows.proofs.Words.{◌≡◌, ◌++◌, List, IsPermutation, with_lists, ArePosting, AreRunBy, Berth}
 use Rattle.windows.proofs.gather.run_rest.Given as goal
 
 abbrev pub invariant-loop : goal.invariant-loop

@@ -1,13 +1,4 @@
-use Rattle.std.proofs.Common.{ℕ, List, ◌≡◌, ◌+◌, ◌∷◌, ◌++◌, [], length, map, refl, ap, sym, ◌∙◌, subst, vec_len, arith}
-use Rattle.std.specs.List.{All}
-use Rattle.std.specs.Vec.Iter.{into_iter_items}
-use Rattle.std.proofs.lemmas.List.Elements.{All-nil, All-push, All-same, All-head, All-tail}
-use Rattle.mailboxes.specs.Mailbox.{MailboxId}
-use Rattle.mailboxes.specs.Mailboxes.{MailboxesView, mailboxes_of, unused}
-use Rattle.deques.specs.Deques.{HandView, deques_of, all_put, IsDealt}
-use Rattle.windows.specs.Inside.Workers.{IsFresh}
-use Rattle.windows.specs.declared.workers.Start.{Start}
-use Rattle.deques.proofs.Deals.{map_turn}
+use Rattle.windows.proofs.Words.{length-append, ℕ, List, ◌≡◌, ◌+◌, ◌∷◌, ◌++◌, [], length, map, refl, ap, sym, ◌∙◌, subst, vec_len, arith, All, into_iter_items, All-nil, All-push, All-same, All-head, All-tail, MailboxId, MailboxesView, mailboxes_of, unused, HandView, deques_of, all_put, IsDealt, IsFresh, Start, map_turn}
 use Rattle.windows.proofs.gather.starts_of.Goals as goal
 
 slip_more : (old new : MailboxesView) (ids : List MailboxId) (before n n' : ℕ) → new ≡ mailboxes_of old.mailboxes (old.slips + 1) → old ≡ mailboxes_of ids (before + n) → n' ≡ n + 1 → new ≡ mailboxes_of ids (before + n')
@@ -22,7 +13,6 @@ loop-hand-init g c =
     let hands = c.in_ok-hands.hands in
     let none = c.in_ok-starts.ensures.items in
     let all : into_iter_items c.into_iter-hand-iterator.result ≡ hands.items = c.into_iter-hand-iterator.ensures.into_iter_gives.0 in
-    let many : length (into_iter_items c.into_iter-hand-iterator.result) ≡ vec_len hands = ap length all ∙ sym hands.ok.0 in
     let zero : m.slips ≡ m.slips + vec_len c.in_ok-starts.starts = omega (arith, c.in_ok-starts.ensures.len) in
     let Fresh : Start g.row.M.Denot → Type 0 = λ b. IsFresh (deques_of dealer) m.mailboxes b.hand b.slip in
     let Knows : Start g.row.M.Denot → Type 0 = λ b. b.hand.known ≡ all_put dealer in
@@ -32,7 +22,6 @@ loop-hand-init g c =
       fresh = All-same Fresh _ [] none (All-nil Fresh);
       known = All-same Knows _ [] none (All-nil Knows);
       left = subst (All (IsDealt dealer)) (sym all) c.in_ok-hands.ensures.hands;
-      room = omega (arith, many, c.in_ok-starts.ensures.len, c.in_ok-starts.ensures.capacity, c.len.ensures);
     }
 
 pub loop-hand-preserved : goal.loop-hand-preserved
@@ -47,13 +36,13 @@ loop-hand-preserved g c =
     let Knows : Start _ → Type 0 = λ b. b.hand.known ≡ all_put all in
     let is : IsDealt all h = All-head (IsDealt all) h left (subst (All (IsDealt all)) e inv.left) in
     let starts = c.loop-hand.starts.items in
-    let more : c.push_reserved.new.self.items ≡ starts ++ record { hand = h; slip = c.in_ok-slip.slip } ∷ [] = c.push_reserved.ensures.items in
+    let more : c.push.new.self.items ≡ starts ++ record { hand = h; slip = c.in_ok-slip.slip } ∷ [] = c.in_ok-push.ensures.items in
     let same : c.loop-hand.mailboxes.mailboxes ≡ m.mailboxes = ap (λ (v : MailboxesView). v.mailboxes) inv.slips in
     record {
       own = map_turn (λ (b : Start _). b.hand.own) (λ (v : HandView _). v.own) starts _ (record { hand = h; slip = c.in_ok-slip.slip }) _ left h all more e refl inv.own;
-      slips = slip_more c.loop-hand.mailboxes c.slip.new.self m.mailboxes m.slips (vec_len c.loop-hand.starts) (vec_len c.push_reserved.new.self) c.in_ok-slip.ensures.mailboxes inv.slips c.push_reserved.ensures.len;
+      slips = slip_more c.loop-hand.mailboxes c.slip.new.self m.mailboxes m.slips (vec_len c.loop-hand.starts) (vec_len c.push.new.self) c.in_ok-slip.ensures.mailboxes inv.slips
+          (omega (arith, ap length more, length-append starts (record { hand = h; slip = c.in_ok-slip.slip } ∷ []), c.loop-hand.starts.ok.0, c.push.new.self.ok.0));
       fresh = All-same Fresh _ _ more (All-push Fresh starts _ inv.fresh (record { of_deques = is.0; none_taken = is.2; none_posted = c.in_ok-slip.ensures.slip ∙ ap unused same }));
       known = All-same Knows _ _ more (All-push Knows starts _ inv.known is.1);
       left = All-tail (IsDealt all) h left (subst (All (IsDealt all)) e inv.left);
-      room = omega (arith, inv.room, ap length e, c.push_reserved.ensures.len, c.push_reserved.ensures.capacity);
     }

@@ -1,9 +1,4 @@
-use Rattle.std.proofs.Common.{◌≡◌, ◌≤◌, ◌+◌, ◌++◌, length, map, vec_len, vec_capacity}
-use Rattle.std.specs.List.{All}
-use Rattle.std.specs.Vec.Iter.{into_iter_items}
-use Rattle.mailboxes.specs.Mailboxes.{mailboxes_of}
-use Rattle.deques.specs.Deques.{deques_of, all_put, IsDealt}
-use Rattle.windows.specs.Inside.Workers.{IsFresh}
+use Rattle.windows.proofs.Words.{◌≡◌, ◌+◌, ◌++◌, map, vec_len, All, into_iter_items, mailboxes_of, deques_of, all_put, IsDealt, IsFresh}
 use Rattle.windows.proofs.gather.starts_of.Given as goal
 
 abbrev pub invariant-loop-hand : goal.invariant-loop-hand
@@ -17,5 +12,4 @@ invariant-loop-hand g l =
       fresh : All (λ b. IsFresh (deques_of all) m.mailboxes b.hand b.slip) l.starts.items;
       known : All (λ b. b.hand.known ≡ all_put all) l.starts.items;
       left : All (IsDealt all) rest;
-      room : vec_len l.starts + length rest ≤ vec_capacity l.starts;
     }

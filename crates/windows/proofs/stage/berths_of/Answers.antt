@@ -1,16 +1,5 @@
-use Rattle.std.proofs.Common.{◌≡◌, ◌∷◌, [], ◌++◌, map, ap, sym, subst, ◌∙◌}
-use Rattle.std.specs.List.{All}
-use Rattle.std.specs.Vec.Iter.{into_iter_items}
-use Rattle.std.proofs.lemmas.List.{length-map}
-use Rattle.std.proofs.lemmas.List.Elements.{All-nil, All-push, All-rest, All-same}
-use Rattle.process_api.specs.Mind.{Mind}
-use Rattle.deques.proofs.Deals.{map_turn}
-use Rattle.steps.specs.Seat.{process_of, own_of, IsMindIn}
-use Rattle.trace_laws.specs.Step.{Process}
-use Rattle.trace_laws.specs.World.{opened}
-use Rattle.windows.specs.Stage.{start_event, IsOpened}
-use Rattle.windows.specs.declared.berth.Berth.{Berth}
-use Rattle.windows.proofs.Ended.{ends, opens}
+use Rattle.windows.proofs.Words.{◌≡◌, ◌∷◌, [], ◌++◌, map, ap, sym, subst, ◌∙◌, All, into_iter_items, length-map, All-nil, All-push, All-rest, All-same, Mind, map_turn, process_of, own_of, IsMindIn, Process, opened, start_event, IsOpened, Berth}
+use Rattle.windows.proofs.Places.{ends, opens}
 use Rattle.windows.proofs.stage.berths_of.Goals as goal
 
 pub loop-machine-init : goal.loop-machine-init

@@ -1,9 +1,4 @@
-use Rattle.std.proofs.Common.{◌≡◌, ◌++◌, map}
-use Rattle.std.specs.List.{All}
-use Rattle.std.specs.Vec.Iter.{into_iter_items}
-use Rattle.steps.specs.Seat.{process_of, IsMindIn}
-use Rattle.trace_laws.specs.World.{opened}
-use Rattle.windows.specs.Stage.{IsOpened}
+use Rattle.windows.proofs.Words.{◌≡◌, ◌++◌, map, All, into_iter_items, process_of, IsMindIn, opened, IsOpened}
 use Rattle.windows.proofs.stage.berths_of.Given as goal
 
 abbrev pub invariant-loop-machine : goal.invariant-loop-machine

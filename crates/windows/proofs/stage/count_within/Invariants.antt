@@ -1,6 +1,4 @@
-use Rattle.std.proofs.Common.{◌≡◌, ◌+◌, ◌≤◌, length, map, drop}
-use Rattle.std.specs.Global.{Vec}
-use Rattle.trace_merge.specs.Parts.{all_of}
+use Rattle.windows.proofs.Words.{◌≡◌, ◌+◌, ◌≤◌, length, map, drop, Vec, all_of}
 use Rattle.windows.proofs.stage.count_within.Given as goal
 
 abbrev pub invariant-loop-part : goal.invariant-loop-part

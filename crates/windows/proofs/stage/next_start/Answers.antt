@@ -1,9 +1,5 @@
-use Rattle.std.proofs.Common.{rules, ◌≡◌, ◌+◌, ◌++◌, ◌∷◌, [], map, ap, sym, subst, ◌∙◌, take, min}
-use Rattle.std.proofs.lemmas.List.{take_more, map-append}
-use Rattle.trace_laws.specs.Step.{Events}
-use Rattle.windows.specs.Stage.{IsNextStart}
-use Rattle.windows.specs.declared.berth.Berth.{Berth}
-use Rattle.windows.proofs.Starts.{none_pending, one_empty, one_pending}
+use Rattle.windows.proofs.Words.{rules, ◌≡◌, ◌+◌, ◌++◌, ◌∷◌, [], map, ap, sym, subst, ◌∙◌, take, min, take_more, map-append, Events, IsNextStart, Berth}
+use Rattle.windows.proofs.Agendas.{none_pending, one_empty, one_pending}
 use Rattle.windows.proofs.stage.next_start.Goals.{in-Some, in_default}
 use Rattle.windows.proofs.stage.next_start.Goals as goal
 

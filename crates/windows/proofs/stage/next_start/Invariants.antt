@@ -1,5 +1,4 @@
-use Rattle.std.proofs.Common.{map, take}
-use Rattle.windows.specs.Stage.{IsNextStart}
+use Rattle.windows.proofs.Words.{map, take, IsNextStart}
 use Rattle.windows.proofs.stage.next_start.Given as goal
 
 abbrev pub invariant-loop-berth : goal.invariant-loop-berth

@@ -25,7 +25,7 @@ returns-clause-run g c =
     let w = c.args.shared.now in
     let put : all_put c.in_ok-rest.rest.own ≡ given_to c.args.works.items = ap all_put c.in_ok-rest.ensures.own in
     let brings = subst (λ d. BringsTogether g.M.Process.mind d c.args.works.items c.in_ok-rest.rest.taken c.in_ok-rest.done.items c.in_ok-rest.slips.items) (sym c.requires.deques) c.in_ok-rest.ensures.works in
-    let are = brings _ _ _ c.requires.works in
-    run_of_parts g.M.Process.mind w.window.now.streams w.window.now.end w.mailboxes.now _ _ c.in_ok-rest.rest c.run_rest.new.rest (given_to c.args.works.items)
+    let are = brings w.window.now.streams w.window.now.end w.mailboxes.now w.boxes c.requires.works in
+    run_of_parts g.M.Process.mind w.window.now.streams w.window.now.end w.mailboxes.now _ c.in_ok-rest.rest c.run_rest.new.rest (given_to c.args.works.items)
     c.in_ok-rest.done.items c.in_ok-last.last.items c.append.new.self.items c.in_ok-rest.slips.items c.push.new.self.items c.in_ok-last.slip
-    are c.in_ok-last.ensures.rest (search rules) (search rules) put c.in_ok-append.ensures.items c.in_ok-push.ensures.items w.boxes
+    are c.in_ok-last.ensures.rest (search rules) put c.in_ok-append.ensures.items c.in_ok-push.ensures.items w.boxes

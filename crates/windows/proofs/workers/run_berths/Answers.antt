@@ -1,15 +1,7 @@
-use Rattle.std.proofs.Common.{rules, ◌≡◌, refl, sym, ap, ◌∙◌, subst}
-use Rattle.std.specs.List.{Contains}
-use Rattle.std.proofs.lemmas.List.Elements.{All-contains}
-use Rattle.deques.specs.Deques.{HandView}
-use Rattle.mailboxes.specs.Mailboxes.{SlipView}
-use Rattle.windows.specs.Inside.Shared.{IsWorkBy}
-use Rattle.windows.specs.Inside.Workers.{IsReady}
-use Rattle.windows.specs.declared.berth.Berth.{Berth}
+use Rattle.windows.proofs.Words.{IfOk-from_err, rules, ◌≡◌, refl, sym, ap, ◌∙◌, subst, Contains, All-contains, HandView, SlipView, IsWorkBy, IsReady, Berth}
 use Rattle.windows.proofs.Posting.{posting_opens}
-use Rattle.windows.proofs.Work.{work_begins, work_more}
-use Rattle.windows.proofs.Refused.{holds_of_none, not_err}
-use Rattle.windows.proofs.Refused.{memory_alone}
+use Rattle.windows.proofs.Gathered.{work_begins, work_more}
+use Rattle.windows.proofs.Refused.{memory_alone, not_err}
 use Rattle.windows.proofs.workers.run_berths.Goals as goal
 use Rattle.windows.proofs.workers.run_berths.Goals.{in-None, in-Some+in_default}
 
@@ -28,9 +20,6 @@ pub run_taken-requires-clause-ready : goal.run_taken-requires-clause-ready
 run_taken-requires-clause-ready g c κs within =
     All-contains (IsReady g.M.Process.mind c.args.shared.now.window.now.streams) c.args.start.hand.known c.in-Some-take.berth c.requires.1
     (subst (λ l. Contains l c.in-Some-take.berth) c.loop.invariant.2 c.in-Some-take.ensures.3)
-
-pub run_taken-requires-clause-posting : goal.run_taken-requires-clause-posting
-run_taken-requires-clause-posting g c κs within = c.loop.invariant.1
 
 pub loop-preserved : goal.loop-preserved
 loop-preserved g c =
@@ -59,10 +48,10 @@ returns g c =
 
 pub returns-in_err-run_taken : goal.returns-in_err-run_taken
 returns-in_err-run_taken g c =
-    let no = holds_of_none c.from_residual-in_err-run_taken.result c.from_residual-in_err-run_taken.ensures.0 in
+    let is = c.from_residual-in_err-run_taken.ensures.0 in
     record {
-      own = no _;
-      work = no _;
+      own = IfOk-from_err _ _ is;
+      work = IfOk-from_err _ _ is;
       errors = search rules;
       limit = λ is. (
         c.in-Some-take.berth,
@@ -73,10 +62,10 @@ returns-in_err-run_taken g c =
 
 pub returns-in_err-post_all : goal.returns-in_err-post_all
 returns-in_err-post_all g c =
-    let no = holds_of_none c.from_residual-in_err-post_all.result c.from_residual-in_err-post_all.ensures.0 in
+    let is = c.from_residual-in_err-post_all.ensures.0 in
     record {
-      own = no _;
-      work = no _;
+      own = IfOk-from_err _ _ is;
+      work = IfOk-from_err _ _ is;
       errors = search rules;
       limit = λ is. absurd (memory_alone c.from_residual-in_err-post_all.result (search rules) is);
     }

@@ -1,6 +1,4 @@
-use Rattle.std.proofs.Common.{◌≡◌}
-use Rattle.mailboxes.specs.Mailboxes.{with_lists}
-use Rattle.windows.specs.Inside.Shared.{ArePosting, IsWorkBy}
+use Rattle.windows.proofs.Words.{◌≡◌, with_lists, ArePosting, IsWorkBy}
 use Rattle.windows.proofs.workers.run_berths.Given as goal
 
 abbrev pub invariant-loop : goal.invariant-loop

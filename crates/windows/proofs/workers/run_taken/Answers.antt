@@ -1,13 +1,7 @@
-use Rattle.std.proofs.Common.{rules, refl, ◌∙◌}
+use Rattle.windows.proofs.Words.{rules, refl, ◌∙◌}
 use Rattle.windows.proofs.Posting.{posting_more, posted_more, all_posted}
-use Rattle.windows.proofs.Work.{run_more}
+use Rattle.windows.proofs.Gathered.{run_more}
 use Rattle.windows.proofs.workers.run_taken.Goals as goal
-
-pub run_into-requires-clause-berth : goal.run_into-requires-clause-berth
-run_into-requires-clause-berth g c κs within = c.requires.ready.0
-
-pub run_into-requires-clause-tray : goal.run_into-requires-clause-tray
-run_into-requires-clause-tray g c κs within = c.requires.posting.waiting ∙ c.args.shared.now.boxes
 
 pub returns-then-not-many : goal.returns-then-not-many
 returns-then-not-many g c =

@@ -1,10 +1,5 @@
-use Rattle.std.proofs.Common.{rules, ◌≡◌, ◌∙◌, ◌++◌, ap, arith, [], ◌∷◌, refl, sym, Some}
-use Rattle.process_api.specs.declared.message.Letter.{Letter}
-use Rattle.ledger.specs.declared.account.Account.{Account}
-use Rattle.ledger.specs.Ledger.{has_put}
-use Rattle.ledger.proofs.Ledgers.{puts}
-use Rattle.mailboxes.specs.Mailbox.{earlier_of, soonest_in}
-use Rattle.mailboxes.proofs.Ticks.{soonest_both}
+use Rattle.mailboxes.proofs.Words.{rules, ◌≡◌, ◌∙◌, ◌++◌, ap, arith, [], ◌∷◌, refl, sym, Some, Letter, Account, has_put, puts, earlier_of, soonest_in}
+use Rattle.mailboxes.proofs.Homes.{soonest_both}
 use Rattle.mailboxes.proofs.mailbox.Mailbox.post.Goals as goal
 
 pub push_as-requires-clause-rule : goal.push_as-requires-clause-rule

@@ -1,4 +1,4 @@
-use Rattle.std.proofs.Common.{◌≡◌, ◌++◌, reverse, length}
+use Rattle.mailboxes.proofs.Words.{◌≡◌, ◌++◌, reverse, length}
 use Rattle.mailboxes.proofs.mailbox.Mailbox.post_list.Given as goal
 
 abbrev pub invariant-loop-letter : goal.invariant-loop-letter

@@ -1,9 +1,5 @@
-use Rattle.std.proofs.Common.{rules, ◌≡◌, ◌∙◌, ◌++◌, ap, sym}
-use Rattle.process_api.specs.declared.message.Letter.{Letter}
-use Rattle.ledger.specs.declared.account.Account.{Account}
-use Rattle.ledger.proofs.Ledgers.{merges}
-use Rattle.mailboxes.specs.Mailbox.{earlier_of, soonest_in}
-use Rattle.mailboxes.proofs.Ticks.{soonest_both}
+use Rattle.mailboxes.proofs.Words.{rules, ◌≡◌, ◌∙◌, ◌++◌, ap, sym, Letter, Account, merges, earlier_of, soonest_in}
+use Rattle.mailboxes.proofs.Homes.{soonest_both}
 use Rattle.mailboxes.proofs.mailbox.Mailbox.take_back.Goals as goal
 
 pub absorb-requires-clause-rule : goal.absorb-requires-clause-rule

@@ -1,4 +1,4 @@
-use Rattle.ledger.proofs.Ledgers.{splits}
+use Rattle.mailboxes.proofs.Words.{splits}
 use Rattle.mailboxes.proofs.mailbox.Mailbox.ticket.Goals as goal
 
 pub another-pass-requires-clause-rule : goal.another-pass-requires-clause-rule

@@ -1,6 +1,4 @@
-use Rattle.std.proofs.Common.{◌≡◌, ◌+◌, [], length, map}
-use Rattle.std.specs.List.{All}
-use Rattle.std.specs.Vec.Iter.{into_iter_items}
+use Rattle.mailboxes.proofs.Words.{◌≡◌, ◌+◌, [], length, map, All, into_iter_items}
 use Rattle.mailboxes.proofs.mailboxes.Mailboxes.of_inboxes.Given as goal
 
 -- the mailboxes so far have their passes, as at first

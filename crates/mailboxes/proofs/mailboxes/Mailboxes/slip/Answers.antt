@@ -1,5 +1,4 @@
-use Rattle.std.proofs.Common.{◌≡◌, ◌+◌, map, sym, ap, ◌∙◌, subst, rules}
-use Rattle.std.specs.List.{All}
+use Rattle.mailboxes.proofs.Words.{◌≡◌, ◌+◌, map, sym, ap, ◌∙◌, subst, rules, All}
 use Rattle.mailboxes.proofs.Homes.{Even, mailbox_of, out-even, out-mailboxes}
 use Rattle.mailboxes.proofs.mailboxes.Mailboxes.slip.Goals as goal
 

@@ -1,7 +1,4 @@
-use Rattle.std.proofs.Common.{rules, ◌≡◌, [], ◌∷◌, ◌++◌, map, sym, ap, ◌∙◌}
-use Rattle.std.proofs.lemmas.List.{map-append}
-use Rattle.std.proofs.lemmas.List.Elements.{All-same, All-push}
-use Rattle.mailboxes.specs.Mailbox.{HomeView}
+use Rattle.mailboxes.proofs.Words.{rules, ◌≡◌, [], ◌∷◌, ◌++◌, map, sym, ap, ◌∙◌, map-append, All-same, All-push, HomeView}
 use Rattle.mailboxes.proofs.Homes.{mailbox_of, back_of, Even}
 use Rattle.mailboxes.proofs.shared.SharedMailboxes.open.Goals as goal
 
@@ -11,12 +8,8 @@ loop-preserved c =
     let h = c.in_ok-mailbox.home in
     let is = c.in_ok-mailbox.ensures in
     let homes = c.loop.homes.items in
-    let more : c.push_reserved-in-loop.new.self.items ≡ homes ++ h ∷ [] = c.push_reserved-in-loop.ensures.items in (
+    let more : c.push-in-loop.new.self.items ≡ homes ++ h ∷ [] = c.in_ok-push-2.ensures.items in (
       search rules,
-      search rules,
-      search rules,
-      search rules,
-      search rules,
-      c.push_reserved.ensures.items ∙ (λ i. inv.5 i ++ (sym (ap mailbox_of is)) i ∷ []) ∙ sym (map-append mailbox_of homes (h ∷ [])) ∙ ap (map mailbox_of) (sym more),
-      All-same (Even 0) _ (homes ++ h ∷ []) more (All-push (Even 0) homes h inv.6 (ap (λ (x : HomeView). x.out) is, ap back_of is)),
+      c.in_ok-push.ensures.items ∙ (λ i. inv.1 i ++ (sym (ap mailbox_of is)) i ∷ []) ∙ sym (map-append mailbox_of homes (h ∷ [])) ∙ ap (map mailbox_of) (sym more),
+      All-same (Even 0) _ (homes ++ h ∷ []) more (All-push (Even 0) homes h inv.2 (ap (λ (x : HomeView). x.out) is, ap back_of is)),
     )

@@ -1,8 +1,5 @@
-use Rattle.std.proofs.Common.{◌≡◌, ◌+◌, ◌-◌, ◌<◌, ◌++◌, ◌∷◌, [], length, map, set, get_or, ap, ◌∙◌, arith}
-use Rattle.std.proofs.lemmas.List.{length-map, set-get_or}
+use Rattle.mailboxes.proofs.Words.{◌≡◌, ◌+◌, ◌-◌, ◌<◌, ◌++◌, ◌∷◌, [], length, map, set, get_or, ap, ◌∙◌, arith, length-map, set-get_or, Key, SlipView, slip_of}
 use Rattle.std.proofs.lemmas.Result.{on_ok_weaker, on_err_weaker}
-use Rattle.process_api.specs.declared.key.Key.{Key}
-use Rattle.mailboxes.specs.Mailboxes.{SlipView, slip_of}
 use Rattle.mailboxes.proofs.Homes.{whose, posted_by, slip_with}
 use Rattle.mailboxes.proofs.Rows.{row_more, whose_same}
 use Rattle.mailboxes.proofs.shared.SharedMailboxes.post.Goals as goal

@@ -2,8 +2,7 @@ use Rattle.std.proofs.Common.{rules, ◌≡◌, ◌<◌, [], ◌++◌, length, r
 use Rattle.std.proofs.lemmas.Bool.{cases_lt}
 use Rattle.std.proofs.lemmas.List.{get_or_past, length-map}
 use Rattle.mailboxes.specs.Mailboxes.{letters_in}
-use Rattle.mailboxes.proofs.Inboxes.{items_of}
-use Rattle.mailboxes.proofs.Homes.{whose, posted_by}
+use Rattle.mailboxes.proofs.Homes.{whose, posted_by, items_of}
 use Rattle.mailboxes.proofs.Rows.{whose_same, total_next, empty_next}
 use Rattle.mailboxes.proofs.shared.SharedMailboxes.post_from.Goals as goal
 

@@ -1,9 +1,6 @@
-use Rattle.std.proofs.Common.{◌≡◌, ◌++◌, [], length, map, replicate, sym, ap, ◌∙◌, arith}
-use Rattle.std.proofs.lemmas.List.{length-map}
+use Rattle.mailboxes.proofs.Words.{◌≡◌, ◌++◌, [], length, map, replicate, sym, ap, ◌∙◌, arith, length-map, letters_in}
 use Rattle.ledger.specs.Places.{each_with}
-use Rattle.mailboxes.specs.Mailboxes.{letters_in}
-use Rattle.mailboxes.proofs.Homes.{posted_by}
-use Rattle.mailboxes.proofs.Inboxes.{items_of}
+use Rattle.mailboxes.proofs.Homes.{posted_by, items_of}
 use Rattle.mailboxes.proofs.Rows.{all_empty, with_nothing}
 use Rattle.mailboxes.proofs.shared.SharedMailboxes.post_lists.Goals as goal
 

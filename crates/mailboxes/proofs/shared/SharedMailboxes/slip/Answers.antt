@@ -1,8 +1,4 @@
-use Rattle.std.proofs.Common.{◌≡◌, ◌<◌, ◌≤◌, append-nil, List, length, [], ◌∷◌, ◌++◌, map, set, get_or, sym, ap, ◌∙◌, add-one, arith, rules}
-use Rattle.std.proofs.lemmas.List.{map-id, take_all, drop_all, length-map}
-use Rattle.mailboxes.specs.Mailbox.{MailboxId, one_out}
-use Rattle.mailboxes.specs.Mailboxes.{unused}
-use Rattle.ledger.proofs.Lists.{mixed_at, mixed_more, map_take_more, parts_agree}
+use Rattle.mailboxes.proofs.Words.{◌≡◌, ◌<◌, ◌≤◌, append-nil, List, length, [], ◌∷◌, ◌++◌, map, set, get_or, sym, ap, ◌∙◌, add-one, arith, rules, map-id, take_all, drop_all, length-map, MailboxId, one_out, unused, mixed_at, mixed_more, map_take_more, parts_agree}
 use Rattle.mailboxes.proofs.Homes.{blank, blank-slip, slip_with, mailbox_of}
 use Rattle.mailboxes.proofs.shared.SharedMailboxes.slip.Goals as goal
 

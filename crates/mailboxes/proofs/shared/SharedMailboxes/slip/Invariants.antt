@@ -1,5 +1,4 @@
-use Rattle.std.proofs.Common.{◌≡◌, ◌≤◌, ◌++◌, [], map, take, drop, vec_len, vec_capacity}
-use Rattle.mailboxes.specs.Mailbox.{ticket_of, one_out}
+use Rattle.mailboxes.proofs.Words.{◌≡◌, ◌≤◌, ◌++◌, [], map, take, drop, vec_len, vec_capacity, ticket_of, one_out}
 use Rattle.mailboxes.proofs.shared.SharedMailboxes.slip.Given as goal
 
 abbrev pub invariant-loop-at : goal.invariant-loop-at

@@ -1,12 +1,7 @@
-use Rattle.std.proofs.Common.{◌≡◌, ◌<◌, List, refl, map, length, get_or, sym, ap, ◌∙◌, subst, arith}
-use Rattle.std.proofs.lemmas.List.{map-id}
-use Rattle.std.proofs.lemmas.List.Elements.{All-get_or}
+use Rattle.mailboxes.proofs.Words.{◌≡◌, ◌<◌, List, refl, map, length, get_or, sym, ap, ◌∙◌, subst, arith, map-id, All-get_or, MailboxId, HomeView, one_back, SlipView, with-nil, with-length, parts_agree, below_parts, length_more, turn_at, turn_more}
 use Rattle.std.proofs.lemmas.Iterator.Adapters.{YieldsList-from_vec}
 use Rattle.std.proofs.lemmas.Iterator.Consumers.{YieldsList-turn}
-use Rattle.mailboxes.specs.Mailbox.{MailboxId, HomeView, one_back}
-use Rattle.mailboxes.specs.Mailboxes.{SlipView}
 use Rattle.mailboxes.proofs.Homes.{mailbox_of, whose, posted_by}
-use Rattle.ledger.proofs.Lists.{with-nil, with-length, parts_agree, below_parts, length_more, turn_at, turn_more}
 use Rattle.mailboxes.proofs.shared.SharedMailboxes.take_back.Goals as goal
 
 pub loop-ticket-init : goal.loop-ticket-init

@@ -1,5 +1,4 @@
-use Rattle.std.proofs.Common.{◌≡◌, length, map}
-use Rattle.mailboxes.specs.Mailbox.{all_back}
+use Rattle.mailboxes.proofs.Words.{◌≡◌, length, map, all_back}
 use Rattle.mailboxes.proofs.shared.SharedMailboxes.take_back.Given as goal
 
 abbrev pub invariant-loop-ticket : goal.invariant-loop-ticket

@@ -1,7 +1,5 @@
-use Rattle.std.proofs.Common.{◌≡◌, ◌+◌, ◌-◌, ◌<◌, ◌++◌, ◌∷◌, [], length, set, get_or, sym, ap, ◌∙◌, arith}
-use Rattle.std.proofs.lemmas.List.{length-map, length-set}
-use Rattle.process_api.specs.declared.key.Key.{Key}
-use Rattle.mailboxes.proofs.Inboxes.{items_of}
+use Rattle.mailboxes.proofs.Words.{◌≡◌, ◌+◌, ◌-◌, ◌<◌, ◌++◌, ◌∷◌, [], length, set, get_or, sym, ap, ◌∙◌, arith, length-map, length-set, Key}
+use Rattle.mailboxes.proofs.Homes.{items_of}
 use Rattle.mailboxes.proofs.Rows.{row_more}
 use Rattle.mailboxes.proofs.tray.Tray.put.Goals as goal
 

@@ -1,5 +1,4 @@
-use Rattle.std.proofs.Common.{sym, subst}
-use Rattle.windows.specs.Inside.Agenda.{AreOne, in_box}
+use Rattle.windows.proofs.Words.{sym, subst, AreOne, in_box}
 use Rattle.windows.proofs.agenda.Agenda.deliver.Goals as goal
 
 pub invariant_of-self-2 : goal.invariant_of-self-2

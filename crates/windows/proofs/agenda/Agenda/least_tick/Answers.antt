@@ -1,10 +1,5 @@
-use Rattle.std.proofs.Common.{map, subst, sym, ap, ◌∙◌, Option, ℕ, MatchOption}
-use Rattle.trace_laws.specs.Step.{Events}
-use Rattle.trace_laws.specs.Taken.{event_of}
-use Rattle.pending_events.specs.Pending.{IsEmpty, IsLeastTick}
-use Rattle.mailboxes.specs.Mailbox.{earlier_of}
-use Rattle.windows.specs.Inside.Agenda.{all_ahead, all_in, in_box}
-use Rattle.windows.proofs.Agendas.{least_both}
+use Rattle.windows.proofs.Words.{map, subst, sym, ap, ◌∙◌, Option, ℕ, MatchOption, Events, event_of, IsEmpty, IsLeastTick, earlier_of, all_ahead, all_in, in_box}
+use Rattle.windows.proofs.Agendas.{least_joined, tick_of_letters}
 use Rattle.windows.proofs.agenda.Agenda.least_tick.Goals as goal
 
 -- the least tick of a set, if there is one
@@ -14,8 +9,8 @@ IsLeastOf m tick = MatchOption tick (IsEmpty m) (λ t. IsLeastTick m t)
 pub returns : goal.returns
 returns c =
     let a = c.self.inside.lists in
-    let letters = map event_of (in_box c.self.inside.inbox) in
-    let inner = least_both a.row a.later.items c.least_tick.result a.next c.least_tick.ensures c.self.invariant.0.next in
-    let both = least_both (all_in a) letters (earlier_of c.least_tick.result a.next) c.soonest_of.result inner c.soonest_of.ensures in
-    subst (λ m. IsLeastOf m c.earlier-2.result) c.self.view_is
-    (subst (IsLeastOf (all_ahead a c.self.inside.inbox)) (sym (c.earlier-2.ensures ∙ ap (λ o. earlier_of o c.soonest_of.result) c.earlier.ensures)) both)
+    let xs = in_box c.self.inside.inbox in
+    let least = least_joined (map event_of xs) (all_in a) _ (least_joined a.later.items a.row _ c.least_tick.ensures) in
+    let is = c.earlier-2.ensures
+    ∙ (λ i. earlier_of ((c.earlier.ensures ∙ ap (earlier_of c.least_tick.result) c.self.invariant.0.next) i) ((c.soonest_of.ensures ∙ sym (tick_of_letters xs)) i)) in
+    subst (λ m. IsLeastOf m c.earlier-2.result) c.self.view_is (subst (IsLeastOf (all_ahead a c.self.inside.inbox)) (sym is) least)

@@ -1,7 +1,5 @@
-use Rattle.std.proofs.Common.{◌≡◌, ◌∙◌, ◌<◌, ap, sym, subst, map, MatchOption}
+use Rattle.windows.proofs.Words.{◌≡◌, ◌∙◌, ◌<◌, ap, sym, subst, map, MatchOption, event_of, IsLeast, NoneBelow, joined}
 use Rattle.std.specs.FinMap as events
-use Rattle.trace_laws.specs.Taken.{event_of}
-use Rattle.trace_laws.specs.World.{IsLeast, NoneBelow, joined}
 use Rattle.windows.proofs.Agendas.{taken_below, taken_least, taken_removed}
 use Rattle.windows.proofs.agenda.Agenda.take_below.Goals as goal
 

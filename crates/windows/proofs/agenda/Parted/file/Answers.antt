@@ -1,12 +1,6 @@
-use Rattle.std.proofs.Common.{◌∙◌, ◌++◌, ◌∷◌, [], ◌<◌, ◌≤◌, ap, sym, subst, arith, Some}
-use Rattle.std.specs.List.{AllByRecursion}
+use Rattle.windows.proofs.Words.{◌∙◌, ◌++◌, ◌∷◌, [], ◌<◌, ◌≤◌, ap, sym, subst, arith, Some, AllByRecursion, Event, joined, both, earlier_of, AreFrom, first_tick}
 use Rattle.std.specs.FinMap as events
-use Rattle.trace_laws.specs.Step.{Event}
-use Rattle.trace_laws.specs.World.{joined}
-use Rattle.process_api.proofs.Lists.{both}
-use Rattle.mailboxes.specs.Mailbox.{earlier_of}
-use Rattle.windows.specs.Inside.Agenda.{AreFrom, IsSoonestOf}
-use Rattle.windows.proofs.Agendas.{filed_due, filed_later, soonest_more}
+use Rattle.windows.proofs.Agendas.{filed_due, filed_later, tick_more}
 use Rattle.windows.proofs.agenda.Parted.file.Goals as goal
 
 pub returns-in_ok-push : goal.returns-in_ok-push
@@ -32,6 +26,6 @@ returns-in_ok-push-2 c end es h =
       same = ap (λ later. joined events.empty (p.due.items ++ later)) c.in_ok-push-2.ensures.items ∙ filed_later p.due.items p.later.items es e h.same;
       below = h.below;
       from = subst (AreFrom end) (sym c.in_ok-push-2.ensures.items) (both (λ (f : Event). end ≤ f.0.tick) p.later.items (e ∷ []) h.from (late, tt));
-      next = subst (λ later. IsSoonestOf later c.earlier-self.result) (sym c.in_ok-push-2.ensures.items)
-          (subst (IsSoonestOf (p.later.items ++ e ∷ [])) (sym (c.earlier-self.ensures ∙ ap (λ k. earlier_of p.next (Some k.tick)) c.key-tick.ensures)) (soonest_more p.later.items e p.next h.next));
+      next = c.earlier-self.ensures
+          ∙ ((λ i. earlier_of (h.next i) (Some (c.key-tick.ensures i).tick)) ∙ (sym (tick_more p.later.items e) ∙ ap first_tick (sym c.in_ok-push-2.ensures.items)));
     }

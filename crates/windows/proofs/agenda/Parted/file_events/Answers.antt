@@ -1,7 +1,4 @@
-use Rattle.std.proofs.Common.{◌≡◌, ◌∙◌, ◌++◌, ◌∷◌, [], ◌+◌, ◌<◌, suc, ap, sym, subst, arith, append_assoc, append-nil, drop, drop-cons, drop-set-lt, length, length-drop, slice_set}
-use Rattle.std.proofs.lemmas.List.{nil_from_length}
-use Rattle.trace_laws.specs.Step.{Event}
-use Rattle.windows.specs.Inside.Agenda.{IsParted}
+use Rattle.windows.proofs.Words.{◌≡◌, ◌∙◌, ◌++◌, ◌∷◌, [], ◌+◌, ◌<◌, suc, ap, sym, subst, arith, append_assoc, append-nil, drop, drop-cons, drop-set-lt, length, length-drop, slice_set, nil_from_length, Event, IsParted}
 use Rattle.windows.proofs.agenda.Parted.file_events.Goals as goal
 
 pub loop-place-preserved : goal.loop-place-preserved

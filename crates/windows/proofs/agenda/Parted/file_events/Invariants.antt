@@ -1,6 +1,4 @@
-use Rattle.std.proofs.Common.{◌≡◌, ◌-◌, ◌++◌, ℕ, List, drop, vec_len}
-use Rattle.trace_laws.specs.Step.{Event}
-use Rattle.windows.specs.Inside.Agenda.{IsParted}
+use Rattle.windows.proofs.Words.{◌≡◌, ◌-◌, ◌++◌, ℕ, List, drop, vec_len, Event, IsParted}
 use Rattle.windows.proofs.agenda.Parted.file_events.Given as goal
 
 -- some events were filed, and these with the rest are all

@@ -1,8 +1,4 @@
-use Rattle.std.proofs.Common.{◌∙◌, ◌++◌, ◌∷◌, [], ap, map, sym, subst, append_assoc, append-nil}
-use Rattle.std.specs.Vec.Iter.{into_iter_items}
-use Rattle.std.proofs.lemmas.List.{nil_from_length}
-use Rattle.trace_laws.specs.Taken.{event_of}
-use Rattle.windows.specs.Inside.Agenda.{IsParted}
+use Rattle.windows.proofs.Words.{◌∙◌, ◌++◌, ◌∷◌, [], ap, map, sym, subst, append_assoc, append-nil, into_iter_items, nil_from_length, event_of, IsParted}
 use Rattle.windows.proofs.agenda.Parted.file_letters.Goals as goal
 
 pub loop-letter-preserved : goal.loop-letter-preserved

@@ -1,8 +1,4 @@
-use Rattle.std.proofs.Common.{◌≡◌, ◌++◌, ℕ, List, map}
-use Rattle.std.specs.Vec.Iter.{into_iter_items}
-use Rattle.trace_laws.specs.Step.{Event}
-use Rattle.trace_laws.specs.Taken.{event_of}
-use Rattle.windows.specs.Inside.Agenda.{IsParted}
+use Rattle.windows.proofs.Words.{◌≡◌, ◌++◌, ℕ, List, map, into_iter_items, Event, event_of, IsParted}
 use Rattle.windows.proofs.agenda.Parted.file_letters.Given as goal
 
 abbrev pub invariant-loop-letter : goal.invariant-loop-letter

@@ -1,5 +1,4 @@
-use Rattle.std.proofs.Common.{◌≡◌, ap, refl, sym, length, ◌∙◌, rules}
-use Rattle.windows.specs.Berth.{made_in}
+use Rattle.windows.proofs.Words.{◌≡◌, ap, refl, sym, length, ◌∙◌, rules, made_in}
 use Rattle.windows.proofs.Letters.{all_handed, is_for, still_for}
 use Rattle.windows.proofs.berth.Berth.take.Goals as goal
 

@@ -1,8 +1,5 @@
-use Rattle.std.proofs.Common.{◌++◌, ◌∙◌, ap, sym, append-nil}
+use Rattle.windows.proofs.Words.{◌++◌, ◌∙◌, ap, sym, append-nil, on_ok_weaker, joined, for_self, for_others}
 use Rattle.std.specs.FinMap as events
-use Rattle.std.proofs.lemmas.Result.{on_ok_weaker}
-use Rattle.trace_laws.specs.World.{joined}
-use Rattle.window_laws.specs.Machine.{for_self, for_others}
 use Rattle.windows.proofs.Letters.{one_own, others_then, self_then}
 use Rattle.windows.proofs.outbox.OutboxJoins.add.Goals as goal
 

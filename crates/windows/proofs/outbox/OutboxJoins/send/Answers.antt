@@ -1,11 +1,4 @@
-use Rattle.std.proofs.Common.{◌∷◌, ◌++◌, ◌∙◌, [], ap, sym}
-use Rattle.std.proofs.lemmas.List.{map-append}
-use Rattle.std.proofs.lemmas.Result.{on_ok_weaker}
-use Rattle.process_api.specs.declared.message.Letter.{Letter}
-use Rattle.trace_laws.specs.Taken.{event_of}
-use Rattle.trace_laws.specs.World.{joined}
-use Rattle.mailboxes.specs.Mailboxes.{filed}
-use Rattle.window_laws.specs.Machine.{for_self, for_others}
+use Rattle.windows.proofs.Words.{◌∷◌, ◌++◌, ◌∙◌, [], ap, sym, map-append, on_ok_weaker, Letter, event_of, joined, filed, for_self, for_others}
 use Rattle.windows.proofs.Letters.{filed_more, one_other, others_then, self_then}
 use Rattle.windows.proofs.outbox.OutboxJoins.send.Goals as goal
 

@@ -1,26 +1,10 @@
-use Rattle.std.proofs.Common.{rules, ◌≡◌, ◌-◌, suc, Some, slice_get, [], map, ap, subst, sym, ◌∙◌, arith, length, IsTrue}
-use Rattle.std.specs.Global.{Vec}
-use Rattle.std.specs.List.Sorted.{IsPermutation}
-use Rattle.std.proofs.lemmas.List.Sorted.{length_permutation, IsPermutation-refl}
-use Rattle.std.proofs.lemmas.Option.{get_or_from_slice_get, slice_get_within}
-use Rattle.process_api.specs.Order.{is_rising}
-use Rattle.mailboxes.specs.Mailboxes.{list_of}
-use Rattle.trace_merge.specs.Parts.{all_of, AreDisjoint}
-use Rattle.windows.specs.Inside.Agenda.{AreOne}
-use Rattle.windows.specs.Stage.{delivered}
-use Rattle.windows.specs.declared.berth.Berth.{Berth}
-use Rattle.windows.proofs.Ended.{same_length}
+use Rattle.windows.proofs.Words.{rules, ◌≡◌, ◌-◌, suc, Some, slice_get, [], map, ap, subst, sym, ◌∙◌, arith, length, IsTrue, Vec, IsPermutation, length_permutation, IsPermutation-refl, get_or_from_slice_get, slice_get_within, is_rising, list_of, all_of, AreDisjoint, AreOne}
 use Rattle.windows.proofs.Waiting.{plus_same}
 use Rattle.windows.proofs.Places.{all_at, all_place, before_suc, same_at}
 use Rattle.windows.proofs.stage.Stage.close.Goals as goal
 
-pub deliver_all-requires-clause-count : goal.deliver_all-requires-clause-count
-deliver_all-requires-clause-count g c κs within =
-    let many = same_length _ _ _ _ c.in_ok-berths.ensures.seats in
-    omega (arith, many, c.in_ok-inboxes.ensures.count, c.requires.boxes, c.args.ran.berths.ok.0, c.in_ok-berths.berths.ok.0)
-
-pub deliver_all-requires-clause-one : goal.deliver_all-requires-clause-one
-deliver_all-requires-clause-one g c κs within =
+pub hand_over-requires-clause-one : goal.hand_over-requires-clause-one
+hand_over-requires-clause-one g c κs within =
     let inboxes = c.in_ok-inboxes.inboxes in
     all_at AreOne inboxes.items (λ i letters at.
     let inside = slice_get_within inboxes.items i letters at in
@@ -37,9 +21,8 @@ returns-clause-parts g c = record {
 
 pub returns-clause-closed : goal.returns-clause-closed
 returns-clause-closed g c merged is =
-    let part_of = λ (z : Berth _). z.part in
-    let items_of = λ (v : Vec _). v.items in
     let letters = c.in_ok-inboxes.inboxes.items in
+    let now = c.in_ok-berths.ensures in
     let count : c.in-Some.made ≡ length (all_of (map (λ (v : Vec _). v.items) c.in_ok-berths.parts.items)) =
     c.in-Some.ensures.0 ∙ ap (λ ps. length (all_of (map (λ (v : Vec _). v.items) ps))) c.deref.ensures.value in
     let many : c.in-Some.made ≡ length merged = omega (arith, count, length_permutation _ _ is.same) in (
@@ -49,13 +32,11 @@ returns-clause-closed g c merged is =
         each = λ r low high. subst (λ l. IsPermutation l (list_of letters r)) (c.in_ok-inboxes.ensures.letters r) (IsPermutation-refl (list_of letters r));
       },
       record {
-        seats = c.in_ok-berths-2.ensures.seats ∙ c.in_ok-berths.ensures.seats;
-        pending = c.in_ok-berths-2.ensures.pending ∙ ap (λ ms. delivered ms letters) c.in_ok-berths.ensures.pending;
-        parts = all_at (λ b. b.part.items ≡ []) c.in_ok-berths-2.berths.items
-            (λ i b at. let a = same_at part_of part_of c.in_ok-berths.berths.items c.in_ok-berths-2.berths.items (sym c.in_ok-berths-2.ensures.parts) i b at in
-            ap items_of (sym a.2) ∙ all_place (λ b. b.part.items ≡ []) c.in_ok-berths.berths.items c.in_ok-berths.ensures.empty i a.0 a.1);
+        seats = now.seats;
+        pending = now.pending;
+        parts = now.empty;
         rising = is.rising;
-        same = subst (λ ps. IsPermutation (all_of ps) merged) c.in_ok-berths.ensures.parts is.same;
+        same = subst (λ ps. IsPermutation (all_of ps) merged) now.parts is.same;
         few = omega (arith, many, c.in-Some.ensures.1);
         longer = plus_same _ _ c.in-Some.made _ (search rules) many;
         start = search rules;

@@ -1,6 +1,4 @@
-use Rattle.std.proofs.Common.{map, ap, ◌∙◌, refl, None}
-use Rattle.trace_laws.specs.World.{opened}
-use Rattle.steps.proofs.Openings.{machines_open}
+use Rattle.windows.proofs.Words.{map, ap, ◌∙◌, refl, None, opened, machines_open}
 use Rattle.windows.proofs.Opening.{opening_stands, opening_stage}
 use Rattle.windows.proofs.stage.Stage.open.Goals as goal
 

@@ -1,9 +1,5 @@
-use Rattle.std.proofs.Common.{◌≡◌, ◌++◌, [], length, map}
-use Rattle.std.specs.List.{All}
-use Rattle.std.specs.Vec.Iter.{into_iter_items}
-use Rattle.windows.specs.Inside.Agenda.{AreOne}
-use Rattle.windows.specs.Stage.{delivered}
-use Rattle.windows.proofs.stage.deliver_all.Given as goal
+use Rattle.windows.proofs.Words.{◌≡◌, ◌++◌, [], length, map, All, into_iter_items, AreOne, delivered}
+use Rattle.windows.proofs.stage.hand_over.Given as goal
 
 -- what was done so far and what the rest gives is what all give
 abbrev pub invariant-loop-berth : goal.invariant-loop-berth
@@ -13,7 +9,8 @@ invariant-loop-berth g l =
     record {
       seats : map (λ b. b.seat) l.done.items ++ map (λ b. b.seat) rest ≡ map (λ b. b.seat) l.fn.berths.items;
       pending : map (λ b. b.pending) l.done.items ++ delivered (map (λ b. b.pending) rest) letters ≡ delivered (map (λ b. b.pending) l.fn.berths.items) l.fn.inboxes.items;
-      parts : map (λ b. b.part) l.done.items ++ map (λ b. b.part) rest ≡ map (λ b. b.part) l.fn.berths.items;
+      empty : All (λ b. b.part.items ≡ []) l.done.items;
+      parts : map (λ v. v.items) l.parts.items ++ map (λ b. b.part.items) rest ≡ map (λ b. b.part.items) l.fn.berths.items;
       same : length letters ≡ length rest;
       one : All AreOne letters;
       emptied : All (λ i. i ≡ []) l.emptied.items;

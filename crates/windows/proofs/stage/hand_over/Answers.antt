@@ -1,18 +1,7 @@
-use Rattle.std.proofs.Common.{◌≡◌, ◌∷◌, ◌++◌, [], List, length, map, ap, sym, ◌∙◌, subst, arith, append-nil, append_assoc, refl}
-use Rattle.std.specs.List.{All}
-use Rattle.std.specs.Vec.Iter.{into_iter_items}
-use Rattle.std.proofs.lemmas.List.{map-append, nil_from_length}
-use Rattle.std.proofs.lemmas.List.Elements.{All-head, All-nil, All-same, All-tail}
-use Rattle.deques.proofs.Deals.{map_turn}
-use Rattle.process_api.specs.declared.message.Letter.{Letter}
-use Rattle.trace_laws.specs.Step.{Events}
-use Rattle.trace_laws.specs.Taken.{event_of}
-use Rattle.trace_laws.specs.World.{joined}
-use Rattle.windows.specs.Inside.Agenda.{AreOne}
-use Rattle.windows.specs.Stage.{delivered}
-use Rattle.windows.specs.declared.berth.Berth.{Berth}
-use Rattle.windows.proofs.Ended.{ends, opens}
-use Rattle.windows.proofs.stage.deliver_all.Goals as goal
+use Rattle.windows.proofs.Words.{◌≡◌, ◌∷◌, ◌++◌, [], List, length, map, ap, sym, ◌∙◌, subst, arith, append-nil, append_assoc, refl, Vec, All, into_iter_items, map-append, nil_from_length, All-head, All-nil, All-push, All-same, All-tail, map_turn, Letter, Events, event_of, joined, AreOne, delivered, Berth}
+use Rattle.process_api.specs.declared.entry.Entry.{Entry}
+use Rattle.windows.proofs.Places.{ends, opens}
+use Rattle.windows.proofs.stage.hand_over.Goals as goal
 
 pub loop-berth-init : goal.loop-berth-init
 loop-berth-init g c =
@@ -22,7 +11,8 @@ loop-berth-init g c =
     record {
       seats = opens _ _ _ _ _ none all;
       pending = λ i. map (λ (z : Berth _). z.pending) (none i) ++ delivered (map (λ (z : Berth _). z.pending) (all i)) (letters i);
-      parts = opens _ _ _ _ _ none all;
+      empty = All-same (λ (b : Berth _). b.part.items ≡ []) _ [] none (All-nil (λ (b : Berth _). b.part.items ≡ []));
+      parts = opens _ _ _ _ _ c.in_ok-parts.ensures.items all;
       same = omega (arith, ap length letters, ap length all, c.requires.count, c.args.berths.ok.0, c.args.inboxes.ok.0);
       one = subst (All AreOne) (sym letters) c.requires.one;
       emptied = All-same (λ i. i ≡ []) _ [] c.new-emptied.ensures.items (All-nil (λ i. i ≡ []));
@@ -46,7 +36,7 @@ loop-berth-preserved g c =
     let i = c.loop-berth.invariant in
     let seat_of = λ (z : Berth _). z.seat in
     let pending_of = λ (z : Berth _). z.pending in
-    let part_of = λ (z : Berth _). z.part in
+    let items_of = λ (v : Vec Entry). v.items in
     let rest = into_iter_items c.loop-berth.berth-iterator in
     let left = into_iter_items c.next.new.self in
     let old = c.in-Some.berth in
@@ -56,14 +46,15 @@ loop-berth-preserved g c =
     let e : rest ≡ old ∷ left = c.in-Some.ensures.steps.0 in
     let f : boxes ≡ inbox ∷ later = c.in-Some-next.ensures.items in
     let done = c.loop-berth.done.items in
-    let after = c.push.new.self.items in
-    let new : Berth _ = record { seat = old.seat; pending = c.deliver.new.self; part = old.part; actions = old.actions } in
-    let more : after ≡ done ++ new ∷ [] = c.in_ok-push.ensures.items in
+    let after = c.push-in-loop-berth.new.self.items in
+    let new : Berth _ = record { seat = old.seat; pending = c.deliver.new.self; part = c.replace.new.dest; actions = old.actions } in
+    let more : after ≡ done ++ new ∷ [] = c.in_ok-push-2.ensures.items in
     record {
       seats = map_turn seat_of seat_of done after new rest left old _ more e refl i.seats;
       pending = given (map pending_of done) (map pending_of after) (map pending_of rest) (map pending_of left) _ boxes later old.pending new.pending inbox
           (ap (map pending_of) more ∙ map-append pending_of done (new ∷ [])) (ap (map pending_of) e) f c.in_ok-deliver.ensures.joined i.pending;
-      parts = map_turn part_of part_of done after new rest left old _ more e refl i.parts;
+      empty = All-same (λ (b : Berth _). b.part.items ≡ []) after (done ++ new ∷ []) more (All-push (λ (b : Berth _). b.part.items ≡ []) done new i.empty (ap items_of c.replace.ensures.after ∙ c.in_ok-next.ensures.items));
+      parts = map_turn items_of (λ (z : Berth _). z.part.items) c.loop-berth.parts.items _ _ rest left old _ c.in_ok-push.ensures.items e (ap items_of c.replace.ensures.value) i.parts;
       same = omega (arith, ap length e, ap length f, i.same);
       one = All-tail AreOne inbox later (subst (All AreOne) f i.one);
       emptied = c.in_ok-keep.ensures;
@@ -76,6 +67,7 @@ returns g c =
     record {
       seats = ends _ _ _ _ _ none i.seats;
       pending = sym (append-nil _) ∙ (ap (λ l. map (λ (z : Berth _). z.pending) c.loop-berth.done.items ++ delivered (map (λ (z : Berth _). z.pending) l) (into_iter_items c.loop-berth.inboxes)) (sym (nil_from_length _ none)) ∙ i.pending);
+      empty = i.empty;
       parts = ends _ _ _ _ _ none i.parts;
       emptied = i.emptied;
     }
