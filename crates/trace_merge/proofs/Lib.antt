@@ -1,3 +1,2 @@
-pub mod Rising
 pub mod Distinct
 pub mod Gathering
