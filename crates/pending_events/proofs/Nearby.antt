@@ -1,31 +1,22 @@
 -- Events in a ring and a map, by their ticks.
-use Rattle.std.proofs.Common.{◌≡◌, ◌≢◌, ◌⊎◌, ◌≤◌, ◌<◌, inl, inr, refl, sym, ap, ◌∙◌, subst, arith, Less, Equal, Bool, true, false, cond, List, [], ◌∷◌, ◌++◌, reverse, length, map, Option, Some, None, is_eq, true≢false, ℕ, zero, suc, nat_cmp, IsSome, length-append, ◌+◌, ◌%◌, slice_set, min, unwrap_or, option_map, MatchOption, is_gt, get_or, Result, Ok, Err, OnOk, OnErr}
+use Rattle.std.proofs.Common.{◌≡◌, ◌≢◌, ◌⊎◌, ◌≤◌, ◌<◌, inl, inr, refl, sym, ap, ◌∙◌, subst, arith, Bool, true, false, cond, List, [], ◌∷◌, ◌++◌, length, map, Option, Some, None, true≢false, ℕ, zero, suc, nat_cmp, IsSome, length-append, ◌+◌, ◌%◌, slice_set, min, unwrap_or, option_map, MatchOption, is_gt, get_or, Result, Ok, Err, OnOk, OnErr}
 use Rattle.std.specs.Global.{Vec}
 use Rattle.std.specs.BTreeMap as tree
-use Rattle.std.specs.FinMap as events
-use Rattle.std.specs.FinMap.{find}
 use Rattle.std.specs.Map.{lookup}
 use Rattle.std.specs.Ordering.{eq_by_cmp}
-use Rattle.std.specs.Cmp.{nat_cmp_total}
 use Rattle.std.specs.List.{AllByRecursion}
-use Rattle.std.specs.List.Sorted.{IsStrictlySortedBy}
 use Rattle.std.specs.Option.{option_or}
 use Rattle.std.proofs.lemmas.Bool.{cases_eq, cases_lt}
 use Rattle.std.proofs.lemmas.Bool.Decides.{nat_tests}
-use Rattle.std.proofs.lemmas.Cmp.{tied_itself}
-use Rattle.std.proofs.lemmas.List.{reverse-reverse}
-use Rattle.std.proofs.lemmas.List.Elements.{recursion_from_All}
-use Rattle.std.proofs.lemmas.Map.Views.{All-found}
 use Rattle.process_api.specs.Order.{key_cmp}
 use Rattle.process_api.specs.declared.key.Key.{Key}
 use Rattle.process_api.specs.declared.message.StepInput.{StepInput}
 use Rattle.pending_events.specs.declared.calendar.Calendar.{Calendar}
-use Rattle.pending_events.specs.Inside.Buckets.{latest, Buckets, bucket, HasTick, IsFiled, flat}
-use Rattle.pending_events.specs.Inside.Calendar.{IsNear, IsVacant, IsCalendar, IsAdded, IsFirst, IsTaken, NoneAhead, all_held, all_in, flat_ring, found, lane}
-use Rattle.trace_laws.specs.Step.{Event, Events}
+use Rattle.pending_events.specs.Inside.Buckets.{latest, Buckets, bucket, HasTick, IsFiled}
+use Rattle.pending_events.specs.Inside.Calendar.{IsNear, IsVacant, IsCalendar, IsAdded, IsFirst, IsTaken, NoneAhead, found, lane}
+use Rattle.trace_laws.specs.Step.{Event}
 use Rattle.process_api.proofs.Lists.{both, weaker}
-use Rattle.pending_events.proofs.Falling.{find_append, latest_append, none_latest, not_here, or_None}
-use Rattle.pending_events.proofs.Rows.{get_joined}
+use Rattle.pending_events.proofs.Falling.{latest_append, none_latest, not_here, or_None}
 
 abbrev pub calendar_of : ℕ → Vec (Vec Event) → Buckets → Calendar
 calendar_of from ring map = record { from = from; ring = ring; map = map }
@@ -55,83 +46,22 @@ lane_pushed [] v (suc j) e = refl
 lane_pushed (x ∷ xs) v zero e = refl
 lane_pushed (x ∷ xs) v (suc j) e = lane_pushed xs v j e
 
--- ---- what is found
-
-none_in : (vs : List (Vec Event)) (q : Key) → ((o : ℕ) → latest q (lane vs o) ≡ None) → find key_cmp q (flat_ring vs) ≡ None
-none_in [] q h = refl
-none_in (v ∷ vs) q h =
-    find_append q (reverse v.items) (flat_ring vs)
-    ∙ (ap (λ o. option_or o (find key_cmp q (flat_ring vs))) (h 0) ∙ none_in vs q (λ o. h (suc o)))
-
-at_place : (vs : List (Vec Event)) (p : ℕ) (q : Key) → ((o : ℕ) → o ≢ p → latest q (lane vs o) ≡ None) → find key_cmp q (flat_ring vs) ≡ latest q (lane vs p)
-at_place [] p q h = refl
-at_place (v ∷ vs) zero q h =
-    find_append q (reverse v.items) (flat_ring vs)
-    ∙ (ap (option_or (latest q v.items)) (none_in vs q (λ o. h (suc o) (λ e. omega (arith, e)))) ∙ or_None (latest q v.items))
-at_place (v ∷ vs) (suc p) q h =
-    find_append q (reverse v.items) (flat_ring vs)
-    ∙ (ap (λ o. option_or o (find key_cmp q (flat_ring vs))) (h 0 (λ e. omega (arith, e))) ∙ at_place vs p q (λ o n. h (suc o) (λ e. n (omega (arith, e)))))
+-- ---- buckets of the map
 
 -- events of another tick are not found
 pub other_tick : (t : ℕ) (q : Key) (es : List Event) → AllByRecursion (λ e. e.0.tick ≡ t) es → q.tick ≢ t → latest q es ≡ None
 other_tick t q es own n = none_latest q es (weaker _ _ (λ e is s. n (ap (λ (k : Key). k.tick) s ∙ is)) es own)
 
-abbrev Row : Type 0
-Row = ℕ × Vec Event
-
-abbrev IsOwnRow : Row → Type 0
-IsOwnRow p = AllByRecursion (λ e. e.0.tick ≡ p.0) p.1.items
-
-abbrev held : Option (Vec Event) → List Event
-held o = unwrap_or (option_map (λ v. v.items) o) []
+abbrev items_in : Option (Vec Event) → List Event
+items_in o = unwrap_or (option_map (λ v. v.items) o) []
 
 nat_apart : (a b : ℕ) → b ≢ a → eq_by_cmp nat_cmp a b ≡ false
 nat_apart a b n = grind (arith, nat_tests)
 
-same_tick : (a b : ℕ) → a ≡ b → is_eq (nat_cmp a b) ≡ true
-same_tick a b e = ap is_eq (subst (λ x. nat_cmp a x ≡ Equal) e (tied_itself nat_cmp_total a))
-
-abbrev tree_keys : List Row → List ℕ
-tree_keys ps = map (λ p. p.0) ps
-
-not_above : (t : ℕ) (ps : List Row) → AllByRecursion (λ y. nat_cmp t y ≡ Less) (tree_keys ps) → lookup (tree.is_at (nat_cmp t)) ps ≡ None
-not_above t [] h = refl
-not_above t (p ∷ ps) h = ap (λ r. cond (is_eq r) (Some p.1) (lookup (tree.is_at (nat_cmp t)) ps)) h.0 ∙ not_above t ps h.1
-
-flat_find : (ps : List Row) → IsStrictlySortedBy nat_cmp (tree_keys ps) → AllByRecursion IsOwnRow ps → (q : Key) → find key_cmp q (flat ps) ≡ latest q (held (lookup (tree.is_at (nat_cmp q.tick)) ps))
-unfolding IsStrictlySortedBy
-flat_find [] rising own q = refl
-flat_find (p ∷ ps) rising own q =
-    let rest : Option (Vec Event) = lookup (tree.is_at (nat_cmp q.tick)) ps in
-    find_append q (reverse p.1.items) (flat ps) ∙ (ap (option_or (latest q p.1.items)) (flat_find ps rising.1 own.1 q) ∙ elim (cases_eq q.tick p.0) [
-      | inl e ↦
-          ap (λ o. option_or (latest q p.1.items) (latest q (held o))) (not_above q.tick ps (subst (λ t. AllByRecursion (λ y. nat_cmp t y ≡ Less) (tree_keys ps)) (sym e) rising.0))
-          ∙ (or_None (latest q p.1.items) ∙ ap (λ b. latest q (held (cond b (Some p.1) rest))) (sym (same_tick q.tick p.0 e)))
-      | inr other ↦
-          ap (λ o. option_or o (latest q (held rest))) (other_tick p.0 q p.1.items own.0 other)
-          ∙ ap (λ b. latest q (held (cond b (Some p.1) rest))) (sym (nat_apart q.tick p.0 (λ e. other (sym e))))
-    ])
-
-own_rows : (m : Buckets) → tree.IsOrdered nat_cmp m → ((t : ℕ) → AllByRecursion (λ e. e.0.tick ≡ t) (bucket m t)) → AllByRecursion IsOwnRow m.entries
-own_rows m ordered own = recursion_from_All IsOwnRow m.entries (λ k d h.
-    let p = get_or m.entries k d in
-    subst (AllByRecursion (λ e. e.0.tick ≡ p.0)) (ap held (All-found nat_cmp_total m ordered k d h)) (own p.0))
-
--- what is found in a row and a calendar
-pub get_in : (row : Events) (c : Calendar) → IsCalendar c → (q : Key) → events.get (all_in row c) q ≡ option_or (found c q) (events.get row q)
-get_in row c h q =
-    let in_ring = at_place c.ring.items (q.tick % 1024) q (λ o other. none_latest q (lane c.ring.items o) (weaker _ _ (λ e is s. other (sym (ap (λ (k : Key). k.tick % 1024) s ∙ is.1))) (lane c.ring.items o) (h.placed o))) in
-    let in_map = flat_find c.map.entries h.ordered (own_rows c.map h.ordered h.own) q in
-    get_joined (all_held c) row q
-    ∙ ap (λ o. option_or o (events.get row q)) (ap (find key_cmp q) (reverse-reverse (flat_ring c.ring.items ++ flat c.map.entries))
-    ∙ (find_append q (flat_ring c.ring.items) (flat c.map.entries) ∙ (λ i. option_or (in_ring i) (in_map i))))
-
--- ---- buckets of the map
-
 pub filed_new : (m n : Buckets) (tick : ℕ) (event : Event) (v : Vec Event) → tree.Updates nat_cmp m n tick (Some v) → tree.get nat_cmp m tick ≡ None → v.items ≡ event ∷ [] → IsFiled m n tick event
 filed_new m n tick event v h none is = record {
-  here = ap held h.1 ∙ (is ∙ ap (λ o. held o ++ event ∷ []) (sym none));
-  others = λ t other. ap held (h.2 t (nat_apart tick t other));
+  here = ap items_in h.1 ∙ (is ∙ ap (λ o. items_in o ++ event ∷ []) (sym none));
+  others = λ t other. ap items_in (h.2 t (nat_apart tick t other));
   has = λ t there other. subst IsSome (h.2 t (nat_apart tick t other)) there;
 }
 
@@ -142,7 +72,7 @@ no_rows m none t there = elim m.entries as (λ ps. (0 < length ps → ⊥) → I
 ] none there
 
 no_listed : (m : Buckets) (t : ℕ) → (HasTick m t → ⊥) → bucket m t ≡ []
-no_listed m t none = elim (tree.get nat_cmp m t) as (λ o. (IsSome o → ⊥) → held o ≡ []) [ None ↦ λ f. refl | Some b ↦ λ f. absurd (f refl) ] none
+no_listed m t none = elim (tree.get nat_cmp m t) as (λ o. (IsSome o → ⊥) → items_in o ≡ []) [ None ↦ λ f. refl | Some b ↦ λ f. absurd (f refl) ] none
 
 -- another map, with other events of one tick
 other_map : (c : Calendar) → IsCalendar c → (m : Buckets) → tree.IsOrdered nat_cmp m → (tick : ℕ) → c.from ≤ tick
@@ -318,7 +248,7 @@ module _ (c : Calendar) (h : IsCalendar c) (tick : ℕ) (first : IsFirst c tick)
   map_left : IsCalendar (calendar_of c.from c.ring map2)
   map_left =
       other_map c h map2 ordered tick first.from (subst (AllByRecursion (λ f. f.0.tick ≡ tick)) (sym (no_listed map2 tick none)) tt) (λ there. absurd (none there))
-      (λ t other. ap held (same t other)) (λ t there other. subst IsSome (same t other) there)
+      (λ t other. ap items_in (same t other)) (λ t there other. subst IsSome (same t other) there)
 
   left_after : (t : ℕ) → HasTick map2 t → tick < t
   left_after t there = elim (cases_eq t tick) [
@@ -361,7 +291,7 @@ module _ (c : Calendar) (h : IsCalendar c) (tick : ℕ) (first : IsFirst c tick)
       ]
 
   same_left : (q : Key) → q.tick ≢ tick → found c q ≡ found new q
-  same_left q n = λ i. option_or (of_ring i) (latest q (held (sym (same q.tick n) i)))
+  same_left q n = λ i. option_or (of_ring i) (latest q (items_in (sym (same q.tick n) i)))
     where
       of_ring : latest q (lane c.ring.items (q.tick % 1024)) ≡ latest q (lane ring2.items (q.tick % 1024))
       of_ring = elim (cases_eq (q.tick % 1024) (tick % 1024)) [
