@@ -74,26 +74,6 @@ no_rows m none t there = elim m.entries as (λ ps. (0 < length ps → ⊥) → I
 no_listed : (m : Buckets) (t : ℕ) → (HasTick m t → ⊥) → bucket m t ≡ []
 no_listed m t none = elim (tree.get nat_cmp m t) as (λ o. (IsSome o → ⊥) → items_in o ≡ []) [ None ↦ λ f. refl | Some b ↦ λ f. absurd (f refl) ] none
 
--- another map, with other events of one tick
-other_map : (c : Calendar) → IsCalendar c → (m : Buckets) → tree.IsOrdered nat_cmp m → (tick : ℕ) → c.from ≤ tick
-    → AllByRecursion (λ e. e.0.tick ≡ tick) (bucket m tick) → (HasTick m tick → 0 < length (bucket m tick))
-    → ((t : ℕ) → t ≢ tick → bucket m t ≡ bucket c.map t) → ((t : ℕ) → HasTick m t → t ≢ tick → HasTick c.map t) → IsCalendar (calendar_of c.from c.ring m)
-other_map c h m ordered tick low own full others has = record {
-  ordered = ordered;
-  full = λ t there. elim (cases_eq t tick) [
-    | inl e ↦ subst (λ u. 0 < length (bucket m u)) (sym e) (full (subst (HasTick m) e there))
-    | inr other ↦ subst (λ es. 0 < length es) (sym (others t other)) (h.full t (has t there other))
-  ];
-  own = λ t. elim (cases_eq t tick) [
-    | inl e ↦ subst (λ u. AllByRecursion (λ f. f.0.tick ≡ u) (bucket m u)) (sym e) own
-    | inr other ↦ subst (AllByRecursion (λ f. f.0.tick ≡ t)) (sym (others t other)) (h.own t)
-  ];
-  soon = λ t there. elim (cases_eq t tick) [ inl e ↦ omega (arith, e, low) | inr other ↦ h.soon t (has t there other) ];
-  placed = h.placed;
-  long = h.long;
-  room = h.room;
-}
-
 -- ---- no event
 
 module _ (ring : Vec (Vec Event)) (map : Buckets) (none : (p : ℕ) → lane ring.items p ≡ []) (never : (t : ℕ) → HasTick map t → ⊥) where
@@ -245,22 +225,20 @@ module _ (c : Calendar) (h : IsCalendar c) (tick : ℕ) (first : IsFirst c tick)
   own_lane : AllByRecursion (λ e. e.0.tick ≡ tick) (lane c.ring.items (tick % 1024))
   own_lane = weaker _ _ (λ e at. omega (arith, at.0.0.high, at.0.1, at.1, first.from)) (lane c.ring.items (tick % 1024)) (in_ring (tick % 1024))
 
-  map_left : IsCalendar (calendar_of c.from c.ring map2)
-  map_left =
-      other_map c h map2 ordered tick first.from (subst (AllByRecursion (λ f. f.0.tick ≡ tick)) (sym (no_listed map2 tick none)) tt) (λ there. absurd (none there))
-      (λ t other. ap items_in (same t other)) (λ t there other. subst IsSome (same t other) there)
+  apart : (t : ℕ) → HasTick map2 t → t ≢ tick
+  apart t there e = none (subst (HasTick map2) e there)
 
   left_after : (t : ℕ) → HasTick map2 t → tick < t
-  left_after t there = elim (cases_eq t tick) [
-    | inl e ↦ absurd (none (subst (HasTick map2) e there))
-    | inr other ↦ let low = first.listed t (subst IsSome (same t other) there) in omega (arith, low, other)
-  ]
+  left_after t there = let other = apart t there in let low = first.listed t (subst IsSome (same t other) there) in omega (arith, low, other)
 
   pub next_calendar : IsCalendar (calendar_of to ring2 map2)
   next_calendar = record {
     ordered = ordered;
-    full = map_left.full;
-    own = map_left.own;
+    full = λ t there. let is = same t (apart t there) in subst (λ o. 0 < length (items_in o)) (sym is) (h.full t (subst IsSome is there));
+    own = λ t. elim (cases_eq t tick) [
+      | inl e ↦ subst (AllByRecursion (λ f. f.0.tick ≡ t)) (sym (no_listed map2 t (λ there. apart t there e))) tt
+      | inr other ↦ subst (λ o. AllByRecursion (λ f. f.0.tick ≡ t) (items_in o)) (sym (same t other)) (h.own t)
+    ];
     soon = λ t there. let after = left_after t there in omega (arith, after, is);
     placed = λ p. elim (cases_eq p (tick % 1024)) [
       | inl e ↦ subst (AllByRecursion (λ f. IsNear to f.0.tick × (f.0.tick % 1024 ≡ p))) (sym (ap (lane ring2.items) e ∙ gone)) tt
