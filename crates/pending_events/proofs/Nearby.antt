@@ -176,23 +176,25 @@ module _ (c : Calendar) (h : IsCalendar c) (o : Option ℕ) (listed : IsListedFi
   above m None h tick le t there = absurd (h t there)
   above m (Some first) h tick le t there = let least = not_less t first (h.1 t there) in omega (arith, least, le)
 
-  ahead : (end : ℕ) → NoneAhead c.ring.items c.from end → (p : ℕ) → AllByRecursion (λ e. IsNear c.from e.0.tick × (end ≤ e.0.tick)) (lane c.ring.items p)
-  ahead end none p = go (lane c.ring.items p) refl
+  ahead : (end tick : ℕ) → NoneAhead c.ring.items c.from end → ((t : ℕ) → t < c.from + 1024 → end ≤ t → tick ≤ t) → (p : ℕ)
+      → AllByRecursion (λ e. IsNear c.from e.0.tick × (e.0.tick % 1024 ≡ p) × (tick ≤ e.0.tick)) (lane c.ring.items p)
+  ahead end tick none up p = go (lane c.ring.items p) refl
     where
-      go : (es : List Event) → lane c.ring.items p ≡ es → AllByRecursion (λ e. IsNear c.from e.0.tick × (end ≤ e.0.tick)) (lane c.ring.items p)
-      go [] e = subst (AllByRecursion (λ e. IsNear c.from e.0.tick × (end ≤ e.0.tick))) (sym e) tt
+      go : (es : List Event) → lane c.ring.items p ≡ es → AllByRecursion (λ e. IsNear c.from e.0.tick × (e.0.tick % 1024 ≡ p) × (tick ≤ e.0.tick)) (lane c.ring.items p)
+      go [] e = subst (AllByRecursion (λ e. IsNear c.from e.0.tick × (e.0.tick % 1024 ≡ p) × (tick ≤ e.0.tick))) (sym e) tt
       go (f ∷ fs) e = weaker _ _ (λ g at. (
         at.0,
+        at.1,
         elim (cases_lt g.0.tick end) [
           | inl less ↦ absurd (some_there f fs (sym e ∙ (ap (lane c.ring.items) (sym at.1) ∙ none g.0.tick at.0.low less)))
-          | inr past ↦ past
+          | inr past ↦ up g.0.tick at.0.high past
         ],
       )) (lane c.ring.items p) (h.placed p)
 
   pub first_near : (tick : ℕ) → c.from ≤ tick → tick < end → NoneAhead c.ring.items c.from tick → 0 < length (lane c.ring.items (tick % 1024)) → IsFirst c tick
   first_near tick low less none some = record {
     listed = above c.map o listed tick (omega (arith, less, is));
-    ahead = λ p. weaker _ _ (λ e at. at.1) (lane c.ring.items p) (ahead tick none p);
+    ahead = ahead tick tick none (λ t near past. past);
     some = omega (arith, some, length-append (bucket c.map tick) (lane c.ring.items (tick % 1024)));
     from = low;
   }
@@ -202,28 +204,21 @@ module _ (c : Calendar) (h : IsCalendar c) (o : Option ℕ) (listed : IsListedFi
     where
       go : (o : Option ℕ) → IsListedFirst c.map o → end ≡ min (c.from + 1024) (unwrap_or o 4294967295) → MatchOption o (IsVacant c) (IsFirst c)
       go None never e = λ q. let p = q.tick % 1024 in
-          (λ i. option_or (none_latest q (lane c.ring.items p) (weaker _ _ (λ f at s. omega (arith, at.0.high, at.1, e, h.room)) (lane c.ring.items p) (ahead end none p)) i) (latest q (no_listed c.map q.tick (never q.tick) i)))
+          (λ i. option_or (none_latest q (lane c.ring.items p) (weaker _ _ (λ f at s. omega (arith, at.0.high, at.2, e, h.room)) (lane c.ring.items p) (ahead end end none (λ t near past. past) p)) i) (latest q (no_listed c.map q.tick (never q.tick) i)))
       go (Some first) there e = record {
         listed = above c.map (Some first) there first (omega arith);
-        ahead = λ p. weaker _ _ (λ f at. omega (arith, at.0.high, at.1, e)) (lane c.ring.items p) (ahead end none p);
+        ahead = ahead end first none (λ t near past. omega (arith, near, past, e));
         some = omega (arith, h.full first there.0, length-append (bucket c.map first) (lane c.ring.items (first % 1024)));
         from = h.soon first there.0;
       }
 
 -- ---- the events of the first tick go
 
-all_both : (P Q : Event → Type 0) (es : List Event) → AllByRecursion P es → AllByRecursion Q es → AllByRecursion (λ e. P e × Q e) es
-all_both P Q [] h i = tt
-all_both P Q (e ∷ es) h i = ((h.0, i.0), all_both P Q es h.1 i.1)
-
 module _ (c : Calendar) (h : IsCalendar c) (tick : ℕ) (first : IsFirst c tick) (ring2 : Vec (Vec Event)) (gone : lane ring2.items (tick % 1024) ≡ [])
     (others : (p : ℕ) → p ≢ tick % 1024 → lane ring2.items p ≡ lane c.ring.items p) (long : length ring2.items ≡ 1024) (map2 : Buckets)
     (none : HasTick map2 tick → ⊥) (same : (t : ℕ) → t ≢ tick → tree.get nat_cmp map2 t ≡ tree.get nat_cmp c.map t) (ordered : tree.IsOrdered nat_cmp map2) (to : ℕ) (is : to ≡ min tick 4294966271) where
-  in_ring : (p : ℕ) → AllByRecursion (λ e. (IsNear c.from e.0.tick × (e.0.tick % 1024 ≡ p)) × (tick ≤ e.0.tick)) (lane c.ring.items p)
-  in_ring p = all_both _ _ (lane c.ring.items p) (h.placed p) (first.ahead p)
-
   own_lane : AllByRecursion (λ e. e.0.tick ≡ tick) (lane c.ring.items (tick % 1024))
-  own_lane = weaker _ _ (λ e at. omega (arith, at.0.0.high, at.0.1, at.1, first.from)) (lane c.ring.items (tick % 1024)) (in_ring (tick % 1024))
+  own_lane = weaker _ _ (λ e at. omega (arith, at.0.high, at.1, at.2, first.from)) (lane c.ring.items (tick % 1024)) (first.ahead (tick % 1024))
 
   apart : (t : ℕ) → HasTick map2 t → t ≢ tick
   apart t there e = none (subst (HasTick map2) e there)
@@ -243,7 +238,7 @@ module _ (c : Calendar) (h : IsCalendar c) (tick : ℕ) (first : IsFirst c tick)
     placed = λ p. elim (cases_eq p (tick % 1024)) [
       | inl e ↦ subst (AllByRecursion (λ f. IsNear to f.0.tick × (f.0.tick % 1024 ≡ p))) (sym (ap (lane ring2.items) e ∙ gone)) tt
       | inr n ↦ subst (AllByRecursion (λ f. IsNear to f.0.tick × (f.0.tick % 1024 ≡ p))) (sym (others p n))
-          (weaker _ _ (λ e at. (record { low = omega (arith, at.1, is); high = omega (arith, at.0.0.high, first.from, h.room, is) }, at.0.1)) (lane c.ring.items p) (in_ring p))
+          (weaker _ _ (λ e at. (record { low = omega (arith, at.2, is); high = omega (arith, at.0.high, first.from, h.room, is) }, at.1)) (lane c.ring.items p) (first.ahead p))
     ];
     long = long;
     room = omega (arith, is);
@@ -265,7 +260,7 @@ module _ (c : Calendar) (h : IsCalendar c) (tick : ℕ) (first : IsFirst c tick)
       of_ring = elim (cases_eq (q.tick % 1024) (tick % 1024)) [
         | inl e ↦ ap (latest q) (ap (lane ring2.items) e ∙ gone)
         | inr n ↦ ap (latest q) (others (q.tick % 1024) n)
-            ∙ none_latest q (lane c.ring.items (q.tick % 1024)) (weaker _ _ (λ e at s. let t = ap (λ (k : Key). k.tick) s in n (ap (λ u. u % 1024) (omega (arith, at, t, low)))) (lane c.ring.items (q.tick % 1024)) (first.ahead (q.tick % 1024)))
+            ∙ none_latest q (lane c.ring.items (q.tick % 1024)) (weaker _ _ (λ e at s. let t = ap (λ (k : Key). k.tick) s in n (ap (λ u. u % 1024) (omega (arith, at.2, t, low)))) (lane c.ring.items (q.tick % 1024)) (first.ahead (q.tick % 1024)))
       ]
 
   same_left : (q : Key) → q.tick ≢ tick → found c q ≡ found new q
