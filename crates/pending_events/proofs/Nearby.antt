@@ -1,22 +1,23 @@
 -- Events in a ring and a map, by their ticks.
-use Rattle.std.proofs.Common.{◌≡◌, ◌≢◌, ◌⊎◌, ◌≤◌, ◌<◌, inl, inr, refl, sym, ap, ◌∙◌, subst, arith, Bool, true, false, cond, List, [], ◌∷◌, ◌++◌, length, map, Option, Some, None, true≢false, ℕ, zero, suc, nat_cmp, IsSome, length-append, ◌+◌, ◌%◌, slice_set, min, unwrap_or, option_map, MatchOption, is_gt, get_or, Result, Ok, Err, OnOk, OnErr}
+use Rattle.std.proofs.Common.{◌≡◌, ◌≢◌, ◌≤◌, ◌<◌, inl, inr, refl, sym, ap, ◌∙◌, subst, arith, false, List, [], ◌∷◌, ◌++◌, length, map, Option, Some, None, true≢false, ℕ, zero, suc, nat_cmp, IsSome, length-append, ◌+◌, ◌%◌, slice_set, min, unwrap_or, option_map, MatchOption, is_gt, get_or, Result, Ok, Err, OnOk, OnErr}
 use Rattle.std.specs.Global.{Vec}
 use Rattle.std.specs.BTreeMap as tree
 use Rattle.std.specs.Map.{lookup}
 use Rattle.std.specs.Ordering.{eq_by_cmp}
 use Rattle.std.specs.List.{AllByRecursion}
 use Rattle.std.specs.Option.{option_or}
+use Rattle.std.proofs.lemmas.List.{append-nil}
+use Rattle.std.proofs.lemmas.Result.{on_err_weaker, on_ok_weaker}
+use Rattle.std.specs.declared.alloc.AllocError.{AllocError}
 use Rattle.std.proofs.lemmas.Bool.{cases_eq, cases_lt}
 use Rattle.std.proofs.lemmas.Bool.Decides.{nat_tests}
-use Rattle.process_api.specs.Order.{key_cmp}
 use Rattle.process_api.specs.declared.key.Key.{Key}
-use Rattle.process_api.specs.declared.message.StepInput.{StepInput}
 use Rattle.pending_events.specs.declared.calendar.Calendar.{Calendar}
-use Rattle.pending_events.specs.Inside.Buckets.{latest, Buckets, bucket, HasTick, IsFiled}
-use Rattle.pending_events.specs.Inside.Calendar.{IsNear, IsVacant, IsCalendar, IsAdded, IsFirst, IsTaken, NoneAhead, found, lane}
+use Rattle.pending_events.specs.Inside.Buckets.{latest, Buckets, bucket, HasTick, IsFiled, IsSame}
+use Rattle.pending_events.specs.Inside.Calendar.{IsNear, IsVacant, IsCalendar, AreAdded, IsFirst, IsTaken, NoneAhead, came, found, lane}
 use Rattle.trace_laws.specs.Step.{Event}
 use Rattle.process_api.proofs.Lists.{both, weaker}
-use Rattle.pending_events.proofs.Falling.{latest_append, none_latest, not_here, or_None}
+use Rattle.pending_events.proofs.Falling.{latest_append, none_latest, or_assoc, or_None}
 
 abbrev pub calendar_of : ℕ → Vec (Vec Event) → Buckets → Calendar
 calendar_of from ring map = record { from = from; ring = ring; map = map }
@@ -93,72 +94,75 @@ module _ (ring : Vec (Vec Event)) (map : Buckets) (none : (p : ℕ) → lane rin
 
 -- ---- an event comes
 
-or_front : (b : Bool) (x : StepInput) (a o : Option StepInput) → option_or (option_or (cond b (Some x) None) a) o ≡ cond b (Some x) (option_or a o)
-or_front true x a o = refl
-or_front false x a o = refl
+pub all_came : (P : Event → Type 0) (r : Result (Unit {0}) AllocError) (e : Event) → P e → AllByRecursion P (came r e)
+all_came P (Ok x) e p = (p, tt)
+all_came P (Err x) e p = tt
 
-pub in_result : {X Y : Type 0} (r : Result X Y) (P Q : Type 0) → OnOk r P → OnErr r Q → P ⊎ Q
-in_result (Ok x) P Q p q = inl p
-in_result (Err e) P Q p q = inr q
+there : (r : Result (Unit {0}) AllocError) (e : Event) (old new : List Event) → OnOk r (new ≡ old ++ e ∷ []) → OnErr r (new ≡ old) → new ≡ old ++ came r e
+there (Ok x) e old new ok err = ok
+there (Err x) e old new ok err = err ∙ sym (append-nil old)
 
-module _ (c : Calendar) (h : IsCalendar c) (tick : ℕ) (event : Event) (own_tick : event.0.tick ≡ tick) (low : c.from ≤ tick) where
-  at_other : (q : Key) → q.tick ≢ tick → q ≢ event.0
-  at_other q n s = n (ap (λ (k : Key). k.tick) s ∙ own_tick)
+module _ (c : Calendar) (h : IsCalendar c) (tick : ℕ) (event : Event) (own_tick : event.0.tick ≡ tick) (low : c.from ≤ tick) (r : Result (Unit {0}) AllocError) where
+  abbrev news : List Event
+  news = came r event
 
-  module _ (ring2 : Vec (Vec Event)) (high : tick < c.from + 1024) (others : (p : ℕ) → p ≢ tick % 1024 → lane ring2.items p ≡ lane c.ring.items p) (long : length ring2.items ≡ length c.ring.items) where
-    abbrev Has : List Event → ℕ → Type 0
-    Has es p = AllByRecursion (λ f. IsNear c.from f.0.tick × (f.0.tick % 1024 ≡ p)) es
+  none_new : (q : Key) → q.tick ≢ tick → option_or (latest q news) (found c q) ≡ found c q
+  none_new q n = ap (λ o. option_or o (found c q)) (other_tick tick q news (all_came (λ e. e.0.tick ≡ tick) r event own_tick) n)
 
-    pub near_calendar : (lane ring2.items (tick % 1024) ≡ lane c.ring.items (tick % 1024) ++ event ∷ []) ⊎ (lane ring2.items (tick % 1024) ≡ lane c.ring.items (tick % 1024)) → IsCalendar (calendar_of c.from ring2 c.map)
-    near_calendar here = record {
+  module _ (ring2 : Vec (Vec Event)) (high : tick < c.from + 1024) (here : lane ring2.items (tick % 1024) ≡ lane c.ring.items (tick % 1024) ++ news)
+      (others : (p : ℕ) → p ≢ tick % 1024 → lane ring2.items p ≡ lane c.ring.items p) (long : length ring2.items ≡ length c.ring.items) where
+    abbrev AreAt : List Event → ℕ → Type 0
+    AreAt es p = AllByRecursion (λ f. IsNear c.from f.0.tick × (f.0.tick % 1024 ≡ p)) es
+
+    near_calendar : IsCalendar (calendar_of c.from ring2 c.map)
+    near_calendar = record {
       ordered = h.ordered;
       full = h.full;
       own = h.own;
       soon = h.soon;
       placed = λ p. elim (cases_eq p (tick % 1024)) [
-        | inl e ↦ subst (λ o. Has (lane ring2.items o) o) (sym e) (elim here [
-          | inl more ↦ subst (λ es. Has es (tick % 1024)) (sym more)
-              (both (λ f. IsNear c.from f.0.tick × (f.0.tick % 1024 ≡ tick % 1024)) (lane c.ring.items (tick % 1024)) (event ∷ []) (h.placed (tick % 1024))
-              ((record { low = omega (arith, low, own_tick); high = omega (arith, high, own_tick) }, ap (λ t. t % 1024) own_tick), tt))
-          | inr same ↦ subst (λ es. Has es (tick % 1024)) (sym same) (h.placed (tick % 1024))
-        ])
-        | inr n ↦ subst (λ es. Has es p) (sym (others p n)) (h.placed p)
+        | inl e ↦ subst (λ o. AreAt (lane ring2.items o) o) (sym e) (subst (λ es. AreAt es (tick % 1024)) (sym here)
+            (both (λ f. IsNear c.from f.0.tick × (f.0.tick % 1024 ≡ tick % 1024)) (lane c.ring.items (tick % 1024)) news (h.placed (tick % 1024))
+            (all_came _ r event (record { low = omega (arith, low, own_tick); high = omega (arith, high, own_tick) }, ap (λ t. t % 1024) own_tick))))
+        | inr n ↦ subst (λ es. AreAt es p) (sym (others p n)) (h.placed p)
       ];
       long = long ∙ h.long;
       room = h.room;
     }
 
-    pub near_added : lane ring2.items (tick % 1024) ≡ lane c.ring.items (tick % 1024) ++ event ∷ [] → IsAdded c (calendar_of c.from ring2 c.map) event
-    near_added more q =
+    near_added : AreAdded c (calendar_of c.from ring2 c.map) news
+    near_added q =
+        let old = lane c.ring.items (q.tick % 1024) in
         let listed = latest q (bucket c.map q.tick) in
         elim (cases_eq (q.tick % 1024) (tick % 1024)) [
           | inl s ↦
-              let at = ap (lane ring2.items) s ∙ (more ∙ ap (λ es. es ++ event ∷ []) (ap (lane c.ring.items) (sym s))) in
-              ap (λ es. option_or (latest q es) listed) at
-              ∙ (ap (λ o. option_or o listed) (latest_append q (lane c.ring.items (q.tick % 1024)) (event ∷ [])) ∙ or_front (eq_by_cmp key_cmp q event.0) event.1 (latest q (lane c.ring.items (q.tick % 1024))) listed)
-          | inr n ↦ ap (λ es. option_or (latest q es) listed) (others (q.tick % 1024) n) ∙ sym (not_here q event (found c q) (at_other q (λ s. n (ap (λ t. t % 1024) s))))
+              ap (λ es. option_or (latest q es) listed) (ap (lane ring2.items) s ∙ (here ∙ ap (λ p. lane c.ring.items p ++ news) (sym s)))
+              ∙ (ap (λ o. option_or o listed) (latest_append q old news) ∙ or_assoc (latest q news) (latest q old) listed)
+          | inr n ↦ ap (λ es. option_or (latest q es) listed) (others (q.tick % 1024) n) ∙ sym (none_new q (λ s. n (ap (λ t. t % 1024) s)))
         ]
 
-    pub near_same : lane ring2.items (tick % 1024) ≡ lane c.ring.items (tick % 1024) → (q : Key) → found (calendar_of c.from ring2 c.map) q ≡ found c q
-    near_same same q = ap (λ es. option_or (latest q es) (latest q (bucket c.map q.tick))) (elim (cases_eq (q.tick % 1024) (tick % 1024)) [
-      | inl s ↦ ap (lane ring2.items) s ∙ (same ∙ ap (lane c.ring.items) (sym s))
-      | inr n ↦ others (q.tick % 1024) n
-    ])
+  -- in the ring
+  pub near : (ring2 : Vec (Vec Event)) → tick < c.from + 1024 → OnOk r (lane ring2.items (tick % 1024) ≡ lane c.ring.items (tick % 1024) ++ event ∷ [])
+      → OnErr r (lane ring2.items (tick % 1024) ≡ lane c.ring.items (tick % 1024)) → ((p : ℕ) → p ≢ tick % 1024 → lane ring2.items p ≡ lane c.ring.items p) → length ring2.items ≡ length c.ring.items
+      → IsCalendar (calendar_of c.from ring2 c.map) × AreAdded c (calendar_of c.from ring2 c.map) news
+  near ring2 high ok err others long = let here = there r event _ _ ok err in (near_calendar ring2 high here others long, near_added ring2 high here others long)
 
-  module _ (m : Buckets) (ordered : tree.IsOrdered nat_cmp m) where
-    pub filed_added : c.from + 1024 ≤ tick → IsFiled c.map m tick event → IsAdded c (calendar_of c.from c.ring m) event
-    filed_added far filed q = elim (cases_eq q.tick tick) [
-      | inl s ↦
-          let b = eq_by_cmp key_cmp q event.0 in
-          let old = bucket c.map q.tick in
-          let none : latest q (lane c.ring.items (q.tick % 1024)) ≡ None =
-          none_latest q (lane c.ring.items (q.tick % 1024)) (weaker _ _ (λ e is t. omega (arith, is.0.high, far, s, ap (λ (k : Key). k.tick) t)) (lane c.ring.items (q.tick % 1024)) (h.placed (q.tick % 1024))) in
-          let at = ap (bucket m) s ∙ (filed.here ∙ ap (λ t. bucket c.map t ++ event ∷ []) (sym s)) in
-          (λ i. option_or (none i) (latest q (at i)))
-          ∙ (latest_append q old (event ∷ [])
-          ∙ (sym (or_None (option_or (cond b (Some event.1) None) (latest q old))) ∙ (or_front b event.1 (latest q old) None ∙ ap (cond b (Some event.1)) (or_None (latest q old) ∙ sym (ap (λ o. option_or o (latest q old)) none)))))
-      | inr n ↦ ap (λ es. option_or (latest q (lane c.ring.items (q.tick % 1024))) (latest q es)) (filed.others q.tick n) ∙ sym (not_here q event (found c q) (at_other q n))
-    ]
+  -- in the map
+  pub filed : (m : Buckets) → c.from + 1024 ≤ tick → OnOk r (IsFiled c.map m tick event) → OnErr r (IsSame c.map m) → AreAdded c (calendar_of c.from c.ring m) news
+  filed m far ok err q = elim (cases_eq q.tick tick) [
+    | inl s ↦
+        let old = bucket c.map q.tick in
+        let none : latest q (lane c.ring.items (q.tick % 1024)) ≡ None =
+        none_latest q (lane c.ring.items (q.tick % 1024)) (weaker _ _ (λ e is t. omega (arith, is.0.high, far, s, ap (λ (k : Key). k.tick) t)) (lane c.ring.items (q.tick % 1024)) (h.placed (q.tick % 1024))) in
+        let here = there r event (bucket c.map tick) (bucket m tick) (on_ok_weaker r (λ f. f.here) ok) (on_err_weaker r (λ f. f.each tick) err) in
+        (λ i. option_or (none i) (latest q ((ap (bucket m) s ∙ (here ∙ ap (λ t. bucket c.map t ++ news) (sym s))) i)))
+        ∙ (latest_append q old news ∙ ap (option_or (latest q news)) (sym (ap (λ o. option_or o (latest q old)) none)))
+    | inr n ↦ ap (λ es. option_or (latest q (lane c.ring.items (q.tick % 1024))) (latest q es)) (go r ok err q.tick n) ∙ sym (none_new q n)
+  ]
+    where
+      go : (r : Result (Unit {0}) AllocError) → OnOk r (IsFiled c.map m tick event) → OnErr r (IsSame c.map m) → (t : ℕ) → t ≢ tick → bucket m t ≡ bucket c.map t
+      go (Ok x) is same t n = is.others t n
+      go (Err x) is same t n = same.each t
 
 -- ---- the first tick
 

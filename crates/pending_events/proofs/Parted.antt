@@ -1,5 +1,5 @@
 -- Events in a row and all later ones, as a finite set of events.
-use Rattle.std.proofs.Common.{◌≡◌, ◌≤◌, ◌<◌, ℕ, ◌+◌, inl, inr, refl, sym, ap, ◌∙◌, subst, arith, Bool, cond, true, false, List, [], ◌∷◌, length, reverse, Option, Some, None, MatchOption, is_some, Result, Ok, Err, OnOk, OnErr}
+use Rattle.std.proofs.Common.{◌≡◌, ◌≢◌, ◌≤◌, ◌<◌, ℕ, ◌+◌, inl, inr, refl, sym, ap, ◌∙◌, subst, arith, Bool, cond, true, false, List, [], ◌∷◌, length, reverse, Option, Some, None, MatchOption, is_some, Result, Ok, Err, OnOk, OnErr}
 use Rattle.std.specs.declared.alloc.AllocError.{AllocError}
 use Rattle.std.specs.FinMap as events
 use Rattle.std.specs.FinMap.{find}
@@ -13,13 +13,13 @@ use Rattle.process_api.specs.declared.message.StepInput.{StepInput}
 use Rattle.process_api.proofs.KeyOrder.{keys_total, exact_keys, ticks_rise}
 use Rattle.pending_events.specs.declared.calendar.Calendar.{Calendar}
 use Rattle.pending_events.specs.Inside.Buckets.{latest}
-use Rattle.pending_events.specs.Inside.Calendar.{all_in, Content, Content-prop, found, IsAdded, IsCalendar, IsParted, IsTaken, IsVacant}
+use Rattle.pending_events.specs.Inside.Calendar.{all_in, Content, Content-prop, found, AreAdded, came, IsCalendar, IsParted, IsTaken, IsVacant}
 use Rattle.pending_events.specs.Pending.{IsEmpty}
 use Rattle.trace_laws.specs.Step.{Event, Events}
 use Rattle.trace_laws.specs.World.{IsLeast, joined}
 use Rattle.trace_laws.proofs.Sets.{inserted, not_None, removed, tie}
-use Rattle.pending_events.proofs.Falling.{found_here, not_here, or_None}
-use Rattle.pending_events.proofs.Nearby.{other_tick}
+use Rattle.pending_events.proofs.Falling.{found_here, none_latest, or_assoc, or_None}
+use Rattle.pending_events.proofs.Nearby.{all_came, other_tick}
 use Rattle.pending_events.proofs.Rows.{get_joined}
 
 -- all sets of what is found are one
@@ -42,10 +42,6 @@ of_set end m c a P n = subst P (sym (one_set end m c a n.0 n.1)) n.2
 chosen : (b : Bool) (f a o : Option StepInput) → (b ≡ true → f ≡ None) → cond b o (option_or f a) ≡ option_or f (cond b o a)
 chosen true f a o h = sym (ap (λ g. option_or g o) (h refl))
 chosen false f a o h = refl
-
-come : (b : Bool) (x : StepInput) (a o : Option StepInput) → cond b (Some x) (option_or a o) ≡ option_or (cond b (Some x) a) o
-come true x a o = refl
-come false x a o = refl
 
 module _ {end : ℕ} {m : Events} {c : Calendar} {all : Events} (h : IsParted end m c all) where
   -- the row has changed at a key
@@ -70,29 +66,19 @@ module _ {end : ℕ} {m : Events} {c : Calendar} {all : Events} (h : IsParted en
   )
 
   -- a later event comes
-  pub later_joined : (e : Event) → end ≤ e.0.tick → (r : Result (Unit {0}) AllocError) (d : Calendar) → IsCalendar d → d.from ≡ c.from → OnOk r (IsAdded c d e) → OnErr r ((q : Key) → found d q ≡ found c q) → Stands end m d (AreJoined r e)
-  later_joined e late (Err x) d i from ok same = (
-    all,
+  pub later_joined : (e : Event) → end ≤ e.0.tick → (r : Result (Unit {0}) AllocError) (d : Calendar) → IsCalendar d → d.from ≡ c.from → AreAdded c d (came r e) → Stands end m d (AreJoined r e)
+  later_joined e late r d i from added = (
+    joined all (came r e),
     record {
       calendar = i;
       below = h.below;
-      none_below = λ q low. same q ∙ h.none_below q low;
+      none_below = λ q low. added q
+          ∙ (ap (λ o. option_or o (found c q)) (none_latest q (came r e) (all_came (λ f. q ≢ f.0) r e (λ s. omega (arith, low, late, ap (λ (k : Key). k.tick) s)))) ∙ h.none_below q low);
       from = omega (arith, h.from, from);
-      holds = λ q. h.holds q ∙ ap (λ o. option_or o (events.get m q)) (sym (same q));
+      holds = λ q. get_joined (came r e) all q
+          ∙ (ap (option_or (latest q (came r e))) (h.holds q) ∙ (sym (or_assoc _ (found c q) (events.get m q)) ∙ ap (λ o. option_or o (events.get m q)) (sym (added q))));
     },
-    (tt, refl),
-  )
-  later_joined e late (Ok x) d i from added err = (
-    events.insert all e.0 e.1,
-    record {
-      calendar = i;
-      below = h.below;
-      none_below = λ q low. added q ∙ (not_here q e (found c q) (λ s. omega (arith, low, late, ap (λ (k : Key). k.tick) s)) ∙ h.none_below q low);
-      from = omega (arith, h.from, from);
-      holds = λ q. events.get-insert keys_total all e.0 e.1 q
-          ∙ (ap (cond (eq_by_cmp key_cmp q e.0) (Some e.1)) (h.holds q) ∙ (come _ e.1 (found c q) (events.get m q) ∙ ap (λ o. option_or o (events.get m q)) (sym (added q))));
-    },
-    (refl, tt),
+    elim r as (λ r. AreJoined r e (joined all (came r e))) [ Ok x ↦ (refl, tt) | Err x ↦ (tt, refl) ],
   )
 
   -- the least event of the row is taken, which is the least of all
