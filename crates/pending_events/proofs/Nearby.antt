@@ -1,31 +1,23 @@
 -- Events in a ring and a map, by their ticks.
-use Rattle.std.proofs.Common.{◌≡◌, ◌≢◌, ◌⊎◌, ◌≤◌, ◌<◌, inl, inr, refl, sym, ap, ◌∙◌, subst, arith, Less, Equal, Bool, true, false, cond, List, [], ◌∷◌, ◌++◌, reverse, length, map, Option, Some, None, is_eq, true≢false, ℕ, zero, suc, nat_cmp, IsSome, length-append, ◌+◌, ◌%◌, slice_set, min, unwrap_or, option_map, MatchOption, is_gt, get_or, Result, Ok, Err, OnOk, OnErr}
+use Rattle.std.proofs.Common.{◌≡◌, ◌≢◌, ◌≤◌, ◌<◌, inl, inr, refl, sym, ap, ◌∙◌, subst, arith, false, List, [], ◌∷◌, ◌++◌, length, map, Option, Some, None, true≢false, ℕ, zero, suc, nat_cmp, IsSome, length-append, ◌+◌, ◌%◌, slice_set, min, unwrap_or, option_map, MatchOption, is_gt, get_or, Result, Ok, Err, OnOk, OnErr}
 use Rattle.std.specs.Global.{Vec}
 use Rattle.std.specs.BTreeMap as tree
-use Rattle.std.specs.FinMap as events
-use Rattle.std.specs.FinMap.{find}
 use Rattle.std.specs.Map.{lookup}
 use Rattle.std.specs.Ordering.{eq_by_cmp}
-use Rattle.std.specs.Cmp.{nat_cmp_total}
 use Rattle.std.specs.List.{AllByRecursion}
-use Rattle.std.specs.List.Sorted.{IsStrictlySortedBy}
 use Rattle.std.specs.Option.{option_or}
+use Rattle.std.proofs.lemmas.List.{append-nil}
+use Rattle.std.proofs.lemmas.Result.{on_err_weaker, on_ok_weaker}
+use Rattle.std.specs.declared.alloc.AllocError.{AllocError}
 use Rattle.std.proofs.lemmas.Bool.{cases_eq, cases_lt}
 use Rattle.std.proofs.lemmas.Bool.Decides.{nat_tests}
-use Rattle.std.proofs.lemmas.Cmp.{tied_itself}
-use Rattle.std.proofs.lemmas.List.{reverse-reverse}
-use Rattle.std.proofs.lemmas.List.Elements.{recursion_from_All}
-use Rattle.std.proofs.lemmas.Map.Views.{All-found}
-use Rattle.process_api.specs.Order.{key_cmp}
 use Rattle.process_api.specs.declared.key.Key.{Key}
-use Rattle.process_api.specs.declared.message.StepInput.{StepInput}
 use Rattle.pending_events.specs.declared.calendar.Calendar.{Calendar}
-use Rattle.pending_events.specs.Inside.Buckets.{latest, Buckets, bucket, HasTick, IsFiled, flat}
-use Rattle.pending_events.specs.Inside.Calendar.{IsNear, IsVacant, IsCalendar, IsAdded, IsFirst, IsTaken, NoneAhead, all_held, all_in, flat_ring, found, lane}
-use Rattle.trace_laws.specs.Step.{Event, Events}
+use Rattle.pending_events.specs.Inside.Buckets.{latest, Buckets, bucket, HasTick, IsFiled, IsSame}
+use Rattle.pending_events.specs.Inside.Calendar.{IsNear, IsVacant, IsCalendar, AreAdded, IsFirst, IsTaken, NoneAhead, came, found, lane}
+use Rattle.trace_laws.specs.Step.{Event}
 use Rattle.process_api.proofs.Lists.{both, weaker}
-use Rattle.pending_events.proofs.Falling.{find_append, latest_append, none_latest, not_here, or_None}
-use Rattle.pending_events.proofs.Rows.{get_joined}
+use Rattle.pending_events.proofs.Falling.{latest_append, none_latest, or_assoc, or_None}
 
 abbrev pub calendar_of : ℕ → Vec (Vec Event) → Buckets → Calendar
 calendar_of from ring map = record { from = from; ring = ring; map = map }
@@ -55,83 +47,22 @@ lane_pushed [] v (suc j) e = refl
 lane_pushed (x ∷ xs) v zero e = refl
 lane_pushed (x ∷ xs) v (suc j) e = lane_pushed xs v j e
 
--- ---- what is found
-
-none_in : (vs : List (Vec Event)) (q : Key) → ((o : ℕ) → latest q (lane vs o) ≡ None) → find key_cmp q (flat_ring vs) ≡ None
-none_in [] q h = refl
-none_in (v ∷ vs) q h =
-    find_append q (reverse v.items) (flat_ring vs)
-    ∙ (ap (λ o. option_or o (find key_cmp q (flat_ring vs))) (h 0) ∙ none_in vs q (λ o. h (suc o)))
-
-at_place : (vs : List (Vec Event)) (p : ℕ) (q : Key) → ((o : ℕ) → o ≢ p → latest q (lane vs o) ≡ None) → find key_cmp q (flat_ring vs) ≡ latest q (lane vs p)
-at_place [] p q h = refl
-at_place (v ∷ vs) zero q h =
-    find_append q (reverse v.items) (flat_ring vs)
-    ∙ (ap (option_or (latest q v.items)) (none_in vs q (λ o. h (suc o) (λ e. omega (arith, e)))) ∙ or_None (latest q v.items))
-at_place (v ∷ vs) (suc p) q h =
-    find_append q (reverse v.items) (flat_ring vs)
-    ∙ (ap (λ o. option_or o (find key_cmp q (flat_ring vs))) (h 0 (λ e. omega (arith, e))) ∙ at_place vs p q (λ o n. h (suc o) (λ e. n (omega (arith, e)))))
+-- ---- buckets of the map
 
 -- events of another tick are not found
 pub other_tick : (t : ℕ) (q : Key) (es : List Event) → AllByRecursion (λ e. e.0.tick ≡ t) es → q.tick ≢ t → latest q es ≡ None
 other_tick t q es own n = none_latest q es (weaker _ _ (λ e is s. n (ap (λ (k : Key). k.tick) s ∙ is)) es own)
 
-abbrev Row : Type 0
-Row = ℕ × Vec Event
-
-abbrev IsOwnRow : Row → Type 0
-IsOwnRow p = AllByRecursion (λ e. e.0.tick ≡ p.0) p.1.items
-
-abbrev held : Option (Vec Event) → List Event
-held o = unwrap_or (option_map (λ v. v.items) o) []
+abbrev items_in : Option (Vec Event) → List Event
+items_in o = unwrap_or (option_map (λ v. v.items) o) []
 
 nat_apart : (a b : ℕ) → b ≢ a → eq_by_cmp nat_cmp a b ≡ false
 nat_apart a b n = grind (arith, nat_tests)
 
-same_tick : (a b : ℕ) → a ≡ b → is_eq (nat_cmp a b) ≡ true
-same_tick a b e = ap is_eq (subst (λ x. nat_cmp a x ≡ Equal) e (tied_itself nat_cmp_total a))
-
-abbrev tree_keys : List Row → List ℕ
-tree_keys ps = map (λ p. p.0) ps
-
-not_above : (t : ℕ) (ps : List Row) → AllByRecursion (λ y. nat_cmp t y ≡ Less) (tree_keys ps) → lookup (tree.is_at (nat_cmp t)) ps ≡ None
-not_above t [] h = refl
-not_above t (p ∷ ps) h = ap (λ r. cond (is_eq r) (Some p.1) (lookup (tree.is_at (nat_cmp t)) ps)) h.0 ∙ not_above t ps h.1
-
-flat_find : (ps : List Row) → IsStrictlySortedBy nat_cmp (tree_keys ps) → AllByRecursion IsOwnRow ps → (q : Key) → find key_cmp q (flat ps) ≡ latest q (held (lookup (tree.is_at (nat_cmp q.tick)) ps))
-unfolding IsStrictlySortedBy
-flat_find [] rising own q = refl
-flat_find (p ∷ ps) rising own q =
-    let rest : Option (Vec Event) = lookup (tree.is_at (nat_cmp q.tick)) ps in
-    find_append q (reverse p.1.items) (flat ps) ∙ (ap (option_or (latest q p.1.items)) (flat_find ps rising.1 own.1 q) ∙ elim (cases_eq q.tick p.0) [
-      | inl e ↦
-          ap (λ o. option_or (latest q p.1.items) (latest q (held o))) (not_above q.tick ps (subst (λ t. AllByRecursion (λ y. nat_cmp t y ≡ Less) (tree_keys ps)) (sym e) rising.0))
-          ∙ (or_None (latest q p.1.items) ∙ ap (λ b. latest q (held (cond b (Some p.1) rest))) (sym (same_tick q.tick p.0 e)))
-      | inr other ↦
-          ap (λ o. option_or o (latest q (held rest))) (other_tick p.0 q p.1.items own.0 other)
-          ∙ ap (λ b. latest q (held (cond b (Some p.1) rest))) (sym (nat_apart q.tick p.0 (λ e. other (sym e))))
-    ])
-
-own_rows : (m : Buckets) → tree.IsOrdered nat_cmp m → ((t : ℕ) → AllByRecursion (λ e. e.0.tick ≡ t) (bucket m t)) → AllByRecursion IsOwnRow m.entries
-own_rows m ordered own = recursion_from_All IsOwnRow m.entries (λ k d h.
-    let p = get_or m.entries k d in
-    subst (AllByRecursion (λ e. e.0.tick ≡ p.0)) (ap held (All-found nat_cmp_total m ordered k d h)) (own p.0))
-
--- what is found in a row and a calendar
-pub get_in : (row : Events) (c : Calendar) → IsCalendar c → (q : Key) → events.get (all_in row c) q ≡ option_or (found c q) (events.get row q)
-get_in row c h q =
-    let in_ring = at_place c.ring.items (q.tick % 1024) q (λ o other. none_latest q (lane c.ring.items o) (weaker _ _ (λ e is s. other (sym (ap (λ (k : Key). k.tick % 1024) s ∙ is.1))) (lane c.ring.items o) (h.placed o))) in
-    let in_map = flat_find c.map.entries h.ordered (own_rows c.map h.ordered h.own) q in
-    get_joined (all_held c) row q
-    ∙ ap (λ o. option_or o (events.get row q)) (ap (find key_cmp q) (reverse-reverse (flat_ring c.ring.items ++ flat c.map.entries))
-    ∙ (find_append q (flat_ring c.ring.items) (flat c.map.entries) ∙ (λ i. option_or (in_ring i) (in_map i))))
-
--- ---- buckets of the map
-
 pub filed_new : (m n : Buckets) (tick : ℕ) (event : Event) (v : Vec Event) → tree.Updates nat_cmp m n tick (Some v) → tree.get nat_cmp m tick ≡ None → v.items ≡ event ∷ [] → IsFiled m n tick event
 filed_new m n tick event v h none is = record {
-  here = ap held h.1 ∙ (is ∙ ap (λ o. held o ++ event ∷ []) (sym none));
-  others = λ t other. ap held (h.2 t (nat_apart tick t other));
+  here = ap items_in h.1 ∙ (is ∙ ap (λ o. items_in o ++ event ∷ []) (sym none));
+  others = λ t other. ap items_in (h.2 t (nat_apart tick t other));
   has = λ t there other. subst IsSome (h.2 t (nat_apart tick t other)) there;
 }
 
@@ -142,27 +73,7 @@ no_rows m none t there = elim m.entries as (λ ps. (0 < length ps → ⊥) → I
 ] none there
 
 no_listed : (m : Buckets) (t : ℕ) → (HasTick m t → ⊥) → bucket m t ≡ []
-no_listed m t none = elim (tree.get nat_cmp m t) as (λ o. (IsSome o → ⊥) → held o ≡ []) [ None ↦ λ f. refl | Some b ↦ λ f. absurd (f refl) ] none
-
--- another map, with other events of one tick
-other_map : (c : Calendar) → IsCalendar c → (m : Buckets) → tree.IsOrdered nat_cmp m → (tick : ℕ) → c.from ≤ tick
-    → AllByRecursion (λ e. e.0.tick ≡ tick) (bucket m tick) → (HasTick m tick → 0 < length (bucket m tick))
-    → ((t : ℕ) → t ≢ tick → bucket m t ≡ bucket c.map t) → ((t : ℕ) → HasTick m t → t ≢ tick → HasTick c.map t) → IsCalendar (calendar_of c.from c.ring m)
-other_map c h m ordered tick low own full others has = record {
-  ordered = ordered;
-  full = λ t there. elim (cases_eq t tick) [
-    | inl e ↦ subst (λ u. 0 < length (bucket m u)) (sym e) (full (subst (HasTick m) e there))
-    | inr other ↦ subst (λ es. 0 < length es) (sym (others t other)) (h.full t (has t there other))
-  ];
-  own = λ t. elim (cases_eq t tick) [
-    | inl e ↦ subst (λ u. AllByRecursion (λ f. f.0.tick ≡ u) (bucket m u)) (sym e) own
-    | inr other ↦ subst (AllByRecursion (λ f. f.0.tick ≡ t)) (sym (others t other)) (h.own t)
-  ];
-  soon = λ t there. elim (cases_eq t tick) [ inl e ↦ omega (arith, e, low) | inr other ↦ h.soon t (has t there other) ];
-  placed = h.placed;
-  long = h.long;
-  room = h.room;
-}
+no_listed m t none = elim (tree.get nat_cmp m t) as (λ o. (IsSome o → ⊥) → items_in o ≡ []) [ None ↦ λ f. refl | Some b ↦ λ f. absurd (f refl) ] none
 
 -- ---- no event
 
@@ -183,72 +94,75 @@ module _ (ring : Vec (Vec Event)) (map : Buckets) (none : (p : ℕ) → lane rin
 
 -- ---- an event comes
 
-or_front : (b : Bool) (x : StepInput) (a o : Option StepInput) → option_or (option_or (cond b (Some x) None) a) o ≡ cond b (Some x) (option_or a o)
-or_front true x a o = refl
-or_front false x a o = refl
+pub all_came : (P : Event → Type 0) (r : Result (Unit {0}) AllocError) (e : Event) → P e → AllByRecursion P (came r e)
+all_came P (Ok x) e p = (p, tt)
+all_came P (Err x) e p = tt
 
-pub in_result : {X Y : Type 0} (r : Result X Y) (P Q : Type 0) → OnOk r P → OnErr r Q → P ⊎ Q
-in_result (Ok x) P Q p q = inl p
-in_result (Err e) P Q p q = inr q
+there : (r : Result (Unit {0}) AllocError) (e : Event) (old new : List Event) → OnOk r (new ≡ old ++ e ∷ []) → OnErr r (new ≡ old) → new ≡ old ++ came r e
+there (Ok x) e old new ok err = ok
+there (Err x) e old new ok err = err ∙ sym (append-nil old)
 
-module _ (c : Calendar) (h : IsCalendar c) (tick : ℕ) (event : Event) (own_tick : event.0.tick ≡ tick) (low : c.from ≤ tick) where
-  at_other : (q : Key) → q.tick ≢ tick → q ≢ event.0
-  at_other q n s = n (ap (λ (k : Key). k.tick) s ∙ own_tick)
+module _ (c : Calendar) (h : IsCalendar c) (tick : ℕ) (event : Event) (own_tick : event.0.tick ≡ tick) (low : c.from ≤ tick) (r : Result (Unit {0}) AllocError) where
+  abbrev news : List Event
+  news = came r event
 
-  module _ (ring2 : Vec (Vec Event)) (high : tick < c.from + 1024) (others : (p : ℕ) → p ≢ tick % 1024 → lane ring2.items p ≡ lane c.ring.items p) (long : length ring2.items ≡ length c.ring.items) where
-    abbrev Has : List Event → ℕ → Type 0
-    Has es p = AllByRecursion (λ f. IsNear c.from f.0.tick × (f.0.tick % 1024 ≡ p)) es
+  none_new : (q : Key) → q.tick ≢ tick → option_or (latest q news) (found c q) ≡ found c q
+  none_new q n = ap (λ o. option_or o (found c q)) (other_tick tick q news (all_came (λ e. e.0.tick ≡ tick) r event own_tick) n)
 
-    pub near_calendar : (lane ring2.items (tick % 1024) ≡ lane c.ring.items (tick % 1024) ++ event ∷ []) ⊎ (lane ring2.items (tick % 1024) ≡ lane c.ring.items (tick % 1024)) → IsCalendar (calendar_of c.from ring2 c.map)
-    near_calendar here = record {
+  module _ (ring2 : Vec (Vec Event)) (high : tick < c.from + 1024) (here : lane ring2.items (tick % 1024) ≡ lane c.ring.items (tick % 1024) ++ news)
+      (others : (p : ℕ) → p ≢ tick % 1024 → lane ring2.items p ≡ lane c.ring.items p) (long : length ring2.items ≡ length c.ring.items) where
+    abbrev AreAt : List Event → ℕ → Type 0
+    AreAt es p = AllByRecursion (λ f. IsNear c.from f.0.tick × (f.0.tick % 1024 ≡ p)) es
+
+    near_calendar : IsCalendar (calendar_of c.from ring2 c.map)
+    near_calendar = record {
       ordered = h.ordered;
       full = h.full;
       own = h.own;
       soon = h.soon;
       placed = λ p. elim (cases_eq p (tick % 1024)) [
-        | inl e ↦ subst (λ o. Has (lane ring2.items o) o) (sym e) (elim here [
-          | inl more ↦ subst (λ es. Has es (tick % 1024)) (sym more)
-              (both (λ f. IsNear c.from f.0.tick × (f.0.tick % 1024 ≡ tick % 1024)) (lane c.ring.items (tick % 1024)) (event ∷ []) (h.placed (tick % 1024))
-              ((record { low = omega (arith, low, own_tick); high = omega (arith, high, own_tick) }, ap (λ t. t % 1024) own_tick), tt))
-          | inr same ↦ subst (λ es. Has es (tick % 1024)) (sym same) (h.placed (tick % 1024))
-        ])
-        | inr n ↦ subst (λ es. Has es p) (sym (others p n)) (h.placed p)
+        | inl e ↦ subst (λ o. AreAt (lane ring2.items o) o) (sym e) (subst (λ es. AreAt es (tick % 1024)) (sym here)
+            (both (λ f. IsNear c.from f.0.tick × (f.0.tick % 1024 ≡ tick % 1024)) (lane c.ring.items (tick % 1024)) news (h.placed (tick % 1024))
+            (all_came _ r event (record { low = omega (arith, low, own_tick); high = omega (arith, high, own_tick) }, ap (λ t. t % 1024) own_tick))))
+        | inr n ↦ subst (λ es. AreAt es p) (sym (others p n)) (h.placed p)
       ];
       long = long ∙ h.long;
       room = h.room;
     }
 
-    pub near_added : lane ring2.items (tick % 1024) ≡ lane c.ring.items (tick % 1024) ++ event ∷ [] → IsAdded c (calendar_of c.from ring2 c.map) event
-    near_added more q =
+    near_added : AreAdded c (calendar_of c.from ring2 c.map) news
+    near_added q =
+        let old = lane c.ring.items (q.tick % 1024) in
         let listed = latest q (bucket c.map q.tick) in
         elim (cases_eq (q.tick % 1024) (tick % 1024)) [
           | inl s ↦
-              let at = ap (lane ring2.items) s ∙ (more ∙ ap (λ es. es ++ event ∷ []) (ap (lane c.ring.items) (sym s))) in
-              ap (λ es. option_or (latest q es) listed) at
-              ∙ (ap (λ o. option_or o listed) (latest_append q (lane c.ring.items (q.tick % 1024)) (event ∷ [])) ∙ or_front (eq_by_cmp key_cmp q event.0) event.1 (latest q (lane c.ring.items (q.tick % 1024))) listed)
-          | inr n ↦ ap (λ es. option_or (latest q es) listed) (others (q.tick % 1024) n) ∙ sym (not_here q event (found c q) (at_other q (λ s. n (ap (λ t. t % 1024) s))))
+              ap (λ es. option_or (latest q es) listed) (ap (lane ring2.items) s ∙ (here ∙ ap (λ p. lane c.ring.items p ++ news) (sym s)))
+              ∙ (ap (λ o. option_or o listed) (latest_append q old news) ∙ or_assoc (latest q news) (latest q old) listed)
+          | inr n ↦ ap (λ es. option_or (latest q es) listed) (others (q.tick % 1024) n) ∙ sym (none_new q (λ s. n (ap (λ t. t % 1024) s)))
         ]
 
-    pub near_same : lane ring2.items (tick % 1024) ≡ lane c.ring.items (tick % 1024) → (q : Key) → found (calendar_of c.from ring2 c.map) q ≡ found c q
-    near_same same q = ap (λ es. option_or (latest q es) (latest q (bucket c.map q.tick))) (elim (cases_eq (q.tick % 1024) (tick % 1024)) [
-      | inl s ↦ ap (lane ring2.items) s ∙ (same ∙ ap (lane c.ring.items) (sym s))
-      | inr n ↦ others (q.tick % 1024) n
-    ])
+  -- in the ring
+  pub near : (ring2 : Vec (Vec Event)) → tick < c.from + 1024 → OnOk r (lane ring2.items (tick % 1024) ≡ lane c.ring.items (tick % 1024) ++ event ∷ [])
+      → OnErr r (lane ring2.items (tick % 1024) ≡ lane c.ring.items (tick % 1024)) → ((p : ℕ) → p ≢ tick % 1024 → lane ring2.items p ≡ lane c.ring.items p) → length ring2.items ≡ length c.ring.items
+      → IsCalendar (calendar_of c.from ring2 c.map) × AreAdded c (calendar_of c.from ring2 c.map) news
+  near ring2 high ok err others long = let here = there r event _ _ ok err in (near_calendar ring2 high here others long, near_added ring2 high here others long)
 
-  module _ (m : Buckets) (ordered : tree.IsOrdered nat_cmp m) where
-    pub filed_added : c.from + 1024 ≤ tick → IsFiled c.map m tick event → IsAdded c (calendar_of c.from c.ring m) event
-    filed_added far filed q = elim (cases_eq q.tick tick) [
-      | inl s ↦
-          let b = eq_by_cmp key_cmp q event.0 in
-          let old = bucket c.map q.tick in
-          let none : latest q (lane c.ring.items (q.tick % 1024)) ≡ None =
-          none_latest q (lane c.ring.items (q.tick % 1024)) (weaker _ _ (λ e is t. omega (arith, is.0.high, far, s, ap (λ (k : Key). k.tick) t)) (lane c.ring.items (q.tick % 1024)) (h.placed (q.tick % 1024))) in
-          let at = ap (bucket m) s ∙ (filed.here ∙ ap (λ t. bucket c.map t ++ event ∷ []) (sym s)) in
-          (λ i. option_or (none i) (latest q (at i)))
-          ∙ (latest_append q old (event ∷ [])
-          ∙ (sym (or_None (option_or (cond b (Some event.1) None) (latest q old))) ∙ (or_front b event.1 (latest q old) None ∙ ap (cond b (Some event.1)) (or_None (latest q old) ∙ sym (ap (λ o. option_or o (latest q old)) none)))))
-      | inr n ↦ ap (λ es. option_or (latest q (lane c.ring.items (q.tick % 1024))) (latest q es)) (filed.others q.tick n) ∙ sym (not_here q event (found c q) (at_other q n))
-    ]
+  -- in the map
+  pub filed : (m : Buckets) → c.from + 1024 ≤ tick → OnOk r (IsFiled c.map m tick event) → OnErr r (IsSame c.map m) → AreAdded c (calendar_of c.from c.ring m) news
+  filed m far ok err q = elim (cases_eq q.tick tick) [
+    | inl s ↦
+        let old = bucket c.map q.tick in
+        let none : latest q (lane c.ring.items (q.tick % 1024)) ≡ None =
+        none_latest q (lane c.ring.items (q.tick % 1024)) (weaker _ _ (λ e is t. omega (arith, is.0.high, far, s, ap (λ (k : Key). k.tick) t)) (lane c.ring.items (q.tick % 1024)) (h.placed (q.tick % 1024))) in
+        let here = there r event (bucket c.map tick) (bucket m tick) (on_ok_weaker r (λ f. f.here) ok) (on_err_weaker r (λ f. f.each tick) err) in
+        (λ i. option_or (none i) (latest q ((ap (bucket m) s ∙ (here ∙ ap (λ t. bucket c.map t ++ news) (sym s))) i)))
+        ∙ (latest_append q old news ∙ ap (option_or (latest q news)) (sym (ap (λ o. option_or o (latest q old)) none)))
+    | inr n ↦ ap (λ es. option_or (latest q (lane c.ring.items (q.tick % 1024))) (latest q es)) (go r ok err q.tick n) ∙ sym (none_new q n)
+  ]
+    where
+      go : (r : Result (Unit {0}) AllocError) → OnOk r (IsFiled c.map m tick event) → OnErr r (IsSame c.map m) → (t : ℕ) → t ≢ tick → bucket m t ≡ bucket c.map t
+      go (Ok x) is same t n = is.others t n
+      go (Err x) is same t n = same.each t
 
 -- ---- the first tick
 
@@ -266,23 +180,25 @@ module _ (c : Calendar) (h : IsCalendar c) (o : Option ℕ) (listed : IsListedFi
   above m None h tick le t there = absurd (h t there)
   above m (Some first) h tick le t there = let least = not_less t first (h.1 t there) in omega (arith, least, le)
 
-  ahead : (end : ℕ) → NoneAhead c.ring.items c.from end → (p : ℕ) → AllByRecursion (λ e. IsNear c.from e.0.tick × (end ≤ e.0.tick)) (lane c.ring.items p)
-  ahead end none p = go (lane c.ring.items p) refl
+  ahead : (end tick : ℕ) → NoneAhead c.ring.items c.from end → ((t : ℕ) → t < c.from + 1024 → end ≤ t → tick ≤ t) → (p : ℕ)
+      → AllByRecursion (λ e. IsNear c.from e.0.tick × (e.0.tick % 1024 ≡ p) × (tick ≤ e.0.tick)) (lane c.ring.items p)
+  ahead end tick none up p = go (lane c.ring.items p) refl
     where
-      go : (es : List Event) → lane c.ring.items p ≡ es → AllByRecursion (λ e. IsNear c.from e.0.tick × (end ≤ e.0.tick)) (lane c.ring.items p)
-      go [] e = subst (AllByRecursion (λ e. IsNear c.from e.0.tick × (end ≤ e.0.tick))) (sym e) tt
+      go : (es : List Event) → lane c.ring.items p ≡ es → AllByRecursion (λ e. IsNear c.from e.0.tick × (e.0.tick % 1024 ≡ p) × (tick ≤ e.0.tick)) (lane c.ring.items p)
+      go [] e = subst (AllByRecursion (λ e. IsNear c.from e.0.tick × (e.0.tick % 1024 ≡ p) × (tick ≤ e.0.tick))) (sym e) tt
       go (f ∷ fs) e = weaker _ _ (λ g at. (
         at.0,
+        at.1,
         elim (cases_lt g.0.tick end) [
           | inl less ↦ absurd (some_there f fs (sym e ∙ (ap (lane c.ring.items) (sym at.1) ∙ none g.0.tick at.0.low less)))
-          | inr past ↦ past
+          | inr past ↦ up g.0.tick at.0.high past
         ],
       )) (lane c.ring.items p) (h.placed p)
 
   pub first_near : (tick : ℕ) → c.from ≤ tick → tick < end → NoneAhead c.ring.items c.from tick → 0 < length (lane c.ring.items (tick % 1024)) → IsFirst c tick
   first_near tick low less none some = record {
     listed = above c.map o listed tick (omega (arith, less, is));
-    ahead = λ p. weaker _ _ (λ e at. at.1) (lane c.ring.items p) (ahead tick none p);
+    ahead = ahead tick tick none (λ t near past. past);
     some = omega (arith, some, length-append (bucket c.map tick) (lane c.ring.items (tick % 1024)));
     from = low;
   }
@@ -292,50 +208,41 @@ module _ (c : Calendar) (h : IsCalendar c) (o : Option ℕ) (listed : IsListedFi
     where
       go : (o : Option ℕ) → IsListedFirst c.map o → end ≡ min (c.from + 1024) (unwrap_or o 4294967295) → MatchOption o (IsVacant c) (IsFirst c)
       go None never e = λ q. let p = q.tick % 1024 in
-          (λ i. option_or (none_latest q (lane c.ring.items p) (weaker _ _ (λ f at s. omega (arith, at.0.high, at.1, e, h.room)) (lane c.ring.items p) (ahead end none p)) i) (latest q (no_listed c.map q.tick (never q.tick) i)))
+          (λ i. option_or (none_latest q (lane c.ring.items p) (weaker _ _ (λ f at s. omega (arith, at.0.high, at.2, e, h.room)) (lane c.ring.items p) (ahead end end none (λ t near past. past) p)) i) (latest q (no_listed c.map q.tick (never q.tick) i)))
       go (Some first) there e = record {
         listed = above c.map (Some first) there first (omega arith);
-        ahead = λ p. weaker _ _ (λ f at. omega (arith, at.0.high, at.1, e)) (lane c.ring.items p) (ahead end none p);
+        ahead = ahead end first none (λ t near past. omega (arith, near, past, e));
         some = omega (arith, h.full first there.0, length-append (bucket c.map first) (lane c.ring.items (first % 1024)));
         from = h.soon first there.0;
       }
 
 -- ---- the events of the first tick go
 
-all_both : (P Q : Event → Type 0) (es : List Event) → AllByRecursion P es → AllByRecursion Q es → AllByRecursion (λ e. P e × Q e) es
-all_both P Q [] h i = tt
-all_both P Q (e ∷ es) h i = ((h.0, i.0), all_both P Q es h.1 i.1)
-
 module _ (c : Calendar) (h : IsCalendar c) (tick : ℕ) (first : IsFirst c tick) (ring2 : Vec (Vec Event)) (gone : lane ring2.items (tick % 1024) ≡ [])
     (others : (p : ℕ) → p ≢ tick % 1024 → lane ring2.items p ≡ lane c.ring.items p) (long : length ring2.items ≡ 1024) (map2 : Buckets)
     (none : HasTick map2 tick → ⊥) (same : (t : ℕ) → t ≢ tick → tree.get nat_cmp map2 t ≡ tree.get nat_cmp c.map t) (ordered : tree.IsOrdered nat_cmp map2) (to : ℕ) (is : to ≡ min tick 4294966271) where
-  in_ring : (p : ℕ) → AllByRecursion (λ e. (IsNear c.from e.0.tick × (e.0.tick % 1024 ≡ p)) × (tick ≤ e.0.tick)) (lane c.ring.items p)
-  in_ring p = all_both _ _ (lane c.ring.items p) (h.placed p) (first.ahead p)
-
   own_lane : AllByRecursion (λ e. e.0.tick ≡ tick) (lane c.ring.items (tick % 1024))
-  own_lane = weaker _ _ (λ e at. omega (arith, at.0.0.high, at.0.1, at.1, first.from)) (lane c.ring.items (tick % 1024)) (in_ring (tick % 1024))
+  own_lane = weaker _ _ (λ e at. omega (arith, at.0.high, at.1, at.2, first.from)) (lane c.ring.items (tick % 1024)) (first.ahead (tick % 1024))
 
-  map_left : IsCalendar (calendar_of c.from c.ring map2)
-  map_left =
-      other_map c h map2 ordered tick first.from (subst (AllByRecursion (λ f. f.0.tick ≡ tick)) (sym (no_listed map2 tick none)) tt) (λ there. absurd (none there))
-      (λ t other. ap held (same t other)) (λ t there other. subst IsSome (same t other) there)
+  apart : (t : ℕ) → HasTick map2 t → t ≢ tick
+  apart t there e = none (subst (HasTick map2) e there)
 
   left_after : (t : ℕ) → HasTick map2 t → tick < t
-  left_after t there = elim (cases_eq t tick) [
-    | inl e ↦ absurd (none (subst (HasTick map2) e there))
-    | inr other ↦ let low = first.listed t (subst IsSome (same t other) there) in omega (arith, low, other)
-  ]
+  left_after t there = let other = apart t there in let low = first.listed t (subst IsSome (same t other) there) in omega (arith, low, other)
 
   pub next_calendar : IsCalendar (calendar_of to ring2 map2)
   next_calendar = record {
     ordered = ordered;
-    full = map_left.full;
-    own = map_left.own;
+    full = λ t there. let is = same t (apart t there) in subst (λ o. 0 < length (items_in o)) (sym is) (h.full t (subst IsSome is there));
+    own = λ t. elim (cases_eq t tick) [
+      | inl e ↦ subst (AllByRecursion (λ f. f.0.tick ≡ t)) (sym (no_listed map2 t (λ there. apart t there e))) tt
+      | inr other ↦ subst (λ o. AllByRecursion (λ f. f.0.tick ≡ t) (items_in o)) (sym (same t other)) (h.own t)
+    ];
     soon = λ t there. let after = left_after t there in omega (arith, after, is);
     placed = λ p. elim (cases_eq p (tick % 1024)) [
       | inl e ↦ subst (AllByRecursion (λ f. IsNear to f.0.tick × (f.0.tick % 1024 ≡ p))) (sym (ap (lane ring2.items) e ∙ gone)) tt
       | inr n ↦ subst (AllByRecursion (λ f. IsNear to f.0.tick × (f.0.tick % 1024 ≡ p))) (sym (others p n))
-          (weaker _ _ (λ e at. (record { low = omega (arith, at.1, is); high = omega (arith, at.0.0.high, first.from, h.room, is) }, at.0.1)) (lane c.ring.items p) (in_ring p))
+          (weaker _ _ (λ e at. (record { low = omega (arith, at.2, is); high = omega (arith, at.0.high, first.from, h.room, is) }, at.1)) (lane c.ring.items p) (first.ahead p))
     ];
     long = long;
     room = omega (arith, is);
@@ -357,11 +264,11 @@ module _ (c : Calendar) (h : IsCalendar c) (tick : ℕ) (first : IsFirst c tick)
       of_ring = elim (cases_eq (q.tick % 1024) (tick % 1024)) [
         | inl e ↦ ap (latest q) (ap (lane ring2.items) e ∙ gone)
         | inr n ↦ ap (latest q) (others (q.tick % 1024) n)
-            ∙ none_latest q (lane c.ring.items (q.tick % 1024)) (weaker _ _ (λ e at s. let t = ap (λ (k : Key). k.tick) s in n (ap (λ u. u % 1024) (omega (arith, at, t, low)))) (lane c.ring.items (q.tick % 1024)) (first.ahead (q.tick % 1024)))
+            ∙ none_latest q (lane c.ring.items (q.tick % 1024)) (weaker _ _ (λ e at s. let t = ap (λ (k : Key). k.tick) s in n (ap (λ u. u % 1024) (omega (arith, at.2, t, low)))) (lane c.ring.items (q.tick % 1024)) (first.ahead (q.tick % 1024)))
       ]
 
   same_left : (q : Key) → q.tick ≢ tick → found c q ≡ found new q
-  same_left q n = λ i. option_or (of_ring i) (latest q (held (sym (same q.tick n) i)))
+  same_left q n = λ i. option_or (of_ring i) (latest q (items_in (sym (same q.tick n) i)))
     where
       of_ring : latest q (lane c.ring.items (q.tick % 1024)) ≡ latest q (lane ring2.items (q.tick % 1024))
       of_ring = elim (cases_eq (q.tick % 1024) (tick % 1024)) [

@@ -1,5 +1,6 @@
 -- Events in a row and all later ones, as a finite set of events.
-use Rattle.std.proofs.Common.{◌≡◌, ◌≢◌, ◌⊎◌, ◌≤◌, ◌<◌, ℕ, ◌+◌, inl, inr, refl, sym, ap, ◌∙◌, subst, arith, Bool, cond, true, false, List, [], ◌∷◌, length, reverse, Option, Some, None, MatchOption}
+use Rattle.std.proofs.Common.{◌≡◌, ◌≢◌, ◌≤◌, ◌<◌, ℕ, ◌+◌, inl, inr, refl, sym, ap, ◌∙◌, subst, arith, Bool, cond, true, false, List, [], ◌∷◌, length, reverse, Option, Some, None, MatchOption, is_some, Result, Ok, Err, OnOk, OnErr}
+use Rattle.std.specs.declared.alloc.AllocError.{AllocError}
 use Rattle.std.specs.FinMap as events
 use Rattle.std.specs.FinMap.{find}
 use Rattle.std.proofs.lemmas.Bool.{cases_eq}
@@ -9,104 +10,118 @@ use Rattle.std.specs.Ordering.{eq_by_cmp}
 use Rattle.process_api.specs.Order.{key_cmp}
 use Rattle.process_api.specs.declared.key.Key.{Key}
 use Rattle.process_api.specs.declared.message.StepInput.{StepInput}
-use Rattle.process_api.proofs.KeyOrder.{keys_total, exact_keys, same_or_not, ticks_rise}
+use Rattle.process_api.proofs.KeyOrder.{keys_total, exact_keys, ticks_rise}
 use Rattle.pending_events.specs.declared.calendar.Calendar.{Calendar}
 use Rattle.pending_events.specs.Inside.Buckets.{latest}
-use Rattle.pending_events.specs.Inside.Calendar.{all_in, found, IsAdded, IsCalendar, IsParted, IsTaken, IsVacant}
+use Rattle.pending_events.specs.Inside.Calendar.{all_in, Content, Content-prop, found, AreAdded, came, IsCalendar, IsParted, IsTaken, IsVacant}
 use Rattle.pending_events.specs.Pending.{IsEmpty}
 use Rattle.trace_laws.specs.Step.{Event, Events}
-use Rattle.trace_laws.specs.World.{Has, IsLeast, joined}
-use Rattle.trace_laws.proofs.Sets.{insert_at, insert_other, inserted, not_None, remove_at, remove_other, removed}
-use Rattle.pending_events.proofs.Falling.{found_here, not_here, or_None}
-use Rattle.pending_events.proofs.Nearby.{get_in, other_tick}
+use Rattle.trace_laws.specs.World.{IsLeast, joined}
+use Rattle.trace_laws.proofs.Sets.{inserted, not_None, removed, tie}
+use Rattle.pending_events.proofs.Falling.{found_here, none_latest, or_assoc, or_None}
+use Rattle.pending_events.proofs.Nearby.{all_came, other_tick}
 use Rattle.pending_events.proofs.Rows.{get_joined}
 
--- two sets in which the same is found
-same_in : (m n : Events) (c d : Calendar) → IsCalendar c → IsCalendar d → ((q : Key) → option_or (found d q) (events.get n q) ≡ option_or (found c q) (events.get m q)) → all_in n d ≡ all_in m c
-same_in m n c d h i same = events.same_map keys_total exact_keys (all_in n d) (all_in m c) (λ q. get_in n d i q ∙ (same q ∙ sym (get_in m c h q)))
+-- all sets of what is found are one
+pub one_set : (end : ℕ) (m : Events) (c : Calendar) (a : Content end m c) (n : Events) → IsParted end m c n → all_in end m c a ≡ n
+unfolding all_in
+one_set end m c a n h = ap (λ (p : Content end m c). p.0) (Content-prop end m c a (n, h))
 
-pub same_found : (m : Events) (c d : Calendar) → IsCalendar c → IsCalendar d → ((q : Key) → found d q ≡ found c q) → all_in m d ≡ all_in m c
-same_found m c d h i same = same_in m m c d h i (λ q. ap (λ o. option_or o (events.get m q)) (same q))
+pub parted : (end : ℕ) (m : Events) (c : Calendar) (a : Content end m c) {all : Events} → all_in end m c a ≡ all → IsParted end m c all
+unfolding all_in
+parted end m c a is = subst (IsParted end m c) is a.1
 
-module _ (end : ℕ) (m : Events) (c : Calendar) (h : IsParted end m c) where
-  -- a row that has changed at a key alone
-  module _ (k : Key) (low : k.tick < end) (o : Option StepInput) (n v : Events) (there : events.get n k ≡ o) (others : (q : Key) → q ≢ k → events.get n q ≡ events.get m q)
-      (there' : events.get v k ≡ o) (others' : (q : Key) → q ≢ k → events.get v q ≡ events.get (all_in m c) q) where
-    changed : all_in n c ≡ v
-    changed = events.same_map keys_total exact_keys (all_in n c) v (λ q. get_in n c h.calendar q ∙ go q (same_or_not q k))
-      where
-        go : (q : Key) → (q ≡ k) ⊎ (q ≢ k) → option_or (found c q) (events.get n q) ≡ events.get v q
-        go q (inl s) = ap (λ p. option_or (found c p) (events.get n p)) s ∙ (ap (λ r. option_or r (events.get n k)) (h.none_below k low) ∙ (there ∙ sym (ap (events.get v) s ∙ there')))
-        go q (inr other) = ap (option_or (found c q)) (others q other) ∙ (sym (get_in m c h.calendar q) ∙ sym (others' q other))
+-- a row and a calendar have a set of which this holds
+abbrev pub Stands : ℕ → Events → Calendar → (Events → Type 0) → Type 0
+Stands end m c P = (all : Events) × IsParted end m c all × P all
 
-  pub insert_in : (k : Key) (x : StepInput) → k.tick < end → all_in (events.insert m k x) c ≡ events.insert (all_in m c) k x
-  insert_in k x low = changed k low (Some x) (events.insert m k x) (events.insert (all_in m c) k x) (insert_at m k x) (insert_other m k x) (insert_at (all_in m c) k x) (insert_other (all_in m c) k x)
+pub of_set : (end : ℕ) (m : Events) (c : Calendar) (a : Content end m c) (P : Events → Type 0) → Stands end m c P → P (all_in end m c a)
+of_set end m c a P n = subst P (sym (one_set end m c a n.0 n.1)) n.2
 
-  pub insert_parted : (k : Key) (x : StepInput) → k.tick < end → IsParted end (events.insert m k x) c
-  insert_parted k x low = record {
-    calendar = h.calendar;
-    below = λ q y there. elim (inserted m k x q y there) [ inl s ↦ subst (λ p. p.tick < end) (sym s.0) low | inr old ↦ h.below q y old.1 ];
-    none_below = h.none_below;
-    from = h.from;
-  }
+-- what is changed in the one part is changed in both, where the other has none of it
+chosen : (b : Bool) (f a o : Option StepInput) → (b ≡ true → f ≡ None) → cond b o (option_or f a) ≡ option_or f (cond b o a)
+chosen true f a o h = sym (ap (λ g. option_or g o) (h refl))
+chosen false f a o h = refl
+
+module _ {end : ℕ} {m : Events} {c : Calendar} {all : Events} (h : IsParted end m c all) where
+  -- the row has changed at a key
+  here : (k : Key) → k.tick < end → (q : Key) (o : Option StepInput) → cond (eq_by_cmp key_cmp q k) o (events.get all q) ≡ option_or (found c q) (cond (eq_by_cmp key_cmp q k) o (events.get m q))
+  here k low q o = ap (cond (eq_by_cmp key_cmp q k) o) (h.holds q) ∙ chosen _ (found c q) (events.get m q) o (λ e. ap (found c) (exact_keys q k (tie _ e)) ∙ h.none_below k low)
+
+  abbrev AreJoined : Result (Unit {0}) AllocError → Event → Events → Type 0
+  AreJoined r e new = OnOk r (new ≡ events.insert all e.0 e.1) × OnErr r (new ≡ all)
+
+  pub row_joined : (e : Event) → e.0.tick < end → (r : Result (Unit {0}) AllocError) (n : Events) → OnOk r (n ≡ events.insert m e.0 e.1) → OnErr r (n ≡ m) → Stands end n c (AreJoined r e)
+  row_joined e low (Err x) n ok err = subst (λ n. Stands end n c (AreJoined (Err x) e)) (sym err) (all, h, (tt, refl))
+  row_joined e low (Ok x) n ok err = subst (λ n. Stands end n c (AreJoined (Ok x) e)) (sym ok) (
+    events.insert all e.0 e.1,
+    record {
+      calendar = h.calendar;
+      below = λ q y there. elim (inserted m e.0 e.1 q y there) [ inl s ↦ subst (λ p. p.tick < end) (sym s.0) low | inr old ↦ h.below q y old.1 ];
+      none_below = h.none_below;
+      from = h.from;
+      holds = λ q. events.get-insert keys_total all e.0 e.1 q ∙ (here e.0 low q (Some e.1) ∙ ap (option_or (found c q)) (sym (events.get-insert keys_total m e.0 e.1 q)));
+    },
+    (refl, tt),
+  )
 
   -- a later event comes
-  module _ (d : Calendar) (e : Event) (late : end ≤ e.0.tick) (i : IsCalendar d) (from : d.from ≡ c.from) where
-    pub added_in : IsAdded c d e → all_in m d ≡ events.insert (all_in m c) e.0 e.1
-    added_in added = events.same_map keys_total exact_keys (all_in m d) (events.insert (all_in m c) e.0 e.1) (λ q.
-        get_in m d i q ∙ (ap (λ o. option_or o (events.get m q)) (added q) ∙ (go (eq_by_cmp key_cmp q e.0) (found c q) (events.get m q)
-        ∙ sym (events.get-insert keys_total (all_in m c) e.0 e.1 q ∙ ap (cond (eq_by_cmp key_cmp q e.0) (Some e.1)) (get_in m c h.calendar q)))))
-      where
-        go : (b : Bool) (a o : Option StepInput) → option_or (cond b (Some e.1) a) o ≡ cond b (Some e.1) (option_or a o)
-        go b a o = elim b as (λ b. option_or (cond b (Some e.1) a) o ≡ cond b (Some e.1) (option_or a o)) [ true ↦ refl | false ↦ refl ]
-
-    pub added_parted : IsAdded c d e ⊎ ((q : Key) → found d q ≡ found c q) → IsParted end m d
-    added_parted is = record {
+  pub later_joined : (e : Event) → end ≤ e.0.tick → (r : Result (Unit {0}) AllocError) (d : Calendar) → IsCalendar d → d.from ≡ c.from → AreAdded c d (came r e) → Stands end m d (AreJoined r e)
+  later_joined e late r d i from added = (
+    joined all (came r e),
+    record {
       calendar = i;
       below = h.below;
-      none_below = λ q low. elim is [
-        | inl added ↦ added q ∙ (not_here q e (found c q) (λ s. omega (arith, low, late, ap (λ (k : Key). k.tick) s)) ∙ h.none_below q low)
-        | inr same ↦ same q ∙ h.none_below q low
-      ];
-      from = subst (λ f. f ≤ end) (sym from) h.from;
-    }
+      none_below = λ q low. added q
+          ∙ (ap (λ o. option_or o (found c q)) (none_latest q (came r e) (all_came (λ f. q ≢ f.0) r e (λ s. omega (arith, low, late, ap (λ (k : Key). k.tick) s)))) ∙ h.none_below q low);
+      from = omega (arith, h.from, from);
+      holds = λ q. get_joined (came r e) all q
+          ∙ (ap (option_or (latest q (came r e))) (h.holds q) ∙ (sym (or_assoc _ (found c q) (events.get m q)) ∙ ap (λ o. option_or o (events.get m q)) (sym (added q))));
+    },
+    elim r as (λ r. AreJoined r e (joined all (came r e))) [ Ok x ↦ (refl, tt) | Err x ↦ (tt, refl) ],
+  )
 
-  -- the least event is taken
-  pub least_in : (e : Event) → IsLeast m e.0 e.1 → IsLeast (all_in m c) e.0 e.1
-  least_in e least = record {
-    there = get_in m c h.calendar e.0 ∙ (ap (λ o. option_or o (events.get m e.0)) (h.none_below e.0 (h.below e.0 e.1 least.there)) ∙ least.there);
-    none_before = λ q y has less.
-        let low = h.below e.0 e.1 least.there in
-        let sooner = ticks_rise q e.0 less in
-        least.none_before q y (sym (ap (λ o. option_or o (events.get m q)) (h.none_below q (omega (arith, low, sooner)))) ∙ (sym (get_in m c h.calendar q) ∙ has)) less;
-  }
+  -- the least event of the row is taken, which is the least of all
+  abbrev IsTakenFrom : Option Event → Events → Type 0
+  IsTakenFrom r new = MatchOption r (IsEmpty all) (λ e. IsLeast all e.0 e.1) × MatchOption r (new ≡ all) (λ e. new ≡ events.remove all e.0)
 
-  pub taken_least : (r : Option Event) → (IsEmpty m → IsVacant c) → MatchOption r (IsEmpty m) (λ e. IsLeast m e.0 e.1) → MatchOption r (IsEmpty (all_in m c)) (λ e. IsLeast (all_in m c) e.0 e.1)
-  taken_least None vacant none = λ q y there. none q y (sym (ap (λ o. option_or o (events.get m q)) (vacant none q)) ∙ (sym (get_in m c h.calendar q) ∙ there))
-  taken_least (Some e) vacant least = least_in e least
-
-  module _ (n : Events) where
-    pub taken_removed : (r : Option Event) → MatchOption r (IsEmpty m) (λ e. IsLeast m e.0 e.1) → MatchOption r (n ≡ m) (λ e. n ≡ events.remove m e.0) → MatchOption r (all_in n c ≡ all_in m c) (λ e. all_in n c ≡ events.remove (all_in m c) e.0)
-    taken_removed None none is = ap (λ s. all_in s c) is
-    taken_removed (Some e) least is = ap (λ s. all_in s c) is
-        ∙ changed e.0 (h.below e.0 e.1 least.there) None (events.remove m e.0) (events.remove (all_in m c) e.0) (remove_at m e.0) (remove_other m e.0) (remove_at (all_in m c) e.0) (remove_other (all_in m c) e.0)
-
-    pub taken_parted : (r : Option Event) → MatchOption r (n ≡ m) (λ e. n ≡ events.remove m e.0) → IsParted end n c
-    taken_parted r is = record { calendar = h.calendar; below = λ k y there. h.below k y (still r is k y there); none_below = h.none_below; from = h.from }
-      where
-        still : (r : Option Event) → MatchOption r (n ≡ m) (λ e. n ≡ events.remove m e.0) → (k : Key) (y : StepInput) → Has n k y → Has m k y
-        still None is k y there = subst (λ s. Has s k y) is there
-        still (Some e) is k y there = (removed m e.0 k y (subst (λ s. Has s k y) is there)).1
-
--- nothing is there
-pub new_in : (m : Events) (c : Calendar) → IsCalendar c → IsVacant c → m ≡ events.empty → all_in m c ≡ events.empty
-new_in m c h none is = events.same_map keys_total exact_keys (all_in m c) events.empty (λ q. get_in m c h q ∙ (λ i. option_or (none q i) (events.get (is i) q)))
+  pub row_taken : (r : Option Event) (n : Events) → (IsEmpty m → IsVacant c) → MatchOption r (IsEmpty m) (λ e. IsLeast m e.0 e.1) → MatchOption r (n ≡ m) (λ e. n ≡ events.remove m e.0) → Stands end n c (IsTakenFrom r)
+  row_taken None n vacant none same = subst (λ n. Stands end n c (IsTakenFrom None)) (sym same)
+      (all, h, ((λ q y there. none q y (sym (ap (λ o. option_or o (events.get m q)) (vacant none q)) ∙ (sym (h.holds q) ∙ there))), refl))
+  row_taken (Some e) n vacant least gone = subst (λ n. Stands end n c (IsTakenFrom (Some e))) (sym gone) (
+    events.remove all e.0,
+    record {
+      calendar = h.calendar;
+      below = λ q y there. h.below q y (removed m e.0 q y there).1;
+      none_below = h.none_below;
+      from = h.from;
+      holds = λ q. events.get-remove keys_total all e.0 q ∙ (here e.0 low q None ∙ ap (option_or (found c q)) (sym (events.get-remove keys_total m e.0 q)));
+    },
+    (
+      record {
+        there = h.holds e.0 ∙ (ap (λ o. option_or o (events.get m e.0)) (h.none_below e.0 low) ∙ least.there);
+        none_before = λ q y has less.
+            let sooner = ticks_rise q e.0 less in
+            least.none_before q y (sym (ap (λ o. option_or o (events.get m q)) (h.none_below q (omega (arith, low, sooner)))) ∙ (sym (h.holds q) ∙ has)) less;
+      },
+      refl,
+    ),
+  )
+    where
+      low : e.0.tick < end
+      low = h.below e.0 e.1 least.there
 
 pub no_event : (m : Events) → m ≡ events.empty → IsEmpty m
 no_event m is k y there = not_None y (sym (ap (λ s. events.get s k) is ∙ events.get-empty key_cmp k) ∙ there)
 
-pub new_parted : (end : ℕ) (m : Events) (c : Calendar) → IsCalendar c → IsEmpty m → ((q : Key) → q.tick < end → found c q ≡ None) → c.from ≤ end → IsParted end m c
-new_parted end m c h none later from = record { calendar = h; below = λ k y there. absurd (none k y there); none_below = later; from = from }
+pub none_parted : (m : Events) (c : Calendar) → IsCalendar c → IsVacant c → c.from ≡ 0 → IsEmpty m → IsParted 0 m c m
+none_parted m c i vacant from none = record {
+  calendar = i;
+  below = λ q y there. absurd (none q y there);
+  none_below = λ q low. vacant q;
+  from = omega (arith, from);
+  holds = λ q. ap (λ o. option_or o (events.get m q)) (sym (vacant q));
+}
 
 none_at : (m : Events) (q : Key) → IsEmpty m → events.get m q ≡ None
 none_at m q none = go (events.get m q) refl
@@ -119,16 +134,34 @@ none_first : (es : List Event) → ((q : Key) → find key_cmp q es ≡ None) �
 none_first [] h = refl
 none_first (e ∷ es) h = absurd (not_None e.1 (sym (h e.0) ∙ found_here e.0 e (find key_cmp e.0 es) refl))
 
--- the events of the least tick are put in the row
-module _ (m : Events) (c d : Calendar) (h : IsCalendar c) (none : IsEmpty m) (tick : ℕ) (es : List Event) (i : IsCalendar d) (t : IsTaken c d tick es) where
-  pub none_filled : (n : Events) → IsEmpty n → IsParted (tick + 1) n d
-  none_filled n empty = new_parted (tick + 1) n d i empty (λ q low. t.gone q (omega (arith, low))) (omega (arith, t.from))
+kept : (a b c d : Option StepInput) → a ≡ option_or c b → d ≡ a → cond (is_some c) d None ≡ c
+kept a b (Some x) d e f = f ∙ e
+kept a b None d e f = refl
 
-  module _ (n : Events) (is : n ≡ joined events.empty es) where
+-- the events of the least tick are taken, and those of the row are these or none
+module _ {end : ℕ} {m : Events} {c : Calendar} {all : Events} (h : IsParted end m c all) (none : IsEmpty m) {tick : ℕ} {es : List Event} {d : Calendar} (i : IsCalendar d) (t : IsTaken c d tick es) (n : Events) where
+  alone : (q : Key) → events.get all q ≡ found c q
+  alone q = h.holds q ∙ (ap (option_or (found c q)) (none_at m q none) ∙ or_None (found c q))
+
+  -- memory was refused
+  pub lost : IsEmpty n → Content (tick + 1) n d
+  lost empty = (
+    events.retain_keys all (λ k. is_some (found d k)),
+    record {
+      calendar = i;
+      below = λ q y there. absurd (empty q y there);
+      none_below = λ q low. t.gone q (omega (arith, low));
+      from = omega (arith, t.from);
+      holds = λ q. events.get-retain_keys all (λ k. is_some (found d k)) q (λ x e. ap (λ k. is_some (found d k)) (sym (exact_keys q x e)))
+          ∙ (kept (found c q) (latest q es) (found d q) (events.get all q) (t.same q) (alone q) ∙ sym (ap (option_or (found d q)) (none_at n q empty) ∙ or_None (found d q)));
+    },
+  )
+
+  module _ (is : n ≡ joined events.empty es) where
     at : (q : Key) → events.get n q ≡ latest q es
     at q = ap (λ s. events.get s q) is ∙ (get_joined es events.empty q ∙ (ap (option_or (latest q es)) (events.get-empty key_cmp q) ∙ or_None (latest q es)))
 
-    pub filled : IsParted (tick + 1) n d
+    pub filled : IsParted (tick + 1) n d all
     filled = record {
       calendar = i;
       below = λ q y there. elim (cases_eq q.tick tick) [
@@ -137,10 +170,8 @@ module _ (m : Events) (c d : Calendar) (h : IsCalendar c) (none : IsEmpty m) (ti
       ];
       none_below = λ q low. t.gone q (omega (arith, low));
       from = omega (arith, t.from);
+      holds = λ q. alone q ∙ (t.same q ∙ sym (ap (option_or (found d q)) (at q)));
     }
-
-    pub filled_same : all_in n d ≡ all_in m c
-    filled_same = same_in m n c d h i (λ q. ap (option_or (found d q)) (at q) ∙ (sym (t.same q) ∙ sym (ap (option_or (found c q)) (none_at m q none) ∙ or_None (found c q))))
 
     pub filled_some : IsEmpty n → ⊥
     filled_some empty = omega (arith, t.some, length-reverse es, none_first (reverse es) (λ q. sym (at q) ∙ none_at n q empty))

@@ -2,9 +2,8 @@
 ghost use Rattle.std.specs.Prelude.{◌≡◌, ◌≢◌, ◌+◌, ◌++◌, ◌<◌, ◌≤◌, ◌%◌, ℕ, [], ◌∷◌, IfOk, MatchOption, OnErr, OnOk, false, length, true, vec_len};
 ghost use Rattle.std.specs.BTreeMap.{IsLowerBound, IsOrdered, get};
 ghost use Rattle.std.specs.Ordering.{nat_cmp};
-ghost use Rattle.process_api.specs.declared.key.Key.{Key as KeyValue};
 ghost use Rattle.pending_events.specs.Inside.Buckets.{HasTick, IsFiled, IsSame, bucket};
-ghost use Rattle.pending_events.specs.Inside.Calendar.{IsAdded, IsCalendar, IsFirst, IsTaken, IsVacant, NoneAhead, found, lane, year};
+ghost use Rattle.pending_events.specs.Inside.Calendar.{AreAdded, IsCalendar, IsFirst, IsTaken, IsVacant, NoneAhead, came, lane, year};
 
 use std::alloc::{AllocError, Global};
 use std::collections::BTreeMap;
@@ -88,8 +87,7 @@ impl Calendar {
         requires tick { event.0.tick ≡ tick }
         requires from { self.old.from ≤ tick }
         ensures calendar { IsCalendar self.new }
-        ensures ok { OnOk result (IsAdded self.old self.new event) }
-        ensures err { OnErr result ((q : KeyValue) → found self.new q ≡ found self.old q) }
+        ensures added { AreAdded self.old self.new (came result event) }
         ensures from { self.new.from ≡ self.old.from }
     {
         if tick < self.from + YEAR {

@@ -1,3 +1,3 @@
-pub mod Rising
 pub mod Distinct
 pub mod Gathering
+pub mod Exists

@@ -83,11 +83,9 @@ fn lanes_of(alloc: Global, parts: Vec<Vec<Entry>>) -> Result<Vec<Lane>, RunError
 
 /// How many entries the parts have.
 fn room_for(parts: &[Vec<Entry>]) -> usize {
-    let mut room: usize = 0;
-    for part in parts {
-        room = room.saturating_add(part.len());
-    }
-    room
+    parts
+        .iter()
+        .fold(0, |room: usize, part| room.saturating_add(part.len()))
 }
 
 /// The entries of all parts: those of the least tick first, of these the first part's first, and so on.

@@ -1,6 +1,6 @@
 //! Entries that are joined one by one.
-ghost use Rattle.std.specs.Prelude.{◌≡◌, ◌++◌, [], ◌∷◌, true, IsTrue, OnOk, IfErr};
-ghost use Rattle.process_api.specs.Order.{is_rising};
+ghost use Rattle.std.specs.Prelude.{◌≡◌, ◌++◌, [], ◌∷◌, true, OnOk, IfErr};
+ghost use Rattle.trace_merge.specs.Parts.{IsInOrder};
 
 use process_api::{Entry, RunError};
 
@@ -9,12 +9,12 @@ use process_api::{Entry, RunError};
 pub(crate) struct Joined {
     pub(crate) entries: Vec<Entry>,
     pub(crate) rises: bool,
-    pub(crate) ghost seen: { rises ≡ true → IsTrue (is_rising entries.items) },
+    pub(crate) ghost seen: { rises ≡ true → IsInOrder entries.items },
 }
 
 /// Whether an entry comes after those of a list, where these rise.
 fn goes_on(entries: &[Entry], entry: &Entry) -> bool
-    ensures { result ≡ true → IsTrue (is_rising entries.now) → IsTrue (is_rising (entries.now ++ entry.now ∷ [])) }
+    ensures { result ≡ true → IsInOrder entries.now → IsInOrder (entries.now ++ entry.now ∷ []) }
 {
     match entries.last() {
         Some(last) => last.key.is_before(&entry.key),

@@ -16,7 +16,7 @@ use Rattle.scenario_record.specs.Record.{Record}
 use Rattle.trace_laws.specs.ScenarioSetting.{setting_of}
 use Rattle.trace_laws.specs.World.{IsTrace}
 use Rattle.trace_merge.specs.Parts.{all_of}
-use Rattle.trace_merge.proofs.Distinct.{has_merge}
+use Rattle.trace_merge.proofs.Exists.{has_merge}
 use Rattle.window_laws.specs.Theorems.{end_to_end}
 use Rattle.windows.specs.Inside.Last.{AreParts, IsMerged, TookAllBut, TookFrontOf}
 use Rattle.windows.specs.Refusals.{IsRefusal}

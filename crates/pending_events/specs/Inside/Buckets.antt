@@ -36,8 +36,3 @@ pub record IsFiled (old new : Buckets) (tick : ℕ) (event : Event) : Type 0 whe
 pub record IsSame (old new : Buckets) : Type 0 where
   pub each : (t : ℕ) → bucket new t ≡ bucket old t
   pub has : (t : ℕ) → HasTick new t → HasTick old t
-
--- all events, so that the first of those with one key counts
-abbrev pub flat : List (ℕ × Vec Event) → List Event
-flat [] = []
-flat (p ∷ ps) = reverse p.1.items ++ flat ps

@@ -1,20 +1,16 @@
-use Rattle.std.proofs.Common.{◌≡◌, ◌-◌, true, sym, ap, ◌∙◌, subst, length, arith}
-use Rattle.std.proofs.lemmas.Option.{slice_get_within, get_or_from_slice_get}
+use Rattle.std.proofs.Common.{◌-◌, sym, ap, ◌∙◌, length, true, ◌≡◌}
+use Rattle.std.proofs.lemmas.List.Kept.{IsSortedBy-push}
+use Rattle.std.proofs.lemmas.Option.{get_or_from_slice_get}
 use Rattle.process_api.specs.Order.{is_before}
 use Rattle.process_api.specs.EntryRecord.{EntryRecord}
-use Rattle.trace_merge.proofs.Rising.{Before, rising_more, rising_of_test, test_of_rising}
+use Rattle.trace_merge.proofs.Distinct.{less, not_before}
 use Rattle.trace_merge.proofs.joined.goes_on.Goals as goal
 
 pub returns-in-Some : goal.returns-in-Some
 returns-in-Some c follows rising =
     let es = c.args.entries.now in
-    let e = c.args.entry.now in
     let last = c.in-Some.last.now in
-    let at = length es - 1 in
-    let is = sym c.in-Some.ensures.value in
-    let within = slice_get_within es at last is in
-    let last_key = ap (λ (x : EntryRecord). x.key) c.last-in-Some.view_is in
-    let key = ap (λ (x : EntryRecord). x.key) c.entry.view_is in
-    let before : Before last e =
-    subst (λ k. is_before k e.key ≡ true) last_key (subst (λ k. is_before c.last-in-Some.inside.key k ≡ true) key (sym c.is_before.ensures ∙ follows)) in
-    test_of_rising _ (rising_more es at last e (omega (arith, within)) (get_or_from_slice_get es at last last is) before (rising_of_test es rising))
+    let key : EntryRecord → _ = λ x. x.key in
+    let before : is_before last.key c.args.entry.now.key ≡ true = (λ i. is_before (key (sym c.last-in-Some.view_is i)) (key (sym c.entry.view_is i))) ∙ (sym c.is_before.ensures ∙ follows) in
+    IsSortedBy-push less es c.args.entry.now rising (λ d some.
+    ap (less c.args.entry.now) (get_or_from_slice_get es (length es - 1) last d (sym c.in-Some.ensures.value)) ∙ not_before last c.args.entry.now before)

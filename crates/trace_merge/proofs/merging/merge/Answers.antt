@@ -12,3 +12,7 @@ returns-clause-rising c =
     merged_rising items_of c.args.parts.items _ (returns-clause-same c)
     (c.sort_unstable_by_key.ensures.sorted (λ e. e.key) (answers_always _ _ _ (λ f a r f' k. search rules)))
     c.requires.rising c.requires.disjoint
+
+pub returns-then-joined-clause-rising : goal.returns-then-joined-clause-rising
+returns-then-joined-clause-rising c =
+    merged_rising items_of c.args.parts.items _ c.in_ok-joined.ensures.same (c.in_ok-joined.joined.seen c.if-joined.true) c.requires.rising c.requires.disjoint
