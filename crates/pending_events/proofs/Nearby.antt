@@ -1,22 +1,13 @@
 -- Events in a ring and a map, by their ticks.
-use Rattle.std.proofs.Common.{◌≡◌, ◌≢◌, ◌≤◌, ◌<◌, inl, inr, refl, sym, ap, ◌∙◌, subst, arith, false, List, [], ◌∷◌, ◌++◌, length, map, Option, Some, None, true≢false, ℕ, zero, suc, nat_cmp, IsSome, length-append, ◌+◌, ◌%◌, slice_set, min, unwrap_or, option_map, MatchOption, is_gt, get_or, Result, Ok, Err, OnOk, OnErr}
+use Rattle.pending_events.proofs.Words.{◌≡◌, ◌≢◌, ◌≤◌, ◌<◌, inl, inr, refl, sym, ap, ◌∙◌, subst, arith, false, List, [], ◌∷◌, ◌++◌, length, map, Option, Some, None, true≢false, ℕ, zero, suc, nat_cmp, length-append, ◌+◌, ◌%◌, slice_set, min, MatchOption, get_or, Result, Ok, Err, OnOk, OnErr, eq_by_cmp, AllByRecursion, option_or, on_err_weaker, on_ok_weaker, AllocError, cases_eq, nat_tests, Key, Calendar, latest, bucket, IsFiled, IsVacant, IsCalendar, AreAdded, IsTaken, NoneAhead, came, found, lane, Event, both, weaker}
+use Rattle.std.proofs.Common.{IsSome, unwrap_or, option_map, is_gt}
 use Rattle.std.specs.Global.{Vec}
 use Rattle.std.specs.BTreeMap as tree
 use Rattle.std.specs.Map.{lookup}
-use Rattle.std.specs.Ordering.{eq_by_cmp}
-use Rattle.std.specs.List.{AllByRecursion}
-use Rattle.std.specs.Option.{option_or}
 use Rattle.std.proofs.lemmas.List.{append-nil}
-use Rattle.std.proofs.lemmas.Result.{on_err_weaker, on_ok_weaker}
-use Rattle.std.specs.declared.alloc.AllocError.{AllocError}
-use Rattle.std.proofs.lemmas.Bool.{cases_eq, cases_lt}
-use Rattle.std.proofs.lemmas.Bool.Decides.{nat_tests}
-use Rattle.process_api.specs.declared.key.Key.{Key}
-use Rattle.pending_events.specs.declared.calendar.Calendar.{Calendar}
-use Rattle.pending_events.specs.Inside.Buckets.{latest, Buckets, bucket, HasTick, IsFiled, IsSame}
-use Rattle.pending_events.specs.Inside.Calendar.{IsNear, IsVacant, IsCalendar, AreAdded, IsFirst, IsTaken, NoneAhead, came, found, lane}
-use Rattle.trace_laws.specs.Step.{Event}
-use Rattle.process_api.proofs.Lists.{both, weaker}
+use Rattle.std.proofs.lemmas.Bool.{cases_lt}
+use Rattle.pending_events.specs.Inside.Buckets.{Buckets, HasTick, IsSame}
+use Rattle.pending_events.specs.Inside.Calendar.{IsNear, IsFirst}
 use Rattle.pending_events.proofs.Falling.{latest_append, none_latest, or_assoc, or_None}
 
 abbrev pub calendar_of : ℕ → Vec (Vec Event) → Buckets → Calendar

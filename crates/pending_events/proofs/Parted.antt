@@ -1,23 +1,11 @@
 -- Events in a row and all later ones, as a finite set of events.
-use Rattle.std.proofs.Common.{◌≡◌, ◌≢◌, ◌≤◌, ◌<◌, ℕ, ◌+◌, inl, inr, refl, sym, ap, ◌∙◌, subst, arith, Bool, cond, true, false, List, [], ◌∷◌, length, reverse, Option, Some, None, MatchOption, is_some, Result, Ok, Err, OnOk, OnErr}
-use Rattle.std.specs.declared.alloc.AllocError.{AllocError}
+use Rattle.pending_events.proofs.Words.{◌≡◌, ◌≢◌, ◌≤◌, ◌<◌, ℕ, ◌+◌, inl, inr, refl, sym, ap, ◌∙◌, subst, arith, Bool, cond, true, false, List, [], ◌∷◌, length, reverse, Option, Some, None, MatchOption, Result, Ok, Err, OnOk, OnErr, AllocError, find, cases_eq, option_or, eq_by_cmp, key_cmp, Key, StepInput, keys_total, exact_keys, Calendar, latest, Content, found, AreAdded, came, IsCalendar, IsParted, IsTaken, IsVacant, IsEmpty, Event, Events, IsLeast, joined, not_None}
+use Rattle.std.proofs.Common.{is_some}
 use Rattle.std.specs.FinMap as events
-use Rattle.std.specs.FinMap.{find}
-use Rattle.std.proofs.lemmas.Bool.{cases_eq}
 use Rattle.std.proofs.lemmas.List.{length-reverse}
-use Rattle.std.specs.Option.{option_or}
-use Rattle.std.specs.Ordering.{eq_by_cmp}
-use Rattle.process_api.specs.Order.{key_cmp}
-use Rattle.process_api.specs.declared.key.Key.{Key}
-use Rattle.process_api.specs.declared.message.StepInput.{StepInput}
-use Rattle.process_api.proofs.KeyOrder.{keys_total, exact_keys, ticks_rise}
-use Rattle.pending_events.specs.declared.calendar.Calendar.{Calendar}
-use Rattle.pending_events.specs.Inside.Buckets.{latest}
-use Rattle.pending_events.specs.Inside.Calendar.{all_in, Content, Content-prop, found, AreAdded, came, IsCalendar, IsParted, IsTaken, IsVacant}
-use Rattle.pending_events.specs.Pending.{IsEmpty}
-use Rattle.trace_laws.specs.Step.{Event, Events}
-use Rattle.trace_laws.specs.World.{IsLeast, joined}
-use Rattle.trace_laws.proofs.Sets.{inserted, not_None, removed, tie}
+use Rattle.process_api.proofs.KeyOrder.{ticks_rise}
+use Rattle.pending_events.specs.Inside.Calendar.{all_in, Content-prop}
+use Rattle.trace_laws.proofs.Sets.{inserted, removed, tie}
 use Rattle.pending_events.proofs.Falling.{found_here, none_latest, or_assoc, or_None}
 use Rattle.pending_events.proofs.Nearby.{all_came, other_tick}
 use Rattle.pending_events.proofs.Rows.{get_joined}

@@ -1,19 +1,18 @@
 -- Entries whose keys differ, and that are put in order.
-use Rattle.std.proofs.Common.{◌≡◌, ◌≢◌, ◌≤◌, ◌<◌, ◌∙◌, ℕ, suc, refl, sym, ap, Bool, true, false, IsTrue, List, [], ◌∷◌, ◌++◌, map, length, get_or, arith, is_lt, is_eq, Equal, Ordering, IsPermutation}
-use Rattle.std.specs.List.{All, IsDistinct}
-use Rattle.std.specs.Ordering.{eq_by_cmp, ordering_reverse}
+use Rattle.trace_merge.proofs.Words.{◌≡◌, ◌<◌, ◌∙◌, ℕ, suc, refl, sym, ap, Bool, true, false, IsTrue, List, [], ◌∷◌, ◌++◌, map, length, get_or, arith, is_eq, Ordering, IsPermutation, All, ordering_reverse, All-from_recursion, list_all-from_AllPass, key_cmp, is_less, is_before, is_rising, EntryRecord, keys_total, weaker, and_true, all_of, AreDisjoint}
+use Rattle.std.proofs.Common.{◌≢◌, ◌≤◌, is_lt, Equal}
+use Rattle.std.specs.List.{IsDistinct}
+use Rattle.std.specs.Ordering.{eq_by_cmp}
 use Rattle.std.proofs.lemmas.Bool.{false_from_ne_true}
 use Rattle.std.proofs.lemmas.Cmp.{eq_by_cmp_equiv}
-use Rattle.std.proofs.lemmas.List.Elements.{All-from_recursion, recursion_from_All}
+use Rattle.std.proofs.lemmas.List.Elements.{recursion_from_All}
 use Rattle.std.proofs.lemmas.List.Sorted.{ranks_by, sorted_far}
-use Rattle.std.proofs.lemmas.List.Sums.{AllPass-from_list_all, list_all-from_AllPass}
+use Rattle.std.proofs.lemmas.List.Sums.{AllPass-from_list_all}
 use Rattle.std.proofs.lemmas.Map.Keys.{IsDistinct-IsPermutation}
-use Rattle.process_api.specs.Order.{key_cmp, is_less, is_before, is_rising}
-use Rattle.process_api.specs.EntryRecord.{EntryRecord}
-use Rattle.process_api.proofs.KeyOrder.{keys_total, exact_keys}
-use Rattle.process_api.proofs.Lists.{both, weaker}
-use Rattle.process_api.proofs.Minds.{and_true, both_true}
-use Rattle.trace_merge.specs.Parts.{all_of, AreApart, AreDisjoint, IsInOrder}
+use Rattle.process_api.proofs.KeyOrder.{exact_keys}
+use Rattle.process_api.proofs.Lists.{both}
+use Rattle.process_api.proofs.Minds.{both_true}
+use Rattle.trace_merge.specs.Parts.{AreApart, IsInOrder}
 
 -- two entries have one key
 abbrev pub same : EntryRecord → EntryRecord → Bool

@@ -1,16 +1,8 @@
 -- Parts that rise and share no key can be merged: each entry is put into its place.
-use Rattle.std.proofs.Common.{◌≡◌, refl, ap, ◌∙◌, sym, Bool, true, false, IsTrue, List, [], ◌∷◌, map, is_eq, Less, Ordering, IsPermutation, arith}
-use Rattle.std.specs.List.{All, AllByRecursion, IsDistinct}
-use Rattle.std.specs.Ordering.{ordering_reverse}
-use Rattle.std.proofs.lemmas.List.Elements.{All-from_recursion}
-use Rattle.std.proofs.lemmas.List.Sorted.{IsPermutation-refl, IsPermutation-sym, IsPermutation-trans, IsPermutation-cons, IsPermutation-middle}
-use Rattle.std.proofs.lemmas.List.Sums.{list_all-from_AllPass}
-use Rattle.process_api.specs.Order.{key_cmp, is_less, is_before, is_rising}
-use Rattle.process_api.specs.EntryRecord.{EntryRecord}
-use Rattle.process_api.proofs.KeyOrder.{keys_total}
-use Rattle.process_api.proofs.Lists.{weaker}
-use Rattle.process_api.proofs.Minds.{and_true}
-use Rattle.trace_merge.specs.Parts.{all_of, AreDisjoint}
+use Rattle.trace_merge.proofs.Words.{◌≡◌, refl, ap, ◌∙◌, sym, Bool, true, false, IsTrue, List, [], ◌∷◌, map, is_eq, Ordering, IsPermutation, arith, All, ordering_reverse, All-from_recursion, IsPermutation-refl, IsPermutation-trans, list_all-from_AllPass, key_cmp, is_less, is_before, is_rising, EntryRecord, keys_total, weaker, and_true, all_of, AreDisjoint}
+use Rattle.std.proofs.Common.{Less}
+use Rattle.std.specs.List.{AllByRecursion, IsDistinct}
+use Rattle.std.proofs.lemmas.List.Sorted.{IsPermutation-sym, IsPermutation-cons, IsPermutation-middle}
 use Rattle.trace_merge.proofs.Distinct.{same, all_differ}
 
 abbrev Before : EntryRecord → EntryRecord → Type 0

@@ -1,12 +1,9 @@
 -- Entries that are moved from parts, tick by tick.
-use Rattle.std.proofs.Common.{◌≡◌, ◌<◌, ◌-◌, ◌^◌, ℕ, zero, suc, sym, ap, ◌∙◌, subst, List, [], ◌∷◌, ◌++◌, map, length, set, get_or, append_assoc, min, arith, Option, None, Some, MatchOption, IsPermutation, Vec, Global}
-use Rattle.std.specs.Option.{unwrap_or}
+use Rattle.trace_merge.proofs.Words.{◌≡◌, ◌<◌, ◌-◌, ℕ, suc, sym, ap, ◌∙◌, subst, List, [], ◌∷◌, ◌++◌, map, length, get_or, append_assoc, min, arith, None, Some, MatchOption, IsPermutation, unwrap_or, IsPermutation-trans, EntryRecord, Lane, all_of}
+use Rattle.std.proofs.Common.{◌^◌, zero, set, Option, Vec, Global}
 use Rattle.std.proofs.lemmas.List.{append-nil}
-use Rattle.std.proofs.lemmas.List.Sorted.{IsPermutation-trans, IsPermutation-append_left, IsPermutation-append_right, IsPermutation-append_comm}
-use Rattle.process_api.specs.EntryRecord.{EntryRecord}
+use Rattle.std.proofs.lemmas.List.Sorted.{IsPermutation-append_left, IsPermutation-append_right, IsPermutation-append_comm}
 use Rattle.process_api.specs.declared.entry.Entry.{Entry}
-use Rattle.trace_merge.specs.declared.by_tick.Lane.{Lane}
-use Rattle.trace_merge.specs.Parts.{all_of}
 
 abbrev Part : Type 0
 Part = List EntryRecord

@@ -1,3 +1,4 @@
 pub mod Distinct
 pub mod Gathering
 pub mod Exists
+pub mod Words

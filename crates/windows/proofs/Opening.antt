@@ -1,9 +1,8 @@
 -- The stage at the opening of a run.
-use Rattle.windows.proofs.Words.{◌≡◌, ◌≢◌, ◌⊎◌, ℕ, zero, suc, ◌-◌, ◌*◌, ◌<◌, ◌≤◌, inl, inr, refl, sym, ap, ◌∙◌, subst, [], Some, length, map, slice_get, arith, All, length-map, All-nil, most_step_actions, Mind, numbers_to, Key, StepInput, same_or_not, IsInRange, Record, opening_mind, place_in, setting_of, process_of, own_of, IsSeated, Setting, IsSound, IsProcess, Process, Has, starts, start_of, opened, opening, opening_process, opening_world, number_at, length-numbers_to, opening_reached, inserted, insert_at, insert_other, setting_sound, opens_with_mind, IsBerth, StageRecord, StandsFor, of_process, stage_of, start_event, IsOpened, AreHome, IsStageAfter, Berth, Stage, is_or_not}
+use Rattle.windows.proofs.Words.{◌≡◌, ◌≢◌, ◌⊎◌, ℕ, zero, suc, ◌-◌, ◌*◌, ◌<◌, ◌≤◌, inl, inr, refl, sym, ap, ◌∙◌, subst, [], Some, length, map, slice_get, arith, All, length-map, All-nil, most_step_actions, Mind, numbers_to, Key, StepInput, same_or_not, IsInRange, Record, opening_mind, place_in, setting_of, process_of, own_of, IsSeated, Setting, IsSound, IsProcess, Process, Has, starts, start_of, opened, opening, opening_process, opening_world, number_at, length-numbers_to, opening_reached, inserted, insert_at, insert_other, setting_sound, opens_with_mind, IsBerth, StageRecord, StandsFor, of_process, stage_of, start_event, IsOpened, AreHome, IsStageAfter, Berth, Stage, is_or_not, starts_are}
 use Rattle.std.specs.FinMap as finmap
 use Rattle.process_api.specs.declared.message.StepInput.TheVariants.{Start}
 use Rattle.std.proofs.lemmas.Simd.{map-map}
-use Rattle.trace_laws.proofs.Closed.{starts_are}
 use Rattle.process_api.proofs.Minds.{mind_place, same_own}
 use Rattle.windows.proofs.Places.{there_map, from_map, at_index, at_nobody, all_place, before_suc, by_place, each_process, no_event}
 

@@ -1,6 +1,5 @@
 -- What a window's processes come to where their letters are known as slips posted them, and facts of values that are equal.
-use Rattle.windows.proofs.Words.{◌≡◌, ℕ, ◌+◌, ◌-◌, ◌≤◌, ◌<◌, sym, ◌∙◌, subst, List, [], ◌++◌, length, map, arith, All, IsPermutation, IsTrue, length-map, IsPermutation-refl, get_or_from_slice_get, EntryRecord, Mind, numbers_to, is_rising, Letter, IsInRange, Record, setting_of, IsTrace, number_at, length-numbers_to, SlipView, list_of, posted_to, all_of, AreDisjoint, AreOne, end_of, IsStageAfter, IsWindowRun, IsOutcome, Berth, Stage}
-use Rattle.windows.specs.Inside.Closing.{AreLettersOf, IsOutcomeBy, IsClosedBy}
+use Rattle.windows.proofs.Words.{◌≡◌, ℕ, ◌+◌, ◌-◌, ◌≤◌, ◌<◌, sym, ◌∙◌, subst, List, [], ◌++◌, length, map, arith, All, IsPermutation, IsTrue, length-map, IsPermutation-refl, get_or_from_slice_get, EntryRecord, Mind, numbers_to, is_rising, Letter, IsInRange, Record, setting_of, IsTrace, number_at, length-numbers_to, SlipView, list_of, posted_to, all_of, AreDisjoint, AreOne, end_of, IsStageAfter, IsWindowRun, IsOutcome, Berth, Stage, AreLettersOf, IsOutcomeBy, IsClosedBy}
 use Rattle.windows.proofs.Closing.{outcome_many, outcome_one, outcome_rising, outcome_disjoint, outcome_limit, outcome_next}
 
 -- the letters to each receiver in the order of the slips

@@ -1,28 +1,6 @@
 -- Parts of a window that wait to be merged and handed on.
-use Rattle.std.proofs.Common.{◌≡◌, ◌<◌, ◌≤◌, ◌+◌, ◌⊎◌, inl, inr, refl, ℕ, sym, ap, ◌∙◌, subst, List, [], ◌∷◌, ◌++◌, append_assoc, append-nil, length, map, IsTrue, Result, Ok, Err, IfOk, IfErr, IsErrOf, OnOk, OnErr, arith}
-use Rattle.std.specs.Global.{Vec}
-use Rattle.std.specs.List.{All}
-use Rattle.std.specs.List.Sorted.{IsPermutation}
-use Rattle.std.proofs.lemmas.List.{nil_from_length}
-use Rattle.std.proofs.lemmas.List.Elements.{All-nil}
-use Rattle.std.proofs.lemmas.List.Sorted.{IsPermutation-refl, length_permutation}
-use Rattle.process_api.specs.EntryRecord.{EntryRecord}
-use Rattle.process_api.specs.Mind.{Mind}
-use Rattle.process_api.specs.Order.{is_rising}
-use Rattle.process_api.specs.declared.run_error.RunError.{RunError}
-use Rattle.process_api.specs.declared.run_error.RunError.TheVariants.{Limit, Memory, Spawn}
-use Rattle.scenario_record.specs.Ranges.{IsInRange}
-use Rattle.scenario_record.specs.Record.{Record}
-use Rattle.trace_laws.specs.ScenarioSetting.{setting_of}
-use Rattle.trace_laws.specs.World.{IsTrace}
-use Rattle.trace_merge.specs.Parts.{all_of}
+use Rattle.windows.proofs.Words.{◌≡◌, ◌<◌, ◌≤◌, ◌+◌, ◌⊎◌, inl, inr, refl, ℕ, sym, ap, ◌∙◌, subst, List, [], ◌∷◌, ◌++◌, append_assoc, append-nil, length, map, IsTrue, Result, Ok, Err, IfOk, IfErr, IsErrOf, OnErr, arith, Vec, All, IsPermutation, nil_from_length, All-nil, IsPermutation-refl, length_permutation, EntryRecord, Mind, is_rising, RunError, Limit, Memory, Spawn, IsInRange, Record, setting_of, IsTrace, all_of, end_to_end, IsRefusal, TookAll, IsStageAfter, Stage, OnOk, AreParts, IsMerged, TookAllBut, TookFrontOf, TookTrace, TookFront, TookClosed, writes_of}
 use Rattle.trace_merge.proofs.Exists.{has_merge}
-use Rattle.window_laws.specs.Theorems.{end_to_end}
-use Rattle.windows.specs.Inside.Last.{AreParts, IsMerged, TookAllBut, TookFrontOf}
-use Rattle.windows.specs.Refusals.{IsRefusal}
-use Rattle.windows.specs.Sink.{TookAll, TookTrace, TookFront, TookClosed, writes_of}
-use Rattle.windows.specs.Stage.{IsStageAfter}
-use Rattle.windows.specs.declared.stage.Stage.{Stage}
 use Rattle.windows.proofs.Closing.{stage_trace}
 use Rattle.windows.proofs.Cut.{stage_cut}
 use Rattle.windows.proofs.Handed.{trace_within}

@@ -3,6 +3,7 @@ ghost use Rattle.std.specs.Prelude.{◌≡◌, ◌<◌, ◌-◌, ◌^◌};
 
 use super::refused::boxed_machines;
 use super::runs::list_of;
+use super::workers::AS_MANY_AS_CAN_BE;
 use super::{ONE_CRASH, same_entries};
 use crate::common::{NO_MEMORY, NO_RUN, same, scenario_of};
 use event_list::RunError;
@@ -112,4 +113,29 @@ fn parts_in_order(rt: HostRuntime) {
             takes_so_many(&rt, alloc, &scenario, list.entries(), most, refusal);
         }
     }
+}
+
+/// How many entries each window of 2 ticks has where 256 processes send to all at each tick, and how many inputs the
+/// machines have taken as its part is handed on: those of the next window too, as the part isn't small.
+const LARGE_PARTS: [(usize, u64); 3] = [(512, 131_840), (131_328, 262_912), (131_072, 262_912)];
+
+#[test]
+fn large_parts_wait(rt: HostRuntime) {
+    let alloc = rt.alloc();
+    let scenario = scenario_of(&rt, alloc, AS_MANY_AS_CAN_BE);
+    let plan = Plan::new(&scenario, 2, 2).expect(&rt, NO_RUN);
+    let inputs = Arc::new(alloc, AtomicU64::new(0)).expect(&rt, NO_MEMORY);
+    let machines = boxed_machines(alloc, &scenario, u64::MAX, &inputs);
+    let machines = machines.expect(&rt, NO_MEMORY);
+    let mut sink = Counting {
+        entries: Vec::new(alloc),
+        handed: Vec::new(alloc),
+        inputs,
+        most: 3,
+        writes: false,
+        failures: 0,
+    };
+    let done = run_windows_into(&rt, alloc, &scenario, machines, &plan, &OpenGate, &mut sink);
+    assert!(rt; done.is_ok());
+    assert!(rt; sink.handed.as_slice() == &LARGE_PARTS[..]);
 }

@@ -79,8 +79,8 @@ fn first_window(rt: HostRuntime) {
 }
 
 /// As many processes as there can be, each of which sends a letter to every other at each tick. The second of three
-/// windows has 131,328 entries and posts 130,560 letters, which the third takes: its parts are merged by a thread.
-const AS_MANY_AS_CAN_BE: &str = "version = 2
+/// windows has 131,328 entries and posts 130,560 letters, which the third takes.
+pub(super) const AS_MANY_AS_CAN_BE: &str = "version = 2
 processes = 256
 horizon = 6
 lookahead = 2

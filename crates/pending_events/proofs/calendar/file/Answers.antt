@@ -1,6 +1,5 @@
-use Rattle.std.proofs.Common.{◌≡◌, ◌∙◌, ◌++◌, ◌∷◌, [], ap, rules, subst, None, nat_cmp}
+use Rattle.pending_events.proofs.Words.{◌≡◌, ◌∙◌, ◌++◌, ◌∷◌, [], ap, rules, subst, None, nat_cmp, IsFiled}
 use Rattle.std.specs.BTreeMap as tree
-use Rattle.pending_events.specs.Inside.Buckets.{IsFiled}
 use Rattle.pending_events.proofs.Nearby.{filed_new}
 use Rattle.pending_events.proofs.calendar.file.Goals as goal
 

@@ -1,4 +1,4 @@
-use Rattle.pending_events.specs.Inside.Calendar.{NoneAhead}
+use Rattle.pending_events.proofs.Words.{NoneAhead}
 use Rattle.pending_events.proofs.calendar.first_filled.Given as goal
 
 abbrev pub invariant-loop-tick : goal.invariant-loop-tick

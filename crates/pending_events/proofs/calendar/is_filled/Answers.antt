@@ -1,7 +1,5 @@
-use Rattle.std.proofs.Common.{◌≡◌, ◌<◌, ◌%◌, ◌∙◌, ℕ, Bool, true, false, not, nat_eq, length, ap, sym, arith}
-use Rattle.std.proofs.lemmas.Bool.Decides.{nat_tests}
-use Rattle.std.proofs.lemmas.List.{nil_from_length}
-use Rattle.pending_events.specs.Inside.Calendar.{lane}
+use Rattle.pending_events.proofs.Words.{◌≡◌, ◌<◌, ◌%◌, ◌∙◌, ℕ, Bool, true, false, nat_eq, length, ap, sym, arith, nat_tests, nil_from_length, lane}
+use Rattle.std.proofs.Common.{not}
 use Rattle.pending_events.proofs.Nearby.{lane_there}
 use Rattle.pending_events.proofs.calendar.is_filled.Goals as goal
 

@@ -1,7 +1,4 @@
-use Rattle.std.proofs.Common.{◌≡◌, ◌<◌, ◌++◌, ◌∷◌, ◌∙◌, length, ap, arith, []}
-use Rattle.std.proofs.lemmas.List.{length-set}
-use Rattle.std.proofs.lemmas.Result.{on_err_weaker, on_ok_weaker}
-use Rattle.pending_events.specs.Inside.Calendar.{lane}
+use Rattle.pending_events.proofs.Words.{◌≡◌, ◌<◌, ◌++◌, ◌∷◌, ◌∙◌, length, ap, arith, [], length-set, on_err_weaker, on_ok_weaker, lane}
 use Rattle.pending_events.proofs.Nearby.{lane_set, lane_kept, lane_there}
 use Rattle.pending_events.proofs.calendar.put_near.Goals as goal
 

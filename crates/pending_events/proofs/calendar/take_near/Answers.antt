@@ -1,5 +1,4 @@
-use Rattle.std.proofs.Common.{◌<◌, ◌%◌, ◌∙◌, length, ap, arith}
-use Rattle.std.proofs.lemmas.List.{length-set}
+use Rattle.pending_events.proofs.Words.{◌<◌, ◌%◌, ◌∙◌, length, ap, arith, length-set}
 use Rattle.pending_events.proofs.Nearby.{lane_there, lane_set, lane_kept}
 use Rattle.pending_events.proofs.calendar.take_near.Goals as goal
 

@@ -1,7 +1,5 @@
-use Rattle.std.proofs.Common.{◌∙◌, ◌+◌, ap, sym, subst}
+use Rattle.pending_events.proofs.Words.{◌∙◌, ◌+◌, ap, sym, subst, joined, Content, IsParted}
 use Rattle.std.specs.FinMap as events
-use Rattle.trace_laws.specs.World.{joined}
-use Rattle.pending_events.specs.Inside.Calendar.{Content, IsParted}
 use Rattle.pending_events.proofs.Parted.{filled, filled_some, lost, no_event}
 use Rattle.pending_events.proofs.pending.fill.Goals as goal
 

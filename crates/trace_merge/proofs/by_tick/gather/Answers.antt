@@ -1,9 +1,5 @@
-use Rattle.std.proofs.Common.{◌≡◌, ◌<◌, ◌++◌, [], List, map, ap, ◌∙◌, sym, subst, length, MatchOption, IsPermutation}
+use Rattle.trace_merge.proofs.Words.{◌≡◌, ◌<◌, ◌++◌, [], List, map, ap, ◌∙◌, sym, subst, length, MatchOption, IsPermutation, IsPermutation-trans, EntryRecord, Lane, all_of}
 use Rattle.std.proofs.lemmas.List.{with_items_is}
-use Rattle.std.proofs.lemmas.List.Sorted.{IsPermutation-trans}
-use Rattle.process_api.specs.EntryRecord.{EntryRecord}
-use Rattle.trace_merge.specs.declared.by_tick.Lane.{Lane}
-use Rattle.trace_merge.specs.Parts.{all_of}
 use Rattle.trace_merge.proofs.Gathering.{items_of, rest_of, still, still_fewer}
 use Rattle.trace_merge.proofs.by_tick.gather.Goals as goal
 

@@ -1,5 +1,4 @@
-use Rattle.std.proofs.Common.{◌≡◌, ◌++◌, [], map, None, IsPermutation}
-use Rattle.trace_merge.specs.Parts.{all_of}
+use Rattle.trace_merge.proofs.Words.{◌≡◌, ◌++◌, [], map, None, IsPermutation, all_of}
 use Rattle.trace_merge.proofs.Gathering.{still}
 use Rattle.trace_merge.proofs.by_tick.gather.Given as goal
 

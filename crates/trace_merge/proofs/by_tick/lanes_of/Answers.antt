@@ -1,6 +1,4 @@
-use Rattle.std.proofs.Common.{◌≡◌, ◌++◌, ◌∷◌, map, ap, ◌∙◌, sym, subst, append_assoc, IsPermutation}
-use Rattle.std.specs.Vec.Iter.{into_iter_items}
-use Rattle.trace_merge.specs.Parts.{all_of}
+use Rattle.trace_merge.proofs.Words.{◌≡◌, ◌++◌, ◌∷◌, map, ap, ◌∙◌, sym, subst, append_assoc, IsPermutation, into_iter_items, all_of}
 use Rattle.trace_merge.proofs.Gathering.{items_of, rest_of, all_of-more}
 use Rattle.trace_merge.proofs.by_tick.lanes_of.Goals as goal
 

@@ -1,6 +1,4 @@
-use Rattle.std.proofs.Common.{◌++◌, map, IsPermutation}
-use Rattle.std.specs.Vec.Iter.{into_iter_items}
-use Rattle.trace_merge.specs.Parts.{all_of}
+use Rattle.trace_merge.proofs.Words.{◌++◌, map, IsPermutation, into_iter_items, all_of}
 use Rattle.trace_merge.proofs.by_tick.lanes_of.Given as goal
 
 abbrev pub invariant-loop-part : goal.invariant-loop-part

@@ -1,8 +1,6 @@
-use Rattle.std.proofs.Common.{◌≡◌, ◌+◌, ◌<◌, ◌++◌, [], Some, map, take, ap, ◌∙◌, sym, subst, arith, min, length, MatchOption, slice_set}
-use Rattle.std.specs.Option.{unwrap_or}
+use Rattle.trace_merge.proofs.Words.{◌≡◌, ◌<◌, ◌++◌, [], Some, map, take, ap, ◌∙◌, sym, subst, arith, min, length, MatchOption, unwrap_or, IsPermutation-trans, all_of}
+use Rattle.std.proofs.Common.{◌+◌, slice_set}
 use Rattle.std.proofs.lemmas.List.{length-set, take_more_set}
-use Rattle.std.proofs.lemmas.List.Sorted.{IsPermutation-trans}
-use Rattle.trace_merge.specs.Parts.{all_of}
 use Rattle.trace_merge.proofs.Gathering.{rest_of, one_moved, all_of-more, later_least, later_same}
 use Rattle.trace_merge.proofs.by_tick.take_tick.Goals.{in-Some, in_default}
 use Rattle.trace_merge.proofs.by_tick.take_tick.Goals as goal

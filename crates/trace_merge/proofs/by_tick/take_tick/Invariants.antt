@@ -1,5 +1,4 @@
-use Rattle.std.proofs.Common.{◌≡◌, ◌<◌, ◌++◌, [], map, take, length, MatchOption, IsPermutation}
-use Rattle.trace_merge.specs.Parts.{all_of}
+use Rattle.trace_merge.proofs.Words.{◌≡◌, ◌<◌, ◌++◌, [], map, take, length, MatchOption, IsPermutation, all_of}
 use Rattle.trace_merge.proofs.by_tick.take_tick.Given as goal
 
 abbrev pub invariant-loop-at : goal.invariant-loop-at

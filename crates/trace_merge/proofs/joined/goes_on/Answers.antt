@@ -1,8 +1,6 @@
-use Rattle.std.proofs.Common.{◌-◌, sym, ap, ◌∙◌, length, true, ◌≡◌}
+use Rattle.trace_merge.proofs.Words.{◌-◌, sym, ap, ◌∙◌, length, true, ◌≡◌, is_before, EntryRecord}
 use Rattle.std.proofs.lemmas.List.Kept.{IsSortedBy-push}
 use Rattle.std.proofs.lemmas.Option.{get_or_from_slice_get}
-use Rattle.process_api.specs.Order.{is_before}
-use Rattle.process_api.specs.EntryRecord.{EntryRecord}
 use Rattle.trace_merge.proofs.Distinct.{less, not_before}
 use Rattle.trace_merge.proofs.joined.goes_on.Goals as goal
 

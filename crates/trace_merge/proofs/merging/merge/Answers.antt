@@ -1,5 +1,6 @@
+use Rattle.trace_merge.proofs.Words.{IsPermutation-trans}
 use Rattle.std.proofs.Common.{rules}
-use Rattle.std.proofs.lemmas.List.Sorted.{IsPermutation-trans, answers_always}
+use Rattle.std.proofs.lemmas.List.Sorted.{answers_always}
 use Rattle.trace_merge.proofs.Distinct.{merged_rising}
 use Rattle.trace_merge.proofs.Gathering.{items_of}
 use Rattle.trace_merge.proofs.merging.merge.Goals as goal

@@ -1,7 +1,4 @@
-use Rattle.std.proofs.Common.{MatchOption, ◌≡◌, [], List, subst}
-use Rattle.std.specs.Global.{Vec}
-use Rattle.process_api.specs.EntryRecord.{EntryRecord}
-use Rattle.windows.specs.Inside.Last.{IsMerged}
+use Rattle.windows.proofs.Words.{MatchOption, ◌≡◌, [], List, subst, Vec, EntryRecord, IsMerged}
 use Rattle.windows.proofs.Waiting.{on_ok, took_one}
 use Rattle.windows.proofs.run.hand_on.Goals as goal
 

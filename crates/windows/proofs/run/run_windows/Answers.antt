@@ -1,10 +1,4 @@
-use Rattle.std.proofs.Common.{◌≡◌, ◌++◌, subst, sym, ap, ◌∙◌}
-use Rattle.trace_laws.specs.ScenarioSetting.{setting_of}
-use Rattle.trace_laws.specs.World.{IsTrace}
-use Rattle.trace_laws.proofs.Closed.{trace_rises}
-use Rattle.trace_laws.proofs.Sound.{setting_sound}
-use Rattle.window_laws.specs.Theorems.{end_to_end}
-use Rattle.std.specs.Global.{Vec}
+use Rattle.windows.proofs.Words.{◌≡◌, ◌++◌, subst, sym, ap, ◌∙◌, setting_of, IsTrace, trace_rises, setting_sound, end_to_end, Vec}
 use Rattle.windows.proofs.Handed.{kept_all}
 use Rattle.windows.proofs.run.run_windows.Goals as goal
 

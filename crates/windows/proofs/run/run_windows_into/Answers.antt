@@ -1,12 +1,4 @@
-use Rattle.std.proofs.Common.{rules, ◌≡◌, [], ◌∙◌, refl, inl, true, false, sym, ap, subst, List, ◌<◌, length, arith}
-use Rattle.std.proofs.lemmas.Bool.{eqb-true, eqb-false}
-use Rattle.process_api.specs.EntryRecord.{EntryRecord}
-use Rattle.scenario_record.specs.Record.{Record}
-use Rattle.trace_laws.specs.ScenarioSetting.{setting_of}
-use Rattle.trace_laws.specs.World.{IsTrace}
-use Rattle.window_laws.specs.Theorems.{end_to_end}
-use Rattle.windows.specs.Inside.Last.{TookAllBut, TookFrontOf}
-use Rattle.windows.specs.Sink.{writes_of}
+use Rattle.windows.proofs.Words.{rules, ◌≡◌, [], ◌∙◌, refl, inl, true, false, sym, ap, subst, List, ◌<◌, length, arith, eqb-true, eqb-false, EntryRecord, Record, setting_of, IsTrace, end_to_end, TookAllBut, TookFrontOf, writes_of}
 use Rattle.windows.proofs.Cut.{not_of_sink}
 use Rattle.windows.proofs.Handed.{on_err}
 use Rattle.windows.proofs.Waiting.{begins, closed_so_far, few_told, front_of, front_so_far, handed, merged_of, no_parts, no_write, on_err_by, on_ok, ran, stage_is, whole_told}

@@ -1,4 +1,4 @@
-use Rattle.std.proofs.Common.{◌≡◌, ◌-◌}
+use Rattle.windows.proofs.Words.{◌≡◌, ◌-◌}
 use Rattle.windows.proofs.Waiting.{IsUnderway}
 use Rattle.windows.proofs.run.run_windows_into.Given as goal
 

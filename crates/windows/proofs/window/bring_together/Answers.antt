@@ -1,9 +1,4 @@
-use Rattle.std.proofs.Common.{rules, ◌≡◌, map, sym, ap, ◌∙◌, subst}
-use Rattle.std.proofs.lemmas.List.Elements.{All-weaker}
-use Rattle.deques.specs.Deques.{deques_of, all_put}
-use Rattle.windows.specs.Inside.Shared.{AreReady, IsOneTooLong, IsWorkIn}
-use Rattle.windows.specs.Inside.Workers.{given_to, BringsTogether}
-use Rattle.windows.specs.declared.workers.Work.{Work}
+use Rattle.windows.proofs.Words.{rules, ◌≡◌, map, sym, ap, ◌∙◌, subst, All-weaker, deques_of, all_put, IsOneTooLong, IsWorkIn, Work, AreReady, given_to, BringsTogether}
 use Rattle.windows.proofs.Gathered.{run_of_parts}
 use Rattle.windows.proofs.window.bring_together.Goals as goal
 

@@ -1,10 +1,4 @@
-use Rattle.std.proofs.Common.{rules, arith, length, sym, ap, ◌∙◌, subst}
-use Rattle.std.specs.List.{All}
-use Rattle.std.proofs.lemmas.List.Sorted.{IsNonDecreasingBy-from_sort_by_key}
-use Rattle.steps.specs.Seat.{own_of}
-use Rattle.mailboxes.specs.Mailboxes.{IsSlipOf}
-use Rattle.windows.specs.declared.berth.Berth.{Berth}
-use Rattle.windows.specs.Stage.{IsCountOfWorkers}
+use Rattle.windows.proofs.Words.{rules, arith, length, sym, ap, ◌∙◌, subst, All, own_of, IsSlipOf, Berth, IsNonDecreasingBy-from_sort_by_key, IsCountOfWorkers}
 use Rattle.windows.proofs.Gathered.{outcome}
 use Rattle.windows.proofs.window.run_all.Goals as goal
 

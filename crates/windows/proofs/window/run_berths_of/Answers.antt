@@ -1,11 +1,4 @@
-use Rattle.std.proofs.Common.{rules, ◌≡◌, ap, sym, ◌∙◌, subst, min, length, arith}
-use Rattle.std.specs.List.{All}
-use Rattle.std.proofs.lemmas.List.{length-map}
-use Rattle.std.proofs.lemmas.List.Sorted.{All-permutation}
-use Rattle.deques.specs.Deques.{all_put, deques_of}
-use Rattle.windows.specs.Inside.Shared.{AreReady, IsOneTooLong}
-use Rattle.windows.specs.Inside.Workers.{IsReady, dealt_to}
-use Rattle.windows.specs.declared.workers.Start.{Start}
+use Rattle.windows.proofs.Words.{rules, ◌≡◌, ap, sym, ◌∙◌, subst, min, length, arith, All, length-map, All-permutation, all_put, deques_of, IsOneTooLong, IsReady, Start, AreReady, dealt_to}
 use Rattle.windows.proofs.Gathered.{all_dealt, fresh_at, long_dealt, run_at, run_with_idle}
 use Rattle.windows.proofs.window.run_berths_of.Goals as goal
 

@@ -1,8 +1,4 @@
-use Rattle.std.proofs.Common.{rules, sym, ap, ◌∙◌, subst}
-use Rattle.std.proofs.lemmas.Result.{IfOk-weaker}
-use Rattle.deques.specs.Deques.{deques_of, all_put}
-use Rattle.windows.specs.Inside.Shared.{AreAnswers, AreReady, IsOneTooLong, HadWindow}
-use Rattle.windows.specs.Inside.Workers.{dealt_to}
+use Rattle.windows.proofs.Words.{rules, sym, ap, ◌∙◌, subst, deques_of, all_put, AreAnswers, IsOneTooLong, IfOk-weaker, AreReady, HadWindow, dealt_to}
 use Rattle.windows.proofs.Refused.{one_refused}
 use Rattle.windows.proofs.window.run_dealt.Goals as goal
 

@@ -1,15 +1,4 @@
-use Rattle.std.proofs.Common.{rules, ◌≡◌, ◌+◌, ◌-◌, min, sym, ap, ◌∙◌, subst, arith}
-use Rattle.std.specs.Global.{Vec}
-use Rattle.std.specs.List.{All}
-use Rattle.std.proofs.lemmas.Result.{IfOk-weaker}
-use Rattle.scenario_record.specs.Record.{Record}
-use Rattle.trace_laws.specs.ScenarioSetting.{setting_of}
-use Rattle.steps.specs.Seat.{own_of}
-use Rattle.window_laws.specs.Machine.{end_of}
-use Rattle.windows.specs.Inside.Closing.{IsOutcomeBy}
-use Rattle.windows.specs.Stage.{IsCountOfWorkers}
-use Rattle.windows.specs.Inside.Workers.{IsReady, RiseBy, HasLong}
-use Rattle.windows.specs.declared.berth.Berth.{Berth}
+use Rattle.windows.proofs.Words.{rules, ◌≡◌, ◌+◌, ◌-◌, min, sym, ap, ◌∙◌, subst, arith, Vec, All, Record, setting_of, own_of, end_of, IsReady, RiseBy, HasLong, Berth, IfOk-weaker, IsOutcomeBy, IsCountOfWorkers}
 use Rattle.windows.proofs.Closing.{stage_ready, stage_rises, long_limit}
 use Rattle.windows.proofs.Posted.{sum_of, of_same, many_by, rising_by, disjoint_by, one_by, limit_by, next_by}
 use Rattle.windows.proofs.Refused.{one_refused}

@@ -1,4 +1,4 @@
-use Rattle.std.proofs.lemmas.Result.{IfOk-weaker}
+use Rattle.windows.proofs.Words.{IfOk-weaker}
 use Rattle.windows.proofs.Waiting.{merged_ok}
 use Rattle.windows.proofs.window.run_window.Goals as goal
 

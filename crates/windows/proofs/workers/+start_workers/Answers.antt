@@ -1,6 +1,4 @@
-use Rattle.std.proofs.Common.{◌≡◌, IfOk, IfSome, subst}
-use Rattle.std.proofs.lemmas.List.Elements.{All-pop}
-use Rattle.windows.specs.Inside.Shared.{IsStart}
+use Rattle.windows.proofs.Words.{◌≡◌, IfOk, subst, IfSome, All-pop, IsStart}
 use Rattle.windows.proofs.Joined.{popped, answer_at, answers_more}
 use Rattle.windows.proofs.workers.+start_workers.Goals as goal
 

@@ -1,7 +1,7 @@
-use Rattle.std.proofs.Common.{rules, ◌≡◌, ◌<◌, [], ◌++◌, length, refl, ap, ◌∙◌, add-one, arith, ⊎_elim}
+use Rattle.mailboxes.proofs.Words.{rules, ◌≡◌, ◌<◌, [], ◌++◌, length, refl, ap, ◌∙◌, add-one, arith, length-map, letters_in}
+use Rattle.std.proofs.Common.{⊎_elim}
 use Rattle.std.proofs.lemmas.Bool.{cases_lt}
-use Rattle.std.proofs.lemmas.List.{get_or_past, length-map}
-use Rattle.mailboxes.specs.Mailboxes.{letters_in}
+use Rattle.std.proofs.lemmas.List.{get_or_past}
 use Rattle.mailboxes.proofs.Homes.{whose, posted_by, items_of}
 use Rattle.mailboxes.proofs.Rows.{whose_same, total_next, empty_next}
 use Rattle.mailboxes.proofs.shared.SharedMailboxes.post_from.Goals as goal

@@ -1,6 +1,5 @@
-use Rattle.std.proofs.Common.{◌≡◌, ◌<◌, ◌≤◌, ◌++◌, ℕ, [], get_or, map, vec_len}
+use Rattle.mailboxes.proofs.Words.{◌≡◌, ◌<◌, ◌≤◌, ◌++◌, ℕ, [], get_or, map, vec_len, letters_in}
 use Rattle.ledger.specs.Places.{each_with}
-use Rattle.mailboxes.specs.Mailboxes.{letters_in}
 use Rattle.mailboxes.proofs.shared.SharedMailboxes.post_from.Given as goal
 
 abbrev pub invariant-loop-at : goal.invariant-loop-at

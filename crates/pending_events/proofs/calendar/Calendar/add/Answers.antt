@@ -1,4 +1,4 @@
-use Rattle.std.proofs.Common.{refl}
+use Rattle.pending_events.proofs.Words.{refl}
 use Rattle.pending_events.proofs.Nearby.{filed, near}
 use Rattle.pending_events.proofs.calendar.Calendar.add.Goals as goal
 

@@ -1,5 +1,4 @@
-use Rattle.std.proofs.Common.{◌∙◌, ◌<◌, ◌%◌, ◌+◌, ap, subst, length, min}
-use Rattle.pending_events.specs.Inside.Calendar.{NoneAhead, lane}
+use Rattle.pending_events.proofs.Words.{◌∙◌, ◌<◌, ◌%◌, ◌+◌, ap, subst, length, min, NoneAhead, lane}
 use Rattle.pending_events.proofs.Nearby.{first_listed, first_near}
 use Rattle.pending_events.proofs.calendar.Calendar.least_tick.Goals as goal
 

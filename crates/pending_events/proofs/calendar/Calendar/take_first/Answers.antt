@@ -1,6 +1,4 @@
-use Rattle.std.proofs.Common.{subst, sym, ◌≡◌, ◌++◌, ◌%◌}
-use Rattle.pending_events.specs.Inside.Buckets.{bucket}
-use Rattle.pending_events.specs.Inside.Calendar.{IsTaken, lane}
+use Rattle.pending_events.proofs.Words.{subst, sym, ◌≡◌, ◌++◌, ◌%◌, bucket, IsTaken, lane}
 use Rattle.pending_events.proofs.Nearby.{calendar_of, next_calendar, next_taken}
 use Rattle.pending_events.proofs.calendar.Calendar.take_first.Goals as goal
 

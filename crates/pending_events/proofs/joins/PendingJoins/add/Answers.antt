@@ -1,6 +1,5 @@
-use Rattle.std.proofs.Common.{ap, sym, ◌∙◌}
+use Rattle.pending_events.proofs.Words.{ap, sym, ◌∙◌, joined_one}
 use Rattle.std.specs.FinMap as events
-use Rattle.trace_laws.proofs.Joining.{joined_one}
 use Rattle.pending_events.proofs.joins.PendingJoins.add.Goals as goal
 
 pub returns-clause-grown : goal.returns-clause-grown

@@ -1,7 +1,6 @@
-use Rattle.std.proofs.Common.{sym, ◌∙◌}
+use Rattle.pending_events.proofs.Words.{sym, ◌∙◌, joined_one}
 use Rattle.std.specs.FinMap as events
 use Rattle.trace_laws.specs.Taken.{event_of}
-use Rattle.trace_laws.proofs.Joining.{joined_one}
 use Rattle.pending_events.proofs.joins.PendingJoins.send.Goals as goal
 
 pub returns-clause-grown : goal.returns-clause-grown

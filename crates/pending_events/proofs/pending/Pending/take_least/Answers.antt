@@ -1,5 +1,4 @@
-use Rattle.std.proofs.Common.{Some, sym, subst}
-use Rattle.pending_events.specs.Inside.Calendar.{Content, IsParted}
+use Rattle.pending_events.proofs.Words.{Some, sym, subst, Content, IsParted}
 use Rattle.pending_events.proofs.Parted.{of_set, parted, row_taken}
 use Rattle.pending_events.proofs.pending.Pending.take_least.Goals as goal
 

@@ -1,5 +1,5 @@
-use Rattle.std.proofs.Common.{◌++◌, sym, subst, IsPermutation}
-use Rattle.std.proofs.lemmas.List.Sorted.{IsPermutation-refl, IsPermutation-pop_more}
+use Rattle.trace_merge.proofs.Words.{◌++◌, sym, subst, IsPermutation, IsPermutation-refl}
+use Rattle.std.proofs.lemmas.List.Sorted.{IsPermutation-pop_more}
 use Rattle.trace_merge.proofs.by_tick.Lane.take_up_to.Goals as goal
 
 pub loop-first-preserved : goal.loop-first-preserved

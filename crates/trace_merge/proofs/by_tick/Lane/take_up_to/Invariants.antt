@@ -1,4 +1,4 @@
-use Rattle.std.proofs.Common.{◌++◌, IsPermutation, length}
+use Rattle.trace_merge.proofs.Words.{◌++◌, IsPermutation, length}
 use Rattle.trace_merge.proofs.by_tick.Lane.take_up_to.Given as goal
 
 abbrev pub invariant-loop-first : goal.invariant-loop-first

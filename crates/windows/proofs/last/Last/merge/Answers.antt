@@ -1,5 +1,4 @@
-use Rattle.std.proofs.Common.{sym, subst}
-use Rattle.windows.specs.Inside.Last.{HasMade}
+use Rattle.windows.proofs.Words.{sym, subst, HasMade}
 use Rattle.windows.proofs.last.Last.merge.Goals as goal
 
 pub merged-requires : goal.merged-requires

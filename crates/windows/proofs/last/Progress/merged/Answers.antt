@@ -1,5 +1,4 @@
-use Rattle.std.proofs.Common.{sym, subst}
-use Rattle.windows.specs.Inside.Last.{AreParts, HasMade}
+use Rattle.windows.proofs.Words.{sym, subst, AreParts, HasMade}
 use Rattle.windows.proofs.last.Progress.merged.Goals as goal
 
 pub merge-requires-clause-rising : goal.merge-requires-clause-rising
