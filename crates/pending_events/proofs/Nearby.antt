@@ -163,9 +163,6 @@ IsListedFirst m o = MatchOption o ((t : ℕ) → HasTick m t → ⊥) (λ tick. 
 not_less : (t first : ℕ) → is_gt (nat_cmp first t) ≡ false → first ≤ t
 not_less t first h = grind (arith, nat_tests)
 
-some_there : (f : Event) (fs : List Event) → f ∷ fs ≡ [] → ⊥
-some_there f fs e = cc
-
 module _ (c : Calendar) (h : IsCalendar c) (o : Option ℕ) (listed : IsListedFirst c.map o) (end : ℕ) (is : end ≡ min (c.from + 1024) (unwrap_or o 4294967295)) where
   above : (m : Buckets) (o : Option ℕ) → IsListedFirst m o → (tick : ℕ) → tick ≤ unwrap_or o 4294967295 → (t : ℕ) → HasTick m t → tick ≤ t
   above m None h tick le t there = absurd (h t there)
@@ -181,7 +178,7 @@ module _ (c : Calendar) (h : IsCalendar c) (o : Option ℕ) (listed : IsListedFi
         at.0,
         at.1,
         elim (cases_lt g.0.tick end) [
-          | inl less ↦ absurd (some_there f fs (sym e ∙ (ap (lane c.ring.items) (sym at.1) ∙ none g.0.tick at.0.low less)))
+          | inl less ↦ (let gone : f ∷ fs ≡ [] = sym e ∙ (ap (lane c.ring.items) (sym at.1) ∙ none g.0.tick at.0.low less) in cc)
           | inr past ↦ up g.0.tick at.0.high past
         ],
       )) (lane c.ring.items p) (h.placed p)

@@ -3,11 +3,8 @@ use Rattle.std.proofs.Common.{not}
 use Rattle.pending_events.proofs.Nearby.{lane_there}
 use Rattle.pending_events.proofs.calendar.is_filled.Goals as goal
 
-some_there : (b : Bool) (n : ℕ) → b ≡ nat_eq n 0 → not b ≡ true → 0 < n
-some_there b n e h = grind (arith, nat_tests)
-
-none_there : (b : Bool) (n : ℕ) → b ≡ nat_eq n 0 → not b ≡ false → n ≡ 0
-none_there b n e h = grind (arith, nat_tests)
+filled : (b : Bool) (n : ℕ) → b ≡ nat_eq n 0 → (not b ≡ true → 0 < n) × (not b ≡ false → n ≡ 0)
+filled b n e = (λ h. grind (arith, nat_tests), λ h. grind (arith, nat_tests))
 
 pub returns : goal.returns
 returns c =
@@ -15,6 +12,6 @@ returns c =
     let v = c.index-ring-place.result in
     let at : v.items ≡ lane ls (c.args.tick % 1024) = ap (λ w. w.items) c.index-ring-place.is ∙ lane_there ls (c.args.tick % 1024) v (omega (arith, c.requires)) in
     record {
-      yes = λ h. omega (arith, some_there _ _ c.is_empty.ensures h, v.ok.0, ap length at);
-      no = λ h. sym at ∙ nil_from_length v.items (omega (arith, none_there _ _ c.is_empty.ensures h, v.ok.0));
+      yes = λ h. omega (arith, (filled _ _ c.is_empty.ensures).0 h, v.ok.0, ap length at);
+      no = λ h. sym at ∙ nil_from_length v.items (omega (arith, (filled _ _ c.is_empty.ensures).1 h, v.ok.0));
     }
