@@ -23,7 +23,8 @@ use Rattle.bench_commands.specs.declared.bench.Mode.TheVariants as mode
 use Rattle.bench_commands.specs.declared.fault.Fault.{Fault}
 use Rattle.bench_commands.specs.declared.fault.Fault.TheVariants.{Different, Plan, Run}
 use Rattle.process_api.specs.declared.print_choice.PrintChoice.{PrintChoice}
-use Rattle.reporting.specs.Printed.{Finishes, WroteRows, printed, prints_trace}
+use Rattle.reporting.specs.Printed.{printed, prints_trace}
+use Rattle.runs.specs.Finishing.{Finishes, WroteRows}
 use Rattle.reporting.specs.TraceText.{trace_text}
 use Rattle.reporting.specs.declared.summary.Summary.{Summary}
 use Rattle.qos_report.proofs.Breaking.{breaks_at_opening}

@@ -11,7 +11,8 @@ use Rattle.bench_commands.specs.declared.bench.Mode.TheVariants as mode
 use Rattle.bench_commands.specs.declared.fault.Fault.{Fault}
 use Rattle.process_api.specs.declared.print_choice.PrintChoice.{PrintChoice}
 use Rattle.process_api.specs.EntryRecord.{EntryRecord}
-use Rattle.reporting.specs.Printed.{IsTraceWithin, printed, prints_trace}
+use Rattle.reporting.specs.Printed.{printed, prints_trace}
+use Rattle.runs.specs.Finishing.{IsTraceWithin}
 use Rattle.reporting.specs.TraceText.{trace_text}
 use Rattle.scenario_record.specs.Record.{Record}
 use Rattle.shell.specs.Ending.{Goes}

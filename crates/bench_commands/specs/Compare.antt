@@ -2,7 +2,8 @@
 use Rattle.std.specs.Prelude.{◌≡◌, ℕ, List}
 use Rattle.process_api.specs.declared.print_choice.PrintChoice.TheVariants.{Both}
 use Rattle.process_api.specs.EntryRecord.{EntryRecord}
-use Rattle.reporting.specs.Printed.{IsTraceWithin, printed}
+use Rattle.reporting.specs.Printed.{printed}
+use Rattle.runs.specs.Finishing.{IsTraceWithin}
 use Rattle.scenario_record.specs.Record.{Record}
 
 -- the bytes are both texts of the scenario's trace, which is within its limit

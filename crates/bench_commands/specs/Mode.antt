@@ -4,7 +4,7 @@ use Rattle.process_api.specs.declared.run_error.RunError.{RunError}
 use Rattle.bench_commands.specs.declared.bench.Mode.{Mode}
 use Rattle.bench_commands.specs.declared.bench.Mode.TheVariants as mode
 use Rattle.process_api.specs.declared.print_choice.PrintChoice.{PrintChoice}
-use Rattle.reporting.specs.Printed.{BreaksOff, Refuses}
+use Rattle.runs.specs.Finishing.{BreaksOff, Refuses}
 use Rattle.scenario_record.specs.Record.{Record}
 use Rattle.windows.specs.Plan.{IsPlanFor}
 

@@ -1,10 +1,10 @@
 //! Runs of a scenario over machines that are made here.
 ghost use Rattle.std.specs.Prelude.{◌≡◌, ◌≢◌, ◌^◌, ◌-◌, ◌<◌, IfErr, IfOk, Err};
 ghost use Rattle.bench_commands.specs.Mode.{IsModeFor, RefusesBy};
-ghost use Rattle.reporting.specs.Printed.{Finishes};
+ghost use Rattle.runs.specs.Finishing.{Finishes};
 
-use event_list::RunError;
 use machines::machines_of;
+use process_api::RunError;
 use qos_report::{Outlet, PrintChoice, Summary, bench_list, bench_windows};
 use scenario::Scenario;
 use std::alloc::Global;

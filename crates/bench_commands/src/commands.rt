@@ -12,7 +12,7 @@ use crate::bench::{Mode, bench};
 use crate::comparing::compare;
 use crate::fault::Fault;
 use command_line::Order;
-use event_list::RunError;
+use process_api::RunError;
 use qos_report::{Outlet, PrintChoice};
 use scenario::Scenario;
 use shell::put_bytes;

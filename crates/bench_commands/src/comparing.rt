@@ -6,7 +6,7 @@ ghost use Rattle.bench_commands.specs.Scenario.{IsTooLong};
 ghost use Rattle.windows.specs.Plan.{IsPlanFor};
 
 use crate::bench::{Mode, bench};
-use event_list::RunError;
+use process_api::RunError;
 use qos_report::{MemoryOutlet, PrintChoice};
 use scenario::Scenario;
 use std::alloc::Global;

@@ -3,8 +3,8 @@ ghost use Rattle.std.specs.Prelude.{◌≡◌, ◌^◌, ◌-◌, ◌<◌};
 ghost use Rattle.bench_commands.specs.Fault.{plan_line, run_line, scenario_line};
 ghost use Rattle.shell.specs.Ending.{Tells};
 
-use event_list::RunError;
 use itoa::Buffer;
+use process_api::RunError;
 use qos_report::Outlet;
 use scenario::ScenarioError;
 use shell::{Failure, tell_pieces, tell_text};

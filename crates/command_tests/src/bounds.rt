@@ -2,7 +2,8 @@
 
 use crate::judged::trace_of;
 use crate::runs::{NO_MEMORY, changed, same, scenario_of};
-use reporting::{Detection, measures};
+use reporting::Detection;
+use runs::measures;
 use std::alloc::Global;
 use std::process::Abort;
 

@@ -3,7 +3,8 @@
 use crate::files::{ONE_CRASH, ONE_PROCESS};
 use crate::runs::{NO_MEMORY, printed, same, served};
 use bench_commands::fault::Fault as BenchFault;
-use qos_report::{FuseOutlet, MemoryOutlet, Outlet, StreamOutlet, put_all};
+use qos_report::{FuseOutlet, MemoryOutlet, Outlet, StreamOutlet};
+use reporting::put_all;
 use shell::finish;
 use std::alloc::Global;
 use std::io::{self, Write};

@@ -5,9 +5,9 @@ use Rattle.judges.specs.Out.{suspects}
 use Rattle.judges.specs.Outcomes.{outcome}
 use Rattle.judges.specs.declared.outcomes.Answer.{Answer}
 use Rattle.judges.specs.declared.outcomes.Answer.TheVariants as answer
-use Rattle.letters.specs.declared.letter.Letter.{Letter}
-use Rattle.letters.specs.declared.letter.LetterFate.{LetterFate}
-use Rattle.letters.specs.declared.letter.LetterFate.TheVariants as fate
+use Rattle.reporting.specs.declared.letter.Letter.{Letter}
+use Rattle.reporting.specs.declared.letter.LetterFate.{LetterFate}
+use Rattle.reporting.specs.declared.letter.LetterFate.TheVariants as fate
 use Rattle.process_api.specs.EntryRecord.{EntryRecord}
 use Rattle.process_api.specs.Numbers.{numbers_to, others}
 use Rattle.process_api.specs.declared.entry.Kind.{Kind}

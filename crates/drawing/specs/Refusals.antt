@@ -1,6 +1,6 @@
 -- Why nothing is drawn.
 use Rattle.std.specs.Prelude.{ℕ, nat_lt, nat_le, ◌&&◌, if◌then◌else◌, Option, None, Some, List, length}
-use Rattle.letters.specs.declared.letter.Letter.{Letter}
+use Rattle.reporting.specs.declared.letter.Letter.{Letter}
 use Rattle.scenario_record.specs.Record.{Record}
 use Rattle.drawing.specs.LettersPicture.{sent_among}
 use Rattle.drawing.specs.declared.error.DrawError.{DrawError}

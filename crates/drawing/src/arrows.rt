@@ -8,8 +8,8 @@ use crate::frame::push_mark;
 use crate::groups::Run;
 use crate::lanes::line_of;
 use crate::layout::{LEFT, Ticks, WIDTH};
-use letters::{Letter, LetterFate};
 use process_api::{Kind, Pid};
+use reporting::{Letter, LetterFate};
 use std::alloc::AllocError;
 use svg::{Class, Point, Shape};
 

@@ -11,10 +11,10 @@ use Rattle.scenario_record.specs.Record.{Record}
 use Rattle.windows.specs.Sink.{writes_of}
 use Rattle.process_api.specs.declared.print_choice.PrintChoice.{PrintChoice}
 use Rattle.process_api.specs.declared.print_choice.PrintChoice.TheVariants as choice
-use Rattle.reporting.specs.Printed.{BreaksOff, WroteRows, items_of, printed, prints_report, prints_trace}
+use Rattle.reporting.specs.Printed.{items_of, printed, prints_report, prints_trace}
+use Rattle.runs.specs.Finishing.{BreaksOff, WroteRows, IsLonger}
 use Rattle.reporting.specs.ReportText.{report_text}
 use Rattle.reporting.specs.Running.{IsTextWhere}
-use Rattle.reporting.specs.Printed.{IsLonger}
 use Rattle.qos_report.specs.Inside.Streaming.{WroteFirst, WroteFront, WroteWhere}
 use Rattle.reporting.specs.TraceText.{rows_text, trace_header, trace_text}
 use Rattle.reporting.specs.Writing.{Wrote, WrotePart, WroteNothing}

@@ -1,13 +1,12 @@
 //! Runs by windows, from a scenario and its machines to the texts that go out.
 ghost use Rattle.std.specs.Prelude.{◌≡◌, ◌^◌, ◌-◌, ◌<◌, map, IfErr, IfOk};
 ghost use Rattle.process_api.specs.Numbers.{numbers_to};
-ghost use Rattle.reporting.specs.Printed.{BreaksOff, Finishes};
+ghost use Rattle.runs.specs.Finishing.{BreaksOff, Finishes};
 ghost use Rattle.scenario_record.specs.Record.{opening_mind};
 ghost use Rattle.windows.specs.Plan.{IsPlanFor};
 
 use crate::streaming::{stream_windows, write_header};
-use event_list::RunError;
-use process_api::{PrintChoice, Process};
+use process_api::{PrintChoice, Process, RunError};
 use reporting::{
     Outlet, Summary, close_running, open_running, prints_report, prints_trace, write_if_any,
 };
@@ -29,7 +28,7 @@ use windows::{Gate, Plan};
 /// With the rotating coordinator no two outcomes of the summary have different values, each value was proposed, each
 /// process decides at most once, and none notes that it ends with no value: whatever the detector, the links and the
 /// crashes. Always the verdicts of the report mean their quantifiers over processes and ticks, and whoever is suspected
-/// on layer 2 was suspected on layer 1 before (`specs/Grounds.antt` of `reporting`).
+/// on layer 2 was suspected on layer 1 before (`specs/Grounds.antt` of `runs`).
 ///
 /// # Errors
 ///

@@ -3,15 +3,14 @@ ghost use Rattle.std.specs.Prelude.{◌≡◌, ◌<◌, ◌^◌, ◌-◌, ◌+�
 ghost use Rattle.process_api.specs.EntryRecord.{EntryRecord};
 ghost use Rattle.process_api.specs.Numbers.{numbers_to};
 ghost use Rattle.scenario_record.specs.Record.{opening_mind};
-ghost use Rattle.reporting.specs.Printed.{IsLonger};
+ghost use Rattle.runs.specs.Finishing.{IsLonger};
 ghost use Rattle.qos_report.specs.Inside.Streaming.{AreUnderWay, StreamedFront, StreamedTrace, WroteFront, WroteWhere};
 ghost use Rattle.reporting.specs.TraceText.{handed, rows_text, trace_header};
 ghost use Rattle.reporting.specs.Writing.{Wrote, WrotePart};
 ghost use Rattle.windows.specs.Plan.{IsPlanFor};
 ghost use Rattle.windows.specs.Sink.{IsRefusalOfSink, writes_of};
 
-use event_list::RunError;
-use process_api::{Entry, Process, follow_all};
+use process_api::{Entry, Process, RunError, follow_all};
 use reporting::{HEADER, Outlet, Running, TraceText, write_text};
 use scenario_record::Scenario;
 use std::alloc::Global;

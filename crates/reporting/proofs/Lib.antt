@@ -9,9 +9,4 @@ pub mod Followed
 pub mod Listing
 mod Examples
 pub mod Joining
-pub mod Finishing
-pub mod Resting
-mod Bounded
-mod Least
 pub mod Written
-mod Trusting

@@ -19,13 +19,13 @@ pub type Summing = (Counts, RunningOutcomes);
 pub type Layers = (Layer, Option<Layer>);
 
 /// What follows it for all that is measured.
-pub(crate) type Measuring = (Summing, Layers);
+pub type Measuring = (Summing, Layers);
 
 /// What follows it for its summary, and for its report where that is asked for.
 pub type Running = (Summing, Option<Layers>);
 
 /// What follows it for these two, and for the text of its trace where that is asked for.
-pub(crate) type Recording = (Running, Option<TraceText>);
+pub type Recording = (Running, Option<TraceText>);
 
 fn open_summing(alloc: Global, scenario: &Scenario) -> Result<Summing, AllocError>
     ensures { IfOk result (IsSumming scenario.now []) }
@@ -43,9 +43,12 @@ fn open_layers(alloc: Global, scenario: &Scenario, listed: bool) -> Result<Layer
     }
 }
 
-/// Opens followers of all that is measured, which were told no entry. They keep the length of each mistake where
-/// `listed` is true.
-pub(crate) fn open_measuring(
+/// Nothing was told. The length of each mistake is kept where `listed` is true.
+///
+/// # Errors
+///
+/// Where a growth was refused.
+pub fn open_measuring(
     alloc: Global,
     scenario: &Scenario,
     listed: bool,
@@ -79,7 +82,11 @@ pub fn open_running(
 }
 
 /// Nothing was told.
-pub(crate) fn open_recording(
+///
+/// # Errors
+///
+/// Where a growth was refused.
+pub fn open_recording(
     alloc: Global,
     scenario: &Scenario,
     print: PrintChoice,

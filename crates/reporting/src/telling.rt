@@ -59,7 +59,11 @@ fn close_second(
 }
 
 /// What was found, and how long each mistake was where they were listed.
-pub(crate) fn find(
+///
+/// # Errors
+///
+/// Where a growth was refused.
+pub fn close_measuring(
     alloc: Global,
     measuring: Measuring,
 ) -> Result<(RunFindings, RunDurations), AllocError>
@@ -104,7 +108,7 @@ pub fn close_running(
     match layers {
         None => Ok((sum_up(summing), None)),
         Some(layers) => {
-            let (found, _durations) = find(alloc, (summing, layers))?;
+            let (found, _durations) = close_measuring(alloc, (summing, layers))?;
             let report = text_of_report(alloc, scenario.algorithm(), &found)?;
             Ok((found.summary, Some(report)))
         }

@@ -14,8 +14,7 @@ use crate::outlet::{Outlet, put_all};
 use crate::summary::Summary;
 use crate::telling::{close_recording, close_running};
 use crate::trace_text::text_of_trace;
-use event_list::RunError;
-use process_api::{Trace, follow_all};
+use process_api::{RunError, Trace, follow_all};
 use scenario_record::Scenario;
 use std::alloc::Global;
 
@@ -54,14 +53,13 @@ pub fn write_trace<O: Outlet>(alloc: Global, trace: &Trace, outlet: &mut O) -> R
     }
 }
 
-/// Writes the texts of a run that was recorded, and answers its summary. Both are formed before any text is written. In
-/// the trace of a scenario with the rotating coordinator the outcomes agree, and whoever decides does so once.
+/// Writes the texts of a run that was recorded, and answers its summary. Both are formed before any text is written.
 ///
 /// # Errors
 ///
 /// `Memory` where memory was refused; then nothing was written. `Write` where a put failed; then a front part of the
 /// texts went out.
-pub(crate) fn write_recorded<O: Outlet>(
+pub fn write_recorded<O: Outlet>(
     alloc: Global,
     scenario: &Scenario,
     recording: Recording,

@@ -1,8 +1,8 @@
 //! The table of letters.
 use crate::comparisons::{NO_MEMORY, is_made_of};
 use crate::traces::pid;
-use letters::{Letter, LetterFate, letters_text};
 use process_api::Kind;
+use reporting::{Letter, LetterFate, letters_text};
 use std::alloc::Global;
 use std::process::Abort;
 

@@ -1,6 +1,6 @@
 //! Tests of diagnoses of files, judges, measures, studies and pictures.
 //!
-//! These are the tests of `diagnosis`, `study`, `judges`, `letters`, `reporting`, `sweep`, `svg` and `drawing`, a
+//! These are the tests of `diagnosis`, `study`, `judges`, `reporting`, `runs`, `sweep`, `svg` and `drawing`, a
 //! module for each: diagnoses of files, grids of runs and networks laid over them, verdicts and outcomes, the table of
 //! letters, measures and outlets, sums and rows of studies, and pictures, over traces and findings that are worked out
 //! by hand. The crate `transcripts` compares what whole runs print. They stand apart from these crates, since a crate

@@ -1,18 +1,16 @@
 -- Pictures and their runs that are refused.
-use Rattle.std.proofs.Common.{◌≡◌, ◌⊎◌, inl, inr, sym, ℕ, List, Option, None, Some, Result, Ok, Err, IfErr, MatchOption}
-use Rattle.std.proofs.Common.{subst}
+use Rattle.std.proofs.Common.{◌≡◌, ◌⊎◌, inl, inr, sym, ℕ, List, Option, None, Some, Result, Ok, Err, IfErr, MatchOption, subst}
 use Rattle.drawing.specs.Refusals.{IsMemory, letters_refusal}
 use Rattle.drawing.specs.declared.error.DrawError.{DrawError}
 use Rattle.study.specs.Words.{Word}
-use Rattle.study_commands.specs.Draw.{AreNamed, IsOfPicture, IsRefused, NamesNone, StopsPicture, TellsOf, end_of_ticks}
-use Rattle.study_commands.specs.Draw.{first_tick, picture_line}
+use Rattle.study_commands.specs.Draw.{AreNamed, IsOfPicture, IsRefused, NamesNone, StopsPicture, TellsOf, end_of_ticks, first_tick, picture_line}
 use Rattle.study_commands.specs.Fault.{IsBefore, IsOfWordsFor}
 use Rattle.study_commands.specs.File.{IsScenario}
 use Rattle.study_commands.specs.declared.fault.Fault.{Fault}
 use Rattle.study_commands.specs.Refusal.{IsOfFile, Says}
 use Rattle.study_commands.specs.declared.fault.Fault.TheVariants.{Limit, Memory, NotDrawn, Refused, Words, WordsMemory}
-use Rattle.letters.specs.Letters.{AreLetters}
-use Rattle.letters.specs.declared.letter.Letter.{Letter}
+use Rattle.runs.specs.Letters.{AreLetters}
+use Rattle.reporting.specs.declared.letter.Letter.{Letter}
 use Rattle.scenario_record.specs.Record.{Record}
 use Rattle.study_line.specs.declared.order.Picture.{Picture}
 use Rattle.study_line.specs.declared.order.Picture.TheVariants as picture

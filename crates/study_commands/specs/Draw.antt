@@ -1,6 +1,5 @@
 -- What `draw` answers.
-use Rattle.std.specs.Prelude.{◌≡◌, ◌⊎◌, ℕ, ◌-◌, List, [], ◌++◌, map, nat_le, ◌&&◌, Contains, Option, None, Some}
-use Rattle.std.specs.Prelude.{String, codes, decimal, if◌then◌else◌, unwrap_or}
+use Rattle.std.specs.Prelude.{◌≡◌, ◌⊎◌, ℕ, ◌-◌, List, [], ◌++◌, map, nat_le, ◌&&◌, Contains, Option, None, Some, String, codes, decimal, if◌then◌else◌, unwrap_or}
 use Rattle.std.specs.declared.alloc.Global.{Global}
 use Rattle.printable.specs.Printable.{printable}
 use Rattle.process_api.specs.Bounds.{most_processes}
@@ -18,8 +17,8 @@ use Rattle.study_commands.specs.Runs.{IsTooLong}
 use Rattle.study_commands.specs.WordRefusals.{SaysNoSources}
 use Rattle.study_commands.specs.declared.fault.Fault.{Fault}
 use Rattle.study_commands.specs.declared.fault.Fault.TheVariants.{Limit, Memory, NotDrawn, Words, WordsMemory, Write}
-use Rattle.letters.specs.Letters.{AreLetters}
-use Rattle.letters.specs.declared.letter.Letter.{Letter}
+use Rattle.runs.specs.Letters.{AreLetters}
+use Rattle.reporting.specs.declared.letter.Letter.{Letter}
 use Rattle.process_api.specs.EntryRecord.{EntryRecord}
 use Rattle.scenario_record.specs.Record.{Record}
 use Rattle.study_line.specs.declared.order.Picture.{Picture}

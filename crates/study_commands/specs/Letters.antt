@@ -1,9 +1,9 @@
 -- What `letters` answers.
 use Rattle.std.specs.Prelude.{◌≡◌, ℕ, List, Option}
 use Rattle.study_commands.specs.File.{IsScenario}
-use Rattle.letters.specs.Letters.{AreLetters}
-use Rattle.letters.specs.LettersText.{letters_text}
-use Rattle.letters.specs.declared.letter.Letter.{Letter}
+use Rattle.runs.specs.Letters.{AreLetters}
+use Rattle.reporting.specs.LettersText.{letters_text}
+use Rattle.reporting.specs.declared.letter.Letter.{Letter}
 use Rattle.scenario_record.specs.Record.{Record}
 use Rattle.study_line.specs.declared.order.SourceTexts.{SourceTexts}
 

@@ -9,7 +9,7 @@ ghost use Rattle.shell.specs.Input.{TakesAtMost, most_bytes};
 use crate::alone::scenario_at;
 use crate::fault::Fault;
 use crate::running::letters_of;
-use letters::letters_text;
+use reporting::letters_text;
 use std::alloc::Global;
 use std::io::Read;
 use std::rt::Files;

@@ -3,13 +3,14 @@ ghost use Rattle.std.specs.Prelude.{◌≡◌, IfErr, IfOk};
 ghost use Rattle.trace_laws.specs.ScenarioSetting.{setting_of};
 ghost use Rattle.trace_laws.specs.World.{IsTrace};
 ghost use Rattle.study_commands.specs.Runs.{IsOfRun, fault_of_run};
-ghost use Rattle.letters.specs.Letters.{AreLetters};
+ghost use Rattle.runs.specs.Letters.{AreLetters};
 
 use crate::fault::Fault;
 use event_list::{RunError, run_list};
-use letters::{Letter, letters};
 use machines::machines_of;
 use process_api::Trace;
+use reporting::Letter;
+use runs::letters;
 use scenario::Scenario;
 use std::alloc::Global;
 

@@ -16,13 +16,12 @@ use Rattle.judges.specs.Ticks.{least_from}
 use Rattle.detector_bounds.specs.Detected.{detected_by, last_letter, grown, trusts}
 use Rattle.detector_bounds.specs.Multiples.{multiple_from}
 use Rattle.detector_bounds.specs.Watched.{watch_of}
-use Rattle.reporting.specs.Bounded.{IsBounded}
-use Rattle.reporting.specs.Grounds.{HasGrounds}
+use Rattle.runs.specs.Grounds.{IsBounded, HasGrounds}
 use Rattle.reporting.specs.Measures.{all_measures, delay_after, is_measured, layer_measures, pair_measures}
-use Rattle.reporting.specs.Trusts.{AreTrusts, most_trusts, trusts_of}
+use Rattle.runs.specs.Trusts.{AreTrusts, most_trusts, trusts_of}
 use Rattle.reporting.specs.declared.pair_measures.Detection.{Detection}
 use Rattle.reporting.specs.declared.pair_measures.Detection.TheVariants.{Na, NoTick, At}
-use Rattle.reporting.specs.declared.trusts.Trusts.{Trusts}
+use Rattle.runs.specs.declared.trusts.Trusts.{Trusts}
 use Rattle.reporting.proofs.Layers.{one_layer, two_layers}
 use Rattle.sweep.specs.Columns.{AreBounds, IsAwaited, detection_bound}
 use Rattle.sweep.specs.Groups.{is_in}

@@ -8,7 +8,7 @@ use Rattle.reporting.specs.Distances.{count_below}
 use Rattle.reporting.specs.Measures.{layer_measures, pair_measures, starts}
 use Rattle.reporting.proofs.Layers.{one_layer, two_layers}
 use Rattle.reporting.specs.declared.summary.Summary.{Summary}
-use Rattle.reporting.specs.Grounds.{HasGrounds}
+use Rattle.runs.specs.Grounds.{HasGrounds}
 use Rattle.std.proofs.lemmas.List.Elements.{All-cons, All-nil}
 use Rattle.sweep.specs.Columns.{AreBounds}
 use Rattle.sweep.specs.Inside.OwnSums.{AreOwnSums}

@@ -30,7 +30,8 @@ pub use Rattle.process_api.specs.EntryRecord.{EntryRecord}
 pub use Rattle.process_api.specs.Numbers.{numbers_to, others}
 pub use Rattle.reporting.proofs.Written.{wrote_both, wrote_nothing, wrote_then_part}
 pub use Rattle.reporting.specs.Durations.{AreDurations, lengths_of, lists_in}
-pub use Rattle.reporting.specs.Measured.{AreFindings, MeasuresRun}
+pub use Rattle.reporting.specs.Measured.{AreFindings}
+pub use Rattle.runs.specs.Finishing.{MeasuresRun}
 pub use Rattle.reporting.specs.Writing.{Wrote, WrotePart}
 pub use Rattle.reporting.specs.declared.findings.RunFindings.{RunFindings}
 pub use Rattle.reporting.specs.declared.pair_measures.PairMeasures.{PairMeasures}

@@ -2,8 +2,7 @@
 use Rattle.std.specs.Prelude.{List}
 use Rattle.process_api.specs.EntryRecord.{EntryRecord}
 use Rattle.scenario_record.specs.Record.{Record}
-use Rattle.reporting.specs.Printed.{IsTraceWithin}
-use Rattle.reporting.specs.Printed.{IsLonger}
+use Rattle.runs.specs.Finishing.{IsTraceWithin, IsLonger}
 
 -- a run is done, and this is its trace; or it passed its limit
 pub data RunResult : Type 0 where

@@ -5,14 +5,14 @@ use Rattle.judges.specs.Verdicts.{verdicts}
 use Rattle.judges.specs.declared.verdicts.Verdicts.{Verdicts}
 use Rattle.process_api.specs.EntryRecord.{EntryRecord}
 use Rattle.reporting.specs.Durations.{AreDurations}
-use Rattle.reporting.specs.Grounds.{HasGrounds}
+use Rattle.runs.specs.Grounds.{HasGrounds}
 use Rattle.reporting.specs.Measures.{layer_measures}
 use Rattle.reporting.specs.Summary.{IsSummary}
-use Rattle.reporting.specs.Trusts.{AreTrusts}
+use Rattle.runs.specs.Trusts.{AreTrusts}
 use Rattle.reporting.specs.declared.durations.Durations.{Durations}
 use Rattle.reporting.specs.declared.pair_measures.PairMeasures.{PairMeasures}
 use Rattle.reporting.specs.declared.summary.Summary.{Summary}
-use Rattle.reporting.specs.declared.trusts.Trusts.{Trusts}
+use Rattle.runs.specs.declared.trusts.Trusts.{Trusts}
 use Rattle.scenario_record.specs.Ranges.{IsInRange}
 use Rattle.scenario_record.specs.Record.{Record}
 use Rattle.sweep.specs.Columns.{done_on, has_layer, AreLayerSums, AreFirstRuns, all_durations, all_detections, is_limited, last_decisions, top_rounds}

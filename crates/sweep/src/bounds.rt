@@ -1,7 +1,7 @@
 //! The bounds of a run's detections, on layer 1.
 ghost use Rattle.std.specs.Prelude.{◌≡◌, ◌≢◌, ◌≤◌, true, false};
 ghost use Rattle.std.specs.List.{All};
-ghost use Rattle.reporting.specs.Trusts.{trusts_of};
+ghost use Rattle.runs.specs.Trusts.{trusts_of};
 ghost use Rattle.sweep.specs.Columns.{AreBounds, detection_bound};
 ghost use Rattle.sweep.specs.Inside.Adding.{of_bound};
 ghost use Rattle.sweep.specs.Inside.OwnSums.{IsPair};
@@ -10,7 +10,8 @@ ghost use Rattle.sweep.specs.OneRun.{bound_after, bounds_of, bounds_on, is_to_de
 use crate::columns::DetectionBounds;
 use process_api::Pid;
 use promised::detected_by;
-use reporting::{Detection, PairMeasures, Trusts};
+use reporting::{Detection, PairMeasures};
+use runs::Trusts;
 use scenario::Scenario;
 
 impl DetectionBounds {

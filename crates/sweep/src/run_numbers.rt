@@ -1,7 +1,7 @@
 //! The numbers that one run adds to the sums of its point.
 ghost use Rattle.std.specs.Prelude.{◌≡◌, ◌∷◌, [], ℕ, List, IfOk, is_some, true, false};
 ghost use Rattle.judges.specs.declared.outcomes.Outcome.{Outcome as OutcomeRecord};
-ghost use Rattle.reporting.specs.Measured.{MeasuresRun};
+ghost use Rattle.runs.specs.Finishing.{MeasuresRun};
 ghost use Rattle.scenario_record.specs.Ranges.{IsInRange};
 ghost use Rattle.scenario_record.specs.Record.{Record};
 ghost use Rattle.sweep.specs.Inside.Adding.{of_verdicts};
@@ -20,7 +20,8 @@ use crate::decisions::{
 use crate::group::Group;
 use crate::pairs::{counted_of, detection_times, durations_of, sum_ends, sum_pairs};
 use judges::Verdicts;
-use reporting::{Durations, PairMeasures, RunDurations, RunFindings, Summary, Trusts};
+use reporting::{Durations, PairMeasures, RunDurations, RunFindings, Summary};
+use runs::Trusts;
 use scenario::Scenario;
 use std::alloc::{AllocError, Global};
 

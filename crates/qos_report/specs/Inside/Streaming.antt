@@ -4,7 +4,7 @@ use Rattle.trace_laws.specs.ScenarioSetting.{setting_of}
 use Rattle.trace_laws.specs.World.{IsTrace}
 use Rattle.process_api.specs.EntryRecord.{EntryRecord}
 use Rattle.scenario_record.specs.Record.{Record}
-use Rattle.reporting.specs.Printed.{IsTraceWithin}
+use Rattle.runs.specs.Finishing.{IsTraceWithin}
 use Rattle.reporting.specs.ReportText.{Text}
 use Rattle.reporting.specs.Running.{IsRunning, Running, RunningFollowed}
 use Rattle.reporting.specs.TraceText.{Holds, rows_text}

@@ -4,8 +4,8 @@ use crate::traces::{
     CRASH_AT_3, number_of, pid, pid_of, scenario_of, small_number_of, trace_of, word_of,
 };
 use drawing::{DrawError, MOST_LETTERS, draw_letters};
-use letters::{Letter, LetterFate};
 use process_api::{Kind, Pid, Trace};
+use reporting::{Letter, LetterFate};
 use scenario::Scenario;
 use std::alloc::Global;
 use std::process::Abort;

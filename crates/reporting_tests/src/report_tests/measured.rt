@@ -2,7 +2,8 @@
 use crate::comparisons::{NO_MEMORY, same};
 use crate::findings::{Quiet, are_quiet, quiet};
 use crate::traces::{ONE_CRASH, SHARED, scenario_of, trace_of};
-use reporting::{Detection, Meter, PairMeasures, measures};
+use reporting::{Detection, Meter, PairMeasures};
+use runs::measures;
 use std::alloc::Global;
 use std::process::Abort;
 

@@ -8,7 +8,7 @@ use Rattle.trace_laws.specs.Setting.{IsSound}
 use Rattle.process_api.specs.declared.run_error.RunError.TheVariants.{Memory, Write}
 use Rattle.qos_report.proofs.Breaking.{breaks_at_close, breaks_at_opening, breaks_in_rows, breaks_in_write, part_in_header, part_in_report, wrote_printed}
 use Rattle.reporting.proofs.Fed.{if_reason}
-use Rattle.reporting.proofs.Finishing.{finishes}
+use Rattle.runs.proofs.Finishing.{finishes}
 use Rattle.reporting.specs.ReportText.{report_text}
 use Rattle.reporting.specs.Running.{IsTextWhere, Running}
 use Rattle.qos_report.specs.Inside.Streaming.{WroteFront, WroteWhere}

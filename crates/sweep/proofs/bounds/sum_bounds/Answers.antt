@@ -1,5 +1,5 @@
 use Rattle.sweep.proofs.Words.{◌≡◌, ◌+◌, take, sym, ap, ◌∙◌, subst, PairMeasures}
-use Rattle.reporting.specs.Trusts.{trusts_of}
+use Rattle.runs.specs.Trusts.{trusts_of}
 use Rattle.sweep.specs.Columns.{AreBounds}
 use Rattle.sweep.specs.Inside.Adding.{bounds_plus, of_bound}
 use Rattle.sweep.specs.Inside.OwnSums.{IsPair}

@@ -1,5 +1,5 @@
 use Rattle.sweep.proofs.Words.{All, take}
-use Rattle.reporting.specs.Trusts.{trusts_of}
+use Rattle.runs.specs.Trusts.{trusts_of}
 use Rattle.sweep.specs.Columns.{AreBounds}
 use Rattle.sweep.specs.Inside.OwnSums.{IsPair}
 use Rattle.sweep.specs.OneRun.{bounds_of}

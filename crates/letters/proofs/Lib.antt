@@ -1,5 +1,0 @@
-pub mod Ordered
-mod OneStep
-pub mod Coming
-pub mod Numbered
-pub mod Losing

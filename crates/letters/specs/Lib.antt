@@ -1,4 +1,0 @@
-pub mod Letters
-pub mod Traces
-pub mod LettersText
-pub mod Inside

@@ -1,0 +1,11 @@
+use Rattle.std.proofs.Common.{◌≡◌, ◌+◌, ◌*◌, ℕ, take, length, cond, eqb, count_by}
+use Rattle.detector_bounds.specs.Detected.{is_trust}
+use Rattle.runs.specs.Trusts.{AreCounts}
+use Rattle.runs.proofs.trusts.note_all.Given as goal
+
+abbrev pub invariant-loop-one : goal.invariant-loop-one
+invariant-loop-one l = record {
+  square : length l.counts ≡ l.n * l.n;
+  so_far : (of : (q p : ℕ) → ℕ) → AreCounts l.n of l.fn.counts
+      → AreCounts l.n (λ q p. of q p + cond (eqb l.observer q) (count_by (is_trust p) (take l.one-index l.notes)) 0) l.counts;
+}

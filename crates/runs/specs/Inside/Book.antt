@@ -1,0 +1,11 @@
+-- A book of letters, as they are heard of.
+use Rattle.std.specs.Prelude.{◌≡◌, List, ◌++◌, map}
+use Rattle.steps.specs.Posting.{Posted}
+use Rattle.trace_laws.specs.ScenarioSetting.{setting_of}
+use Rattle.runs.specs.Letters.{letter_of}
+use Rattle.runs.specs.declared.book.LetterBook.{LetterBook}
+
+-- the one book is the other with these letters at its end
+pub record HasHeard (old : LetterBook) (posted : List Posted) (new : LetterBook) : Type 0 where
+  pub scenario : new.scenario ≡ old.scenario
+  pub letters : new.letters.items ≡ old.letters.items ++ map (letter_of (setting_of old.scenario.now)) posted

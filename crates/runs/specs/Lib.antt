@@ -1,0 +1,5 @@
+pub mod Letters
+pub mod Trusts
+pub mod Grounds
+pub mod Finishing
+pub mod Inside
