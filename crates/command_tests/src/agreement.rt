@@ -1,9 +1,9 @@
 //! Agreement over links that lose and delay letters: where processes suspect one another all the time, with a detector
 //! that waits for one tick alone, and by freshness points.
 
+use crate::common::{changed, same, seeded};
 use crate::files::FIVE;
 use crate::judged::outcomes_of;
-use crate::runs::{changed, same, seeded};
 use judges::{Answer, Outcome};
 use std::process::Abort;
 

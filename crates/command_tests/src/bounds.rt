@@ -1,7 +1,7 @@
 //! Runs that meet the bounds of their detectors exactly, and runs with a mistake, where a condition fails by one tick.
 
+use crate::common::{NO_MEMORY, changed, same, scenario_of};
 use crate::judged::trace_of;
-use crate::runs::{NO_MEMORY, changed, same, scenario_of};
 use reporting::Detection;
 use runs::measures;
 use std::alloc::Global;

@@ -1,5 +1,5 @@
 //! Inputs that are read, and inputs that are refused.
-use crate::runs::same;
+use crate::common::same;
 use shell::{InputError, read_all};
 use std::io::{self, ErrorKind, Read};
 

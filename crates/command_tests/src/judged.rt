@@ -3,8 +3,8 @@ ghost use Rattle.std.specs.Prelude.{◌≡◌};
 ghost use Rattle.trace_laws.specs.ScenarioSetting.{setting_of};
 ghost use Rattle.trace_laws.specs.World.{IsTrace};
 
+use crate::common::{NO_MEMORY, NO_RUN, same, scenario_of};
 use crate::files::COORDINATORS;
-use crate::runs::{NO_MEMORY, NO_RUN, same, scenario_of};
 use event_list::{law_only_history, run_list};
 use judges::{Answer, Outcome, decisions};
 use machines::machines_of;

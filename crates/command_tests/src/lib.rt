@@ -12,6 +12,8 @@ mod agreement;
 #[cfg(test)]
 mod bounds;
 #[cfg(test)]
+mod common;
+#[cfg(test)]
 mod files;
 #[cfg(test)]
 mod inputs;
@@ -31,8 +33,6 @@ mod progress_lines;
 mod refusals;
 #[cfg(test)]
 mod reports;
-#[cfg(test)]
-mod runs;
 #[cfg(test)]
 mod threads;
 #[cfg(test)]

@@ -1,7 +1,7 @@
 //! Outlets that fail.
 
+use crate::common::{NO_MEMORY, printed, same, served};
 use crate::files::{ONE_CRASH, ONE_PROCESS};
-use crate::runs::{NO_MEMORY, printed, same, served};
 use bench_commands::fault::Fault as BenchFault;
 use qos_report::{FuseOutlet, MemoryOutlet, Outlet, StreamOutlet};
 use reporting::put_all;

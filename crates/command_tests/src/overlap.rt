@@ -4,8 +4,8 @@ ghost use Rattle.process_api.specs.Numbers.{numbers_to};
 ghost use Rattle.scenario_record.specs.Record.{opening_mind};
 ghost use Rattle.windows.specs.Plan.{IsPlanFor};
 
+use crate::common::{NO_MEMORY, NO_RUN, changed, printed, same, scenario_of};
 use crate::files::ONE_CRASH;
-use crate::runs::{NO_MEMORY, NO_RUN, changed, printed, same, scenario_of};
 use machines::Machine;
 use process_api::{Action, Pid, Process, StepInput};
 use qos_report::{MemoryOutlet, Outlet, PrintChoice, bench_list, bench_windows, write_trace};

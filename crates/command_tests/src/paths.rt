@@ -1,7 +1,7 @@
 //! Files by their paths.
 
+use crate::common::{NO_MEMORY, printed, same};
 use crate::files::ONE_CRASH;
-use crate::runs::{NO_MEMORY, printed, same};
 use std::fs;
 
 /// What the programs are told to do with a path, before it and after it.

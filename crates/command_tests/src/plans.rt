@@ -1,7 +1,7 @@
 //! Runs go by the plan that is asked for, and write as their windows close.
 
+use crate::common::{changed, same};
 use crate::files::{FIVE, ONE_CRASH, ONE_PROCESS};
-use crate::runs::{changed, same};
 use bench_commands::{Order, carry_out};
 use process_api::Pid;
 use qos_report::{Outlet, PrintChoice};

@@ -1,6 +1,6 @@
 //! The line of progress, by a clock that the test sets, on a terminal in memory.
 
-use crate::runs::{same, text_of};
+use crate::common::{same, text_of};
 use std::cell::Cell;
 use std::io::{self, Write};
 use std::time::{Clock, Duration};

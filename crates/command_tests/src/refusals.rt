@@ -1,7 +1,7 @@
 //! Files that are too long, and inputs that can't be read.
 
+use crate::common::{NO_MEMORY, same, served};
 use crate::files::ONE_CRASH;
-use crate::runs::{NO_MEMORY, same, served};
 use qos_report::MemoryOutlet;
 use std::alloc::Global;
 use std::io::{self, ErrorKind, Read};

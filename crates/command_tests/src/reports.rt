@@ -1,6 +1,6 @@
 //! The rows of a study beside reports of its runs.
 
-use crate::runs::{NO_MEMORY, printed, same};
+use crate::common::{NO_MEMORY, printed, same};
 use std::alloc::{AllocError, Global};
 use std::process::Abort;
 

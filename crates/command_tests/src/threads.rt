@@ -1,7 +1,7 @@
 //! How many threads share the runs of a study where that isn't said.
 
+use crate::common::{NO_MEMORY, printed, same};
 use crate::files::ONE_CRASH;
-use crate::runs::{NO_MEMORY, printed, same};
 use std::thread::available_parallelism;
 
 /// One for each processor that the program may use, at most 64. `check` tells how many there are.

@@ -1,8 +1,8 @@
 //! Traces and reports, beside the library's numbers of them.
 
+use crate::common::{NO_RUN, same, scenario_of};
 use crate::files::{COORDINATORS, ONE_CRASH, ONE_PROCESS};
 use crate::judged::{ALL_DECIDE, NOTHING, are_outcomes, trace_of};
-use crate::runs::{NO_RUN, same, scenario_of};
 use bench_commands::bench::{Mode, bench};
 use bench_commands::same_bytes;
 use process_api::Trace;
