@@ -32,7 +32,7 @@ mod case;
 mod changes;
 mod fault;
 mod pattern;
-mod runs;
+mod running;
 mod transcript;
 
 use crate::fault::Fault;

@@ -4,7 +4,7 @@ use crate::case::{Case, lines_of};
 use crate::changes::changed;
 use crate::fault::Fault;
 use crate::pattern::rows_with;
-use crate::runs::Ran;
+use crate::running::Ran;
 use std::alloc::{AllocError, Global};
 use std::marker::Sync;
 use std::rt::Files;
