@@ -2,6 +2,7 @@
 use Rattle.std.proofs.Common.{◌≡◌, ℕ, suc, ◌<◌, ◌^◌, Bool, true, false, cond, sym, ap, ◌∙◌, subst, arith, Option, Some, None, is_some, List, [], ◌∷◌, ◌++◌, flat_map, length, take, drop, get_or, append_assoc, Result, Ok, Err, OnOk, OnErr, IfOk, IfErr}
 use Rattle.std.specs.Global.{Vec}
 use Rattle.std.specs.List.{sum_by}
+use Rattle.std.proofs.lemmas.Grind.{flat_map-append}
 use Rattle.std.proofs.lemmas.List.{take-append-drop}
 use Rattle.std.proofs.Math.Seq.{drop-cons}
 use Rattle.process_api.specs.declared.run_error.RunError.{RunError}
@@ -10,9 +11,9 @@ use Rattle.process_api.specs.EntryRecord.{EntryRecord}
 use Rattle.scenario_record.specs.Record.{Record}
 use Rattle.judges.specs.Outcomes.{outcomes}
 use Rattle.judges.specs.Verdicts.{verdicts}
-use Rattle.reporting.specs.Inside.Findings.{second_text, found_text}
-use Rattle.reporting.specs.Measured.{AreFindings, second_verdicts}
-use Rattle.reporting.specs.Measures.{layers, all_measures}
+use Rattle.reporting.specs.Inside.Findings.{found_text, pairs_text, verdicts_text}
+use Rattle.reporting.specs.Measured.{AreFindings}
+use Rattle.reporting.specs.Measures.{layers, layer_measures, all_measures}
 use Rattle.reporting.specs.Printed.{items_of}
 use Rattle.reporting.specs.ReportText.{Text, report_header, run_text, verdict_text, pair_text, decisions_text, report_text}
 use Rattle.reporting.specs.Running.{IsCounting, IsTextWhere}
@@ -27,25 +28,28 @@ counted trace c h small = (omega (arith, h.entries), omega (arith, h.sent, h.sen
 
 -- ---- the report
 
-module _ (S : Record) (trace : List EntryRecord) where
-  second_is : (b : Bool) → second_text (cond b (Some (verdicts S trace 2)) None) ≡ cond b (verdict_text 2 (verdicts S trace 2)) []
-  second_is true = λ i. verdict_text 2 (verdicts S trace 2)
-  second_is false = λ i. []
+module _ (listed : Bool) (S : Record) (trace : List EntryRecord) where
+  pairs_all : flat_map (λ layer. flat_map pair_text (layer_measures S trace layer)) (layers S) ≡ flat_map pair_text (all_measures S trace)
+  unfolding all_measures
+  pairs_all = by (is_some S.share)
+    where
+      by : (b : Bool) → flat_map (λ layer. flat_map pair_text (layer_measures S trace layer)) (cond b (1 ∷ 2 ∷ []) (1 ∷ []))
+          ≡ flat_map pair_text (flat_map (layer_measures S trace) (cond b (1 ∷ 2 ∷ []) (1 ∷ [])))
+      by true =
+          let one = layer_measures S trace 1 in
+          let two = layer_measures S trace 2 in
+          sym (flat_map-append pair_text one (two ++ []) ∙ ap (λ t. flat_map pair_text one ++ t) (flat_map-append pair_text two []))
+      by false = sym (flat_map-append pair_text (layer_measures S trace 1) [])
 
-  pub found_is : (f : RunFindings) → AreFindings S trace f → found_text S.algorithm f ≡ report_text S trace
+  pub found_is : (f : RunFindings) → AreFindings listed S trace f → found_text S.algorithm f ≡ report_text S trace
   unfolding found_text report_text
   found_is f h =
       let s = h.summary in
-      let g : ℕ → Text = λ layer. verdict_text layer (verdicts S trace layer) in
-      let l : g 1 ++ second_text (second_verdicts S trace) ≡ flat_map g (layers S)
-      = ap (λ t. g 1 ++ t) (second_is (is_some S.share)) ∙ layered g (is_some S.share) in
+      let judged = layered listed S trace f h verdicts_text (λ layer. verdict_text layer (verdicts S trace layer)) (λ layer found is. ap (verdict_text layer) is.verdicts) in
+      let measured = layered listed S trace f h pairs_text (λ layer. flat_map pair_text (layer_measures S trace layer)) (λ layer found is. ap (flat_map pair_text) is.measures) ∙ pairs_all in
       (λ i. report_header
       ++ (run_text (s.entries i) (s.sent i) (s.lost i)
-      ++ ((verdict_text 1 (h.first i) ++ second_text (h.second i))
-      ++ (flat_map pair_text (h.measures i) ++ decisions_text S.algorithm (s.decided i)))))
-      ∙ (λ i. report_header
-      ++ (run_text (length trace) (sum_by (λ e. e.sent) trace) (sum_by (λ e. e.lost) trace)
-      ++ (l i ++ (flat_map pair_text (all_measures S trace) ++ decisions_text S.algorithm (outcomes trace S.processes)))))
+      ++ (judged i ++ (measured i ++ decisions_text S.algorithm (s.decided i)))))
 
 -- ---- results
 

@@ -1,29 +1,33 @@
 -- All that is measured of a run.
-use Rattle.std.specs.Prelude.{◌≡◌, List, if◌then◌else◌, true, Option, None, Some, is_some}
+use Rattle.std.specs.Prelude.{◌≡◌, ℕ, Bool, true, Option, None, Some, List, [], ◌++◌, is_some}
 use Rattle.judges.specs.Verdicts.{verdicts}
-use Rattle.judges.specs.declared.verdicts.Verdicts.{Verdicts}
 use Rattle.process_api.specs.EntryRecord.{EntryRecord}
+use Rattle.process_api.specs.Following.{IsWhere}
 use Rattle.scenario_record.specs.Record.{Record}
 use Rattle.reporting.specs.Durations.{AreDurations}
-use Rattle.reporting.specs.Measures.{all_measures}
+use Rattle.reporting.specs.Measures.{layer_measures}
 use Rattle.reporting.specs.Summary.{IsSummary}
-use Rattle.reporting.specs.declared.durations.RunDurations.{RunDurations}
+use Rattle.reporting.specs.declared.findings.LayerFindings.{LayerFindings}
 use Rattle.reporting.specs.declared.findings.RunFindings.{RunFindings}
 
--- the verdicts on layer 2, where there is a reduction
-abbrev pub second_verdicts : Record → List EntryRecord → Option Verdicts
-second_verdicts S trace = if is_some S.share then Some (verdicts S trace 2) else None
+module _ (listed : Bool) (S : Record) (trace : List EntryRecord) where
+  -- of a trace on a layer: its verdicts, the measures of all pairs and, where they are listed, how long mistakes were
+  pub record AreLayerFindings (layer : ℕ) (found : LayerFindings) : Type 0 where
+    pub verdicts : found.verdicts ≡ verdicts S trace layer
+    pub measures : found.measures.items ≡ layer_measures S trace layer
+    pub durations : listed ≡ true → AreDurations S layer trace found.durations
 
-module _ (S : Record) where
-  -- of a trace: its summary, the verdicts on layer 1 and, where there is a reduction, on layer 2, and the measures of
-  -- all pairs
-  pub record AreFindings (trace : List EntryRecord) (found : RunFindings) : Type 0 where
+  -- of a trace: its summary, and what is found on layer 1 and, where there is a reduction, on layer 2
+  pub record AreFindings (found : RunFindings) : Type 0 where
     pub summary : IsSummary S trace found.summary
-    pub first : found.first ≡ verdicts S trace 1
-    pub second : found.second ≡ second_verdicts S trace
-    pub measures : found.measures.items ≡ all_measures S trace
+    pub first : AreLayerFindings 1 found.first
+    pub second : IsWhere (is_some S.share) (AreLayerFindings 2) found.second
 
-  -- how long each mistake of a trace was that ended
-  pub record AreRunDurations (trace : List EntryRecord) (durations : RunDurations) : Type 0 where
-    pub first : AreDurations S 1 trace durations.first
-    pub second : is_some S.share ≡ true → AreDurations S 2 trace durations.second
+-- what is made of the findings on each layer, of layer 1 first
+module _ {X : Type 0} (of : ℕ → LayerFindings → List X) where
+  abbrev pub of_second : Option LayerFindings → List X
+  of_second None = []
+  of_second (Some found) = of 2 found
+
+  abbrev pub of_layers : RunFindings → List X
+  of_layers found = of 1 found.first ++ of_second found.second

@@ -103,10 +103,6 @@ unfoldable pub layer_measures : Record → List EntryRecord → (layer : ℕ) �
 layer_measures S trace layer =
     flat_map (λ q. map (pair_measures S trace layer q) (others S.processes q)) (numbers_to S.processes)
 
--- those on layer 2, where there is a reduction
-abbrev pub second_measures : Record → List EntryRecord → List PairMeasures
-second_measures S trace = if is_some S.share then layer_measures S trace 2 else []
-
 -- all measures of a run, layer by layer
 unfoldable pub all_measures : Record → List EntryRecord → List PairMeasures
 all_measures S trace = flat_map (layer_measures S trace) (layers S)

@@ -118,12 +118,3 @@ impl Durations {
         }
     }
 }
-
-/// How long each mistake of a run was that ended.
-#[derive(Drop)]
-pub struct RunDurations {
-    /// On layer 1.
-    pub first: Durations,
-    /// On layer 2, where there is a reduction.
-    pub second: Durations,
-}

@@ -1,16 +1,14 @@
 //! The state that is kept of a layer.
-ghost use Rattle.std.specs.Prelude.{◌≡◌, ◌++◌, [], Bool, List, ℕ, true, IfOk, OnOk};
+ghost use Rattle.std.specs.Prelude.{◌≡◌, [], Bool, List, ℕ, true, IfOk};
 ghost use Rattle.process_api.specs.EntryRecord.{EntryRecord};
 ghost use Rattle.scenario_record.specs.Record.{Record};
-ghost use Rattle.judges.specs.Verdicts.{verdicts};
-ghost use Rattle.reporting.specs.Durations.{AreDurations};
-ghost use Rattle.reporting.specs.Measures.{layer_measures};
+ghost use Rattle.reporting.specs.Measured.{AreLayerFindings};
 
 use crate::durations::Durations;
+use crate::findings::LayerFindings;
 use crate::ledger::Ledger;
-use crate::pair_measures::PairMeasures;
 use crate::panel::close_rows;
-use judges::{Pairs, Verdicts, grid_verdicts};
+use judges::{Pairs, grid_verdicts};
 use process_api::{Entry, Follower};
 use scenario_record::Scenario;
 use std::alloc::{AllocError, Global};
@@ -49,22 +47,19 @@ impl Layer {
         })
     }
 
-    /// The verdicts and the lengths, as no entry follows; the measures join the rows.
-    pub(crate) fn close(
-        self,
-        rows: &mut Vec<PairMeasures>,
-    ) -> Result<(Verdicts, Durations), AllocError>
-        ensures verdicts { IfOk result (λ told. (listed : Bool) (S : Record) (layer : ℕ) (trace : List EntryRecord)
-            → IsLayer listed S layer trace self → told.0 ≡ verdicts S trace layer) }
-        ensures lengths { IfOk result (λ told. (S : Record) (layer : ℕ) (trace : List EntryRecord)
-            → IsLayer true S layer trace self → AreDurations S layer trace told.1) }
-        ensures measures { OnOk result ((listed : Bool) (S : Record) (layer : ℕ) (trace : List EntryRecord)
-            → IsLayer listed S layer trace self → rows.new.items ≡ rows.old.items ++ layer_measures S trace layer) }
+    /// What was found, as no entry follows.
+    pub(crate) fn close(self, alloc: Global) -> Result<LayerFindings, AllocError>
+        ensures { IfOk result (λ found. (listed : Bool) (S : Record) (layer : ℕ) (trace : List EntryRecord)
+            → IsLayer listed S layer trace self → AreLayerFindings listed S trace layer found) }
     {
         let Layer { pairs, mut lengths } = self;
         lengths.close(&pairs)?;
-        close_rows(&pairs, rows)?;
-        Ok((grid_verdicts(&pairs), lengths))
+        let measures = close_rows(alloc, &pairs)?;
+        Ok(LayerFindings {
+            verdicts: grid_verdicts(&pairs),
+            measures,
+            durations: lengths,
+        })
     }
 }
 

@@ -13,8 +13,8 @@
 //! - Whoever follows a run is opened, told the run's entries as they come, and closed. What is told in the end is that
 //!   of these entries, by definition (`specs/Running.antt`): by [`open_running`] and [`close_running`] the [`Summary`],
 //!   and the report where it is asked for; by [`open_recording`] and [`write_recorded`] also the text of the trace; by
-//!   [`open_measuring`] and [`close_measuring`] all that is measured, with no text: the [`RunFindings`], and how long
-//!   each mistake was that ended (`specs/Measured.antt`, `specs/Durations.antt`).
+//!   [`open_measuring`] and [`close_measuring`] all that is measured, with no text: the [`RunFindings`], of each layer
+//!   in one shape (`specs/Measured.antt`).
 //! - [`Meter`] gives the measures of one pair on one layer with no trace at hand: it is fed with the entries as they
 //!   come (`specs/MeterFed.antt`).
 //! - [`write_trace`] and [`write_report`] write one text of any trace, whole or a front part (`specs/Writing.antt`).
@@ -66,8 +66,8 @@ mod writing;
 
 pub use asked::{prints_report, prints_trace};
 pub use counts::Counts;
-pub use durations::{Durations, RunDurations};
-pub use findings::RunFindings;
+pub use durations::Durations;
+pub use findings::{LayerFindings, RunFindings};
 pub use following::{
     Layers, Measuring, Recording, Running, Summing, open_measuring, open_recording, open_running,
 };

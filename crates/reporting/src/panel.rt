@@ -1,5 +1,5 @@
 //! The counts of all pairs on one layer, and the numbers that are told of them.
-ghost use Rattle.std.specs.Prelude.{◌≡◌, ℕ, ◌*◌, ◌++◌, ◌<◌, List, OnOk};
+ghost use Rattle.std.specs.Prelude.{◌≡◌, ℕ, ◌*◌, ◌++◌, ◌<◌, List, IfOk, OnOk};
 ghost use Rattle.process_api.specs.EntryRecord.{EntryRecord};
 ghost use Rattle.scenario_record.specs.Record.{Record};
 ghost use Rattle.reporting.specs.Durations.{tally_at};
@@ -11,7 +11,7 @@ use crate::meter::{Meter, crash_between};
 use crate::pair_measures::PairMeasures;
 use crate::tally::Tally;
 use judges::Pairs;
-use std::alloc::AllocError;
+use std::alloc::{AllocError, Global};
 
 /// The meter of an observer and a subject, each by how many processes come before it.
 fn meter_at(pairs: &Pairs<Ledger>, row: usize, column: usize) -> Meter
@@ -69,16 +69,17 @@ pub(crate) fn tally_at(pairs: &Pairs<Ledger>, place: usize, closed: bool) -> Tal
     }
 }
 
-/// Adds the measures of each observer and each other subject, as no entry follows.
+/// The measures of each observer and each other subject, as no entry follows.
 pub(crate) fn close_rows(
+    alloc: Global,
     pairs: &Pairs<Ledger>,
-    rows: &mut Vec<PairMeasures>,
-) -> Result<(), AllocError>
-    ensures { OnOk result ((S : Record) (layer : ℕ) (trace : List EntryRecord) → IsMetering S layer trace pairs.now
-        → rows.new.items ≡ rows.old.items ++ layer_measures S trace layer) }
+) -> Result<Vec<PairMeasures>, AllocError>
+    ensures { IfOk result (λ rows. (S : Record) (layer : ℕ) (trace : List EntryRecord)
+        → IsMetering S layer trace pairs.now → rows.items ≡ layer_measures S trace layer) }
 {
+    let mut rows = Vec::new(alloc);
     for row in 0..pairs.processes() {
-        close_row(pairs, row, rows)?;
+        close_row(pairs, row, &mut rows)?;
     }
-    Ok(())
+    Ok(rows)
 }

@@ -1,7 +1,8 @@
 //! The text of a report.
 ghost use Rattle.std.specs.Prelude.{◌≡◌, ◌++◌, IfOk, OnOk};
 ghost use Rattle.std.specs.List.{flat_map};
-ghost use Rattle.reporting.specs.Inside.Findings.{found_text, layers_text};
+ghost use Rattle.reporting.specs.Inside.Findings.{found_text, pairs_text, verdicts_text};
+ghost use Rattle.reporting.specs.Measured.{of_layers};
 ghost use Rattle.reporting.specs.ReportText.{pair_text, decision_text, decisions_text};
 ghost use Rattle.reporting.specs.Rows.{IsBetweenRows, text_of};
 
@@ -17,19 +18,19 @@ use std::alloc::{AllocError, Global};
 const HEADER: &[u8] = b"section,layer,observer,subject,measure,value\n";
 
 /// Adds the rows of the verdicts: of layer 1, and of layer 2 where there is a reduction.
-fn push_layers(rows: &mut Rows, findings: &RunFindings) -> Result<(), AllocError>
+fn push_all_verdicts(rows: &mut Rows, findings: &RunFindings) -> Result<(), AllocError>
     requires { IsBetweenRows rows.old }
     ensures between { OnOk result (IsBetweenRows rows.new) }
-    ensures text { OnOk result (text_of rows.new ≡ text_of rows.old ++ layers_text findings.now) }
+    ensures text { OnOk result (text_of rows.new ≡ text_of rows.old ++ of_layers verdicts_text findings.now) }
 {
-    push_verdicts(rows, 1, &findings.first)?;
+    push_verdicts(rows, 1, &findings.first.verdicts)?;
     match &findings.second {
         None => Ok(()),
-        Some(second) => push_verdicts(rows, 2, second),
+        Some(second) => push_verdicts(rows, 2, &second.verdicts),
     }
 }
 
-/// Adds the rows of the measures of all pairs.
+/// Adds the rows of the measures of all pairs on a layer.
 fn push_pairs(rows: &mut Rows, measures: &[PairMeasures]) -> Result<(), AllocError>
     requires { IsBetweenRows rows.old }
     ensures between { OnOk result (IsBetweenRows rows.new) }
@@ -39,6 +40,19 @@ fn push_pairs(rows: &mut Rows, measures: &[PairMeasures]) -> Result<(), AllocErr
         push_pair(rows, pair)?;
     }
     Ok(())
+}
+
+/// Adds the rows of the measures of all pairs: on layer 1, and on layer 2 where there is a reduction.
+fn push_all_pairs(rows: &mut Rows, findings: &RunFindings) -> Result<(), AllocError>
+    requires { IsBetweenRows rows.old }
+    ensures between { OnOk result (IsBetweenRows rows.new) }
+    ensures text { OnOk result (text_of rows.new ≡ text_of rows.old ++ of_layers pairs_text findings.now) }
+{
+    push_pairs(rows, &findings.first.measures)?;
+    match &findings.second {
+        None => Ok(()),
+        Some(second) => push_pairs(rows, &second.measures),
+    }
 }
 
 /// Adds the rows of the outcomes.
@@ -84,8 +98,8 @@ pub(crate) fn text_of_report(
 {
     let mut rows = Rows::new(alloc, HEADER)?;
     push_run(&mut rows, &findings.summary)?;
-    push_layers(&mut rows, findings)?;
-    push_pairs(&mut rows, &findings.measures)?;
+    push_all_verdicts(&mut rows, findings)?;
+    push_all_pairs(&mut rows, findings)?;
     push_decisions(&mut rows, algorithm, &findings.summary.outcomes)?;
     rows.into_text()
 }

@@ -1,24 +1,20 @@
 //! The numbers that are told of a run, once no entry follows.
-ghost use Rattle.std.specs.Prelude.{◌≡◌, ◌<◌, ◌^◌, ◌++◌, Bool, List, true, is_some, IfOk, OnOk, length};
+ghost use Rattle.std.specs.Prelude.{◌≡◌, ◌<◌, ◌^◌, ◌++◌, Bool, List, is_some, IfOk, length};
 ghost use Rattle.process_api.specs.EntryRecord.{EntryRecord};
+ghost use Rattle.process_api.specs.Following.{IsWhere};
 ghost use Rattle.process_api.specs.declared.print_choice.PrintChoice.{PrintChoice};
 ghost use Rattle.scenario_record.specs.Record.{Record};
-ghost use Rattle.reporting.specs.Durations.{AreDurations};
-ghost use Rattle.reporting.specs.Measured.{AreFindings, AreRunDurations, second_verdicts};
-ghost use Rattle.reporting.specs.Measures.{second_measures};
+ghost use Rattle.reporting.specs.Measured.{AreFindings, AreLayerFindings};
 ghost use Rattle.reporting.specs.Printed.{items_of};
 ghost use Rattle.reporting.specs.Running.{IsMeasuring, IsRecording, IsRunning, IsSecond, IsSumming, IsToldOf, TellsRun, rows_of};
 ghost use Rattle.reporting.specs.Summary.{IsSummary};
 
-use crate::durations::{Durations, RunDurations};
-use crate::findings::RunFindings;
+use crate::findings::{LayerFindings, RunFindings};
 use crate::following::{Measuring, Recording, Running, Summing};
 use crate::layer::Layer;
-use crate::pair_measures::PairMeasures;
 use crate::report::text_of_report;
 use crate::summary::Summary;
 use crate::trace_text::TraceText;
-use judges::Verdicts;
 use scenario_record::Scenario;
 use std::alloc::{AllocError, Global};
 
@@ -36,58 +32,38 @@ fn sum_up(summing: Summing) -> Summary
     }
 }
 
-/// The verdicts and the lengths on layer 2, where there is a reduction; the measures join the rows.
-fn close_second(
-    alloc: Global,
-    second: Option<Layer>,
-    rows: &mut Vec<PairMeasures>,
-) -> Result<(Option<Verdicts>, Durations), AllocError>
-    ensures verdicts { IfOk result (λ told. (listed : Bool) (S : Record) (trace : List EntryRecord)
-        → IsSecond listed S trace second → told.0 ≡ second_verdicts S trace) }
-    ensures lengths { IfOk result (λ told. (S : Record) (trace : List EntryRecord)
-        → IsSecond true S trace second → is_some S.share ≡ true → AreDurations S 2 trace told.1) }
-    ensures measures { OnOk result ((listed : Bool) (S : Record) (trace : List EntryRecord)
-        → IsSecond listed S trace second → rows.new.items ≡ rows.old.items ++ second_measures S trace) }
+/// What was found on layer 2, where there is a reduction.
+fn close_second(alloc: Global, second: Option<Layer>) -> Result<Option<LayerFindings>, AllocError>
+    ensures { IfOk result (λ found. (listed : Bool) (S : Record) (trace : List EntryRecord)
+        → IsSecond listed S trace second → IsWhere (is_some S.share) (AreLayerFindings listed S trace 2) found) }
 {
     match second {
-        None => Ok((None, Durations::open(alloc, 0)?)),
+        None => Ok(None),
         Some(layer) => {
-            let (verdicts, lengths) = layer.close(rows)?;
-            Ok((Some(verdicts), lengths))
+            let found = layer.close(alloc)?;
+            Ok(Some(found))
         }
     }
 }
 
-/// What was found, and how long each mistake was where they were listed.
+/// What was found. How long each mistake was is told where that was listed.
 ///
 /// # Errors
 ///
 /// Where a growth was refused.
-pub fn close_measuring(
-    alloc: Global,
-    measuring: Measuring,
-) -> Result<(RunFindings, RunDurations), AllocError>
-    ensures found { IfOk result (λ told. (listed : Bool) (S : Record) (trace : List EntryRecord)
-        → IsMeasuring listed S trace measuring → length trace < 2 ^ 64 → AreFindings S trace told.0) }
-    ensures lasted { IfOk result (λ told. (S : Record) (trace : List EntryRecord)
-        → IsMeasuring true S trace measuring → AreRunDurations S trace told.1) }
+pub fn close_measuring(alloc: Global, measuring: Measuring) -> Result<RunFindings, AllocError>
+    ensures { IfOk result (λ found. (listed : Bool) (S : Record) (trace : List EntryRecord)
+        → IsMeasuring listed S trace measuring → length trace < 2 ^ 64 → AreFindings listed S trace found) }
 {
     let (summing, (first, second)) = measuring;
-    let mut measures = Vec::new(alloc);
-    let (verdicts, lengths) = first.close(&mut measures)?;
-    let (second, second_lengths) = close_second(alloc, second, &mut measures)?;
-    Ok((
-        RunFindings {
-            summary: sum_up(summing),
-            first: verdicts,
-            second,
-            measures,
-        },
-        RunDurations {
-            first: lengths,
-            second: second_lengths,
-        },
-    ))
+    let first = first.close(alloc)?;
+    let second = close_second(alloc, second)?;
+    let summary = sum_up(summing);
+    Ok(RunFindings {
+        summary,
+        first,
+        second,
+    })
 }
 
 /// The summary, and the text of the report where it is asked for.
@@ -108,7 +84,7 @@ pub fn close_running(
     match layers {
         None => Ok((sum_up(summing), None)),
         Some(layers) => {
-            let (found, _durations) = close_measuring(alloc, (summing, layers))?;
+            let found = close_measuring(alloc, (summing, layers))?;
             let report = text_of_report(alloc, scenario.algorithm(), &found)?;
             Ok((found.summary, Some(report)))
         }

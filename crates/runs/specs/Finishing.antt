@@ -1,5 +1,5 @@
 -- What a run leaves and tells.
-use Rattle.std.specs.Prelude.{◌≡◌, ◌≢◌, ◌⊎◌, ◌<◌, ◌≤◌, ◌*◌, ◌^◌, ℕ, List, ◌++◌, length, Option, IsTrue}
+use Rattle.std.specs.Prelude.{◌≡◌, ◌≢◌, ◌⊎◌, ◌<◌, ◌≤◌, ◌*◌, ◌^◌, ℕ, true, List, ◌++◌, length, Option, IsTrue}
 use Rattle.process_api.specs.EntryRecord.{EntryRecord}
 use Rattle.process_api.specs.declared.print_choice.PrintChoice.{PrintChoice}
 use Rattle.process_api.specs.declared.print_choice.PrintChoice.TheVariants as choice
@@ -11,13 +11,12 @@ use Rattle.trace_laws.specs.Effects.{HasCauses, TakesOnce}
 use Rattle.trace_laws.specs.ScenarioSetting.{setting_of}
 use Rattle.trace_laws.specs.World.{IsTrace}
 use Rattle.judges.specs.Agreement.{Agree, DecidesOnce}
-use Rattle.reporting.specs.Measured.{AreFindings, AreRunDurations}
+use Rattle.reporting.specs.Measured.{AreFindings}
 use Rattle.reporting.specs.Printed.{printed, prints_trace}
 use Rattle.reporting.specs.ReportText.{Text}
 use Rattle.reporting.specs.Summary.{IsSummary}
 use Rattle.reporting.specs.TraceText.{trace_text}
 use Rattle.reporting.specs.Writing.{Wrote, WrotePart, WroteNothing}
-use Rattle.reporting.specs.declared.durations.RunDurations.{RunDurations}
 use Rattle.reporting.specs.declared.findings.RunFindings.{RunFindings}
 use Rattle.reporting.specs.declared.summary.Summary.{Summary}
 use Rattle.runs.specs.Grounds.{HasGrounds}
@@ -80,11 +79,10 @@ module _ (S : Record) (print : PrintChoice) {O : Type 0} (told : O → Option Te
     pub limit : reason ≡ Limit → S.limit < length trace
 
 -- a run is measured: what was found is that of the scenario's trace, which is within its limit
-pub record MeasuresRun (S : Record) (found : RunFindings) (durations : RunDurations) (trusts : Trusts) : Type 0 where
+pub record MeasuresRun (S : Record) (found : RunFindings) (trusts : Trusts) : Type 0 where
   pub trace : List EntryRecord
   pub is_within : IsTraceWithin S trace
-  pub measured : AreFindings S trace found
-  pub lasted : AreRunDurations S trace durations
+  pub measured : AreFindings true S trace found
   pub trusted : AreTrusts S.processes trace trusts
   -- each entry has less than 2^32 letters
   pub sent_high : found.summary.sent ≤ length trace * 2 ^ 32

@@ -9,7 +9,7 @@ ghost use Rattle.scenario_record.specs.Record.{opening_mind};
 use crate::trusts::Trusts;
 use event_list::{Nobody, RunError, run_list_into};
 use process_api::Process;
-use reporting::{RunDurations, RunFindings, close_measuring, open_measuring};
+use reporting::{RunFindings, close_measuring, open_measuring};
 use scenario_record::Scenario;
 use std::alloc::Global;
 
@@ -31,10 +31,10 @@ pub fn measure_list<M: Process>(
     alloc: Global,
     scenario: &Scenario,
     machines: Vec<M>,
-) -> Result<(RunFindings, RunDurations, Trusts), RunError>
+) -> Result<(RunFindings, Trusts), RunError>
     requires machines { map M.mind machines.items
         ≡ map (opening_mind scenario.now) (numbers_to scenario.now.processes) }
-    ensures done { IfOk result (λ told. MeasuresRun scenario.now told.0 told.1 told.2) }
+    ensures done { IfOk result (λ told. MeasuresRun scenario.now told.0 told.1) }
     ensures errors { IfErr result IsRefusal }
     ensures limit { IsErrOf result RunError.Limit → IsTooLong (setting_of scenario.now) scenario.now.limit }
 {
@@ -44,6 +44,6 @@ pub fn measure_list<M: Process>(
     let mut followers = (measuring, trusts);
     run_list_into(alloc, scenario, machines, &mut followers, &mut Nobody)?;
     let (measuring, trusts) = followers;
-    let (findings, durations) = close_measuring(alloc, measuring)?;
-    Ok((findings, durations, trusts))
+    let findings = close_measuring(alloc, measuring)?;
+    Ok((findings, trusts))
 }

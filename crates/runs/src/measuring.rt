@@ -44,6 +44,6 @@ pub fn measures(
     let _ticks = scenario.horizon();
     let mut measuring = open_measuring(alloc, scenario, false)?;
     follow_all(&mut measuring, trace.entries())?;
-    let (found, _durations) = close_measuring(alloc, measuring)?;
-    Ok(found.measures)
+    let found = close_measuring(alloc, measuring)?;
+    found.into_measures()
 }

@@ -22,7 +22,7 @@ use Rattle.runs.specs.Trusts.{AreTrusts, most_trusts, trusts_of}
 use Rattle.reporting.specs.declared.pair_measures.Detection.{Detection}
 use Rattle.reporting.specs.declared.pair_measures.Detection.TheVariants.{Na, NoTick, At}
 use Rattle.runs.specs.declared.trusts.Trusts.{Trusts}
-use Rattle.reporting.proofs.Layers.{one_layer, two_layers}
+use Rattle.reporting.proofs.Layers.{first_layer}
 use Rattle.sweep.specs.Columns.{AreBounds, IsAwaited, detection_bound}
 use Rattle.sweep.specs.Groups.{is_in}
 use Rattle.sweep.specs.Inside.Adding.{bounds_plus, of_bound}
@@ -228,15 +228,11 @@ module _ (S : Record) (trace : List EntryRecord) where
       (found.0, found.1, omega (arith, found.2, its.1))
 
   first_bounded : All (IsBounded S trace) (all_measures S trace) → All (IsBounded S trace) (layer_measures S trace 1)
-  first_bounded all = by (is_some S.share) refl
-    where
-      by : (b : Bool) → is_some S.share ≡ b → All (IsBounded S trace) (layer_measures S trace 1)
-      by true shared =
-          let one = layer_measures S trace 1 in
-          let two = layer_measures S trace 2 in
-          subst (All (IsBounded S trace)) (take-append_seam one two)
-          (All-take (IsBounded S trace) (length one) (one ++ two) (subst (All (IsBounded S trace)) (sym (two_layers S trace shared)) all))
-      by false alone = subst (All (IsBounded S trace)) (sym (one_layer S trace alone)) all
+  first_bounded all =
+      let one = layer_measures S trace 1 in
+      let others = flat_map (layer_measures S trace) (drop 1 (layers S)) in
+      subst (All (IsBounded S trace)) (take-append_seam one others)
+      (All-take (IsBounded S trace) (length one) (one ++ others) (subst (All (IsBounded S trace)) (first_layer S trace) all))
 
   pub all_kept : (group : Group) → HasGrounds S trace → All (IsKept S trace) (counted_pairs group 1 (record { scenario = S; trace = trace }))
   all_kept group grounds =

@@ -1,12 +1,12 @@
 -- What one run gives, layer by layer.
-use Rattle.sweep.proofs.Words.{◌≡◌, ℕ, zero, suc, ◌+◌, ◌*◌, ◌/◌, ◌^◌, ◌≤◌, Bool, true, false, ◌&&◌, cond, is_some, None, Some, List, [], ◌∷◌, ◌++◌, length, sym, ap, ◌∙◌, refl, subst, arith, append-nil, length-append, map, unwrap_or, true≢false, le_trans, zero-add, nat_lt, All, cons_option, count_by, filter_map, flat_map, list_all, sum_by, mul-le-mul_right, length-map, All-filter, sum_by-le, length-filter, count_by-le-length, end_of, verdicts, Verdicts, EntryRecord, numbers_to, others, AreFindings, RunFindings, Record, IsInRange, PairMeasures, of_verdicts, has_layer, on_layer, finished_of, done_on, all_durations, all_detections, last_decisions, top_rounds, is_limited, AreDoneSums, AreRunCounts, AreVerdictCounts, AreTraceSums, ArePairSums, AreDecisionSums, most_of, most_mistakes, IsLayerWithin, AreTracesWithin, ArePairsWithin, AreDecisionsWithin, Finished, counts_on, counted_of, counted_pairs, pair_ticks, mistakes, has_mistake, durations, detections, detection_time, is_undetected, has_decided, do_disagree, is_to_decide, deciding_of, do_all_decide, is_undecided, last_decision, top_round, run_outcomes, deciding, Trial, done_run, AreFitting, AreLayerFindings, Group, DecisionSums, LayerSums, PairSums}
+use Rattle.sweep.proofs.Words.{◌≡◌, ℕ, zero, suc, ◌+◌, ◌*◌, ◌/◌, ◌^◌, ◌≤◌, Bool, true, false, ◌&&◌, cond, is_some, None, Some, List, [], ◌∷◌, ◌++◌, length, sym, ap, ◌∙◌, refl, subst, arith, append-nil, length-append, map, unwrap_or, true≢false, le_trans, zero-add, nat_lt, All, cons_option, count_by, filter_map, flat_map, list_all, sum_by, mul-le-mul_right, length-map, All-filter, sum_by-le, length-filter, count_by-le-length, end_of, verdicts, Verdicts, EntryRecord, numbers_to, others, AreFindings, RunFindings, Record, IsInRange, PairMeasures, of_verdicts, has_layer, on_layer, finished_of, done_on, all_durations, all_detections, last_decisions, top_rounds, is_limited, AreDoneSums, AreRunCounts, AreVerdictCounts, AreTraceSums, ArePairSums, AreDecisionSums, most_of, most_mistakes, IsLayerWithin, AreTracesWithin, ArePairsWithin, AreDecisionsWithin, Finished, counts_on, counted_of, counted_pairs, pair_ticks, mistakes, has_mistake, durations, detections, detection_time, is_undetected, has_decided, do_disagree, is_to_decide, deciding_of, do_all_decide, is_undecided, last_decision, top_round, run_outcomes, deciding, Trial, done_run, AreFitting, IsMeasured, Group, DecisionSums, LayerSums, PairSums}
 use Rattle.std.proofs.lemmas.List.Concat.{length-flat_map}
 use Rattle.judges.specs.Out.{suspects}
 use Rattle.judges.specs.Outcomes.{outcome, outcomes}
 use Rattle.process_api.proofs.Numbering.{length-numbers_to, length-filter_to}
 use Rattle.reporting.specs.Distances.{count_below}
 use Rattle.reporting.specs.Measures.{layer_measures, pair_measures, starts}
-use Rattle.reporting.proofs.Layers.{one_layer, two_layers}
+use Rattle.reporting.specs.declared.findings.LayerFindings.{LayerFindings}
 use Rattle.reporting.specs.declared.summary.Summary.{Summary}
 use Rattle.runs.specs.Grounds.{HasGrounds}
 use Rattle.std.proofs.lemmas.List.Elements.{All-cons, All-nil}
@@ -36,33 +36,6 @@ module _ (S : Record) (trace : List EntryRecord) where
 
   pub few_outcomes : IsInRange S → length (outcomes trace S.processes) ≤ 256
   few_outcomes ranges = omega (arith, length-map (numbers_to S.processes) (outcome trace), length-numbers_to S.processes, ranges.processes_high)
-
-  -- ---- the measures of each layer
-
-  module _ (found : RunFindings) (are : AreFindings S trace found) where
-    pub alone : found.second ≡ None → is_some S.share ≡ false
-    alone none = by (is_some S.share) (sym are.second ∙ none)
-      where
-        by : (b : Bool) → cond b (Some (verdicts S trace 2)) None ≡ None → b ≡ false
-        by true p = absurd (true≢false (ap is_some p))
-        by false p = refl
-
-    pub shared : (v : Verdicts) → found.second ≡ Some v → (is_some S.share ≡ true) × (v ≡ verdicts S trace 2)
-    shared v some = by (is_some S.share) (sym are.second ∙ some)
-      where
-        by : (b : Bool) → cond b (Some (verdicts S trace 2)) None ≡ Some v → (b ≡ true) × (v ≡ verdicts S trace 2)
-        by true p = (refl, sym (ap (λ o. unwrap_or o v) p))
-        by false p = absurd (true≢false (sym (ap is_some p)))
-
-    pub first_alone : found.second ≡ None → found.measures.items ≡ layer_measures S trace 1
-    first_alone none = are.measures ∙ sym (one_layer S trace (alone none))
-
-    pub both_layers : (v : Verdicts) → found.second ≡ Some v → found.measures.items ≡ layer_measures S trace 1 ++ layer_measures S trace 2
-    both_layers v some = are.measures ∙ sym (two_layers S trace (shared v some).0)
-
-    pub half : (v : Verdicts) → found.second ≡ Some v → length found.measures.items / 2 ≡ length (layer_measures S trace 1)
-    half v some =
-        omega (arith, ap length (both_layers v some), length-append (layer_measures S trace 1) (layer_measures S trace 2), pairs_of 1, pairs_of 2)
 
 -- ---- mistakes
 
@@ -145,14 +118,14 @@ module _ (group : Group) (layer : ℕ) (S : Record) (trace : List EntryRecord) (
   pub rounds_one : top_rounds layer (trial ∷ []) ≡ cons_option (top_round (run_outcomes one)) []
   rounds_one = ap (filter_map (λ r. top_round (run_outcomes r))) done_one
 
-  module _ (summary : Summary) (v : Verdicts) (pairs counted : List PairMeasures) (sums : LayerSums)
-      (found : AreLayerFindings layer S trace summary v pairs) (is : counted ≡ counted_of group layer S pairs)
+  module _ (summary : Summary) (on : LayerFindings) (counted : List PairMeasures) (sums : LayerSums)
+      (found : IsMeasured layer S trace summary on) (is : counted ≡ counted_of group layer S on.measures.items)
       (its : DetectionBounds) (kept : AreBounds (bounds group layer one) its)
-      (decisions : DecisionSums) (own : AreOwnSums S summary v counted its (deciding_of S summary.outcomes.items) decisions sums)
+      (decisions : DecisionSums) (own : AreOwnSums S summary on.verdicts counted its (deciding_of S summary.outcomes.items) decisions sums)
       (decided : AreDecisionSums (deciding_of S summary.outcomes.items) decisions)
       (d : AreDecisionsWithin (length (deciding_of S summary.outcomes.items) * 2 ^ 64) decisions) where
     counted_is : counted ≡ counted_pairs group layer one
-    counted_is = is ∙ ap (counted_of group layer S) found.measured
+    counted_is = is ∙ ap (counted_of group layer S) found.found.measures
 
     deciding_is : deciding_of S summary.outcomes.items ≡ deciding one
     deciding_is = ap (deciding_of S) found.summed.decided
@@ -165,7 +138,7 @@ module _ (group : Group) (layer : ℕ) (S : Record) (trace : List EntryRecord) (
     })
 
     verdicts_one : AreVerdictCounts layer (one ∷ []) sums.verdicts
-    verdicts_one = subst (AreVerdictCounts layer (one ∷ [])) (sym (own.verdicts ∙ ap of_verdicts found.judged)) (record {
+    verdicts_one = subst (AreVerdictCounts layer (one ∷ [])) (sym (own.verdicts ∙ ap of_verdicts found.found.verdicts)) (record {
       strong_completeness = omega arith;
       weak_completeness = omega arith;
       strong_accuracy = omega arith;

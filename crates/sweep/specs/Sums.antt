@@ -1,16 +1,12 @@
 -- What it is that runs were added up.
 use Rattle.std.specs.Prelude.{◌≡◌, ℕ, ◌+◌, ◌*◌, ◌^◌, ◌<◌, ◌≤◌, List, [], ◌∷◌, ◌++◌, length, true}
 use Rattle.std.specs.List.{All, AllZip, cons_option}
-use Rattle.judges.specs.Verdicts.{verdicts}
-use Rattle.judges.specs.declared.verdicts.Verdicts.{Verdicts}
 use Rattle.process_api.specs.EntryRecord.{EntryRecord}
-use Rattle.reporting.specs.Durations.{AreDurations}
 use Rattle.runs.specs.Grounds.{HasGrounds}
-use Rattle.reporting.specs.Measures.{layer_measures}
+use Rattle.reporting.specs.Measured.{AreLayerFindings}
 use Rattle.reporting.specs.Summary.{IsSummary}
 use Rattle.runs.specs.Trusts.{AreTrusts}
-use Rattle.reporting.specs.declared.durations.Durations.{Durations}
-use Rattle.reporting.specs.declared.pair_measures.PairMeasures.{PairMeasures}
+use Rattle.reporting.specs.declared.findings.LayerFindings.{LayerFindings}
 use Rattle.reporting.specs.declared.summary.Summary.{Summary}
 use Rattle.runs.specs.declared.trusts.Trusts.{Trusts}
 use Rattle.scenario_record.specs.Ranges.{IsInRange}
@@ -29,16 +25,14 @@ use Rattle.sweep.specs.declared.run_numbers.LayerNumbers.{LayerNumbers}
 use Rattle.sweep.specs.declared.run_numbers.RunNumbers.{RunNumbers}
 use Rattle.sweep.specs.declared.unit_sums.UnitSums.{UnitSums}
 
--- of a run that is done: its summary, and its verdicts and measures on a layer, each in its range
-pub record AreLayerFindings (layer : ℕ) (S : Record) (trace : List EntryRecord)
-    (summary : Summary) (found : Verdicts) (pairs : List PairMeasures) : Type 0 where
+-- of a run that is done: its summary, and what is found on a layer, each in its range
+pub record IsMeasured (layer : ℕ) (S : Record) (trace : List EntryRecord) (summary : Summary) (on : LayerFindings) : Type 0 where
   pub ranges : IsInRange S
   pub within : length trace ≤ S.limit
   pub summed : IsSummary S trace summary
   pub sent_high : summary.sent ≤ length trace * 2 ^ 32
   pub lost_high : summary.lost ≤ length trace * 2 ^ 32
-  pub judged : found ≡ verdicts S trace layer
-  pub measured : pairs ≡ layer_measures S trace layer
+  pub found : AreLayerFindings true S trace layer on
   pub grounds : HasGrounds S trace
 
 module _ (group : Group) (layer : ℕ) (trials : List Trial) where
@@ -97,11 +91,9 @@ AreUnitSums groups first trials s = AllZip (λ group sums. AreSums group first t
 -- ---- one more run
 
 -- of a run that is done these are the numbers on a layer, if the rest was found of its trace
-abbrev pub AreOfFindings : Group → (layer : ℕ) → Record → Summary → Verdicts → List PairMeasures → Durations
-    → Trusts → LayerNumbers → Type 0
-AreOfFindings group layer S summary found pairs lasted trusts n = (trace : List EntryRecord) → has_layer layer S ≡ true
-    → AreLayerFindings layer S trace summary found pairs → AreDurations S layer trace lasted
-    → AreTrusts S.processes trace trusts
+abbrev pub AreOfFindings : Group → (layer : ℕ) → Record → Summary → LayerFindings → Trusts → LayerNumbers → Type 0
+AreOfFindings group layer S summary on trusts n = (trace : List EntryRecord) → has_layer layer S ≡ true
+    → IsMeasured layer S trace summary on → AreTrusts S.processes trace trusts
     → AreLayerNumbers group layer (done_run S trace ∷ []) n
 
 -- the old counts of any runs, as long as they aren't too many, give the new counts of these runs and of one more

@@ -34,10 +34,8 @@ fn measure_scenario(
     let _ticks = scenario.horizon();
     let machines = machines_of(alloc, scenario)?;
     match measure_list(alloc, scenario, machines) {
-        Ok((findings, durations, trusts)) => {
-            let numbers = RunNumbers::of_run(
-                alloc, scenario, groups, &findings, &durations, &trusts,
-            )?;
+        Ok((findings, trusts)) => {
+            let numbers = RunNumbers::of_run(alloc, scenario, groups, &findings, &trusts)?;
             Ok(numbers)
         }
         Err(RunError::Limit) => RunNumbers::of_limited(alloc, scenario, groups),

@@ -20,7 +20,7 @@ use crate::decisions::{
 use crate::group::Group;
 use crate::pairs::{counted_of, detection_times, durations_of, sum_ends, sum_pairs};
 use judges::Verdicts;
-use reporting::{Durations, PairMeasures, RunDurations, RunFindings, Summary};
+use reporting::{LayerFindings, PairMeasures, RunFindings, Summary};
 use runs::Trusts;
 use scenario::Scenario;
 use std::alloc::{AllocError, Global};
@@ -114,30 +114,33 @@ impl LayerNumbers {
         }
     }
 
-    /// Of a run that is done: its summary, its verdicts, its measures and how long its mistakes were on this layer, and
-    /// its trusts. The pairs of the group count.
+    /// Of a run that is done: its summary, what was found on this layer, and its trusts. The pairs of the group count.
     fn of_run(
         alloc: Global,
         scenario: &Scenario,
         group: &Group,
         layer: u8,
         summary: &Summary,
-        verdicts: &Verdicts,
-        pairs: &[PairMeasures],
-        durations: &Durations,
+        found: &LayerFindings,
         trusts: &Trusts,
     ) -> Result<LayerNumbers, AllocError>
-        ensures { IfOk result (AreOfFindings group.now layer scenario.now summary.now verdicts.now pairs.now
-            durations.now trusts.now) }
+        ensures { IfOk result (AreOfFindings group.now layer scenario.now summary.now found.now trusts.now) }
     {
-        let counted = counted_of(alloc, scenario, group, layer, pairs)?;
+        let counted = counted_of(alloc, scenario, group, layer, &found.measures)?;
         let deciding = deciding_of(alloc, scenario, &summary.outcomes)?;
-        let durations = durations_of(alloc, &counted, durations)?;
+        let durations = durations_of(alloc, &counted, &found.durations)?;
         let detections = detection_times(alloc, &counted)?;
         let bounds = bounds_on(scenario, layer, trusts, &counted);
         let decisions = sum_decisions(&deciding);
         Ok(LayerNumbers {
-            sums: sums_of_run(scenario, summary, verdicts, &counted, bounds, decisions),
+            sums: sums_of_run(
+                scenario,
+                summary,
+                &found.verdicts,
+                &counted,
+                bounds,
+                decisions,
+            ),
             durations,
             detections,
             last_decision: last_decision(decisions),
@@ -170,34 +173,26 @@ impl GroupNumbers {
         scenario: &Scenario,
         group: &Group,
         findings: &RunFindings,
-        durations: &RunDurations,
         trusts: &Trusts,
     ) -> Result<GroupNumbers, AllocError>
-        ensures { IfOk result (λ n. (found : MeasuresRun scenario.now findings.now durations.now trusts.now)
+        ensures { IfOk result (λ n. (found : MeasuresRun scenario.now findings.now trusts.now)
             → AreGroupNumbers group.now (done_run scenario.now found.trace) n) }
     {
         let _shared = is_shared(scenario);
-        let (summary, pairs) = (&findings.summary, &findings.measures);
-        let (own, lasted) = (&findings.first, &durations.first);
-        let verdicts = match &findings.second {
-            Some(verdicts) => verdicts,
+        let (summary, first) = (&findings.summary, &findings.first);
+        let first = LayerNumbers::of_run(alloc, scenario, group, 1, summary, first, trusts)?;
+        match &findings.second {
             None => {
-                let first = LayerNumbers::of_run(
-                    alloc, scenario, group, 1, summary, own, pairs, lasted, trusts,
-                )?;
                 let second = LayerNumbers::of_nothing(alloc, 0);
-                return Ok(GroupNumbers { first, second });
+                Ok(GroupNumbers { first, second })
             }
-        };
-        let (first, second) = pairs.split_at(pairs.len() / 2);
-        let first = LayerNumbers::of_run(
-            alloc, scenario, group, 1, summary, own, first, lasted, trusts,
-        )?;
-        let lasted = &durations.second;
-        let second = LayerNumbers::of_run(
-            alloc, scenario, group, 2, summary, verdicts, second, lasted, trusts,
-        )?;
-        Ok(GroupNumbers { first, second })
+            Some(found) => {
+                let second = LayerNumbers::of_run(
+                    alloc, scenario, group, 2, summary, found, trusts,
+                )?;
+                Ok(GroupNumbers { first, second })
+            }
+        }
     }
 
     /// What a run gives that passed its limit, whatever the group.
@@ -233,15 +228,14 @@ impl RunNumbers {
         scenario: &Scenario,
         groups: &[Group],
         findings: &RunFindings,
-        durations: &RunDurations,
         trusts: &Trusts,
     ) -> Result<RunNumbers, AllocError>
-        ensures { IfOk result (λ n. (found : MeasuresRun scenario.now findings.now durations.now trusts.now)
+        ensures { IfOk result (λ n. (found : MeasuresRun scenario.now findings.now trusts.now)
             → AreNumbers groups.now (done_run scenario.now found.trace) n) }
     {
         let mut numbers = Vec::new(alloc);
         for group in groups {
-            let its = GroupNumbers::of_run(alloc, scenario, group, findings, durations, trusts)?;
+            let its = GroupNumbers::of_run(alloc, scenario, group, findings, trusts)?;
             numbers.push(its)?;
         }
         Ok(RunNumbers {

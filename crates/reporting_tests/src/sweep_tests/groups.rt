@@ -1,11 +1,11 @@
 //! Rows for groups of pairs.
 ghost use Rattle.std.specs.Prelude.{◌≡◌};
 
-use super::points::{durations, grid_of, limited_run, rows_in, sums_of, trusts};
+use super::points::{grid_of, limited_run, rows_in, sums_of, trusts};
 use super::studies::{Study, study_of};
 use super::sums::{CIRCLE, circle};
 use crate::comparisons::{NO_MEMORY, is_text, same};
-use reporting::{MemoryOutlet, Outlet, RunDurations};
+use reporting::{MemoryOutlet, Outlet};
 use scenario::read_scenario;
 use std::alloc::Global;
 use std::marker::Sync;
@@ -83,17 +83,13 @@ fn words(rt: HostRuntime) {
 fn circle_in_groups(rt: HostRuntime) {
     let alloc = rt.alloc();
     let scenario = read_scenario(alloc, CIRCLE.as_bytes()).expect(&rt, "not a scenario");
-    let lasted = RunDurations {
-        first: durations(&rt, alloc, 3, &[&[], &[], &[3, 4], &[], &[], &[2]]),
-        second: durations(&rt, alloc, 3, &[]),
-    };
     // two trusts don't move the check that detects the crash
     let again = trusts(&rt, alloc, 3, &[0, 2]);
     let grid = grid_of(&rt, alloc, "detector.timeout=5");
     let words = ["1..=2:2..=3+2:1..=3", "3:1", "2:1"];
     let layout = layout_for(&rt, alloc, &grid, &words, None);
     let found = circle(&rt, alloc);
-    let run = RunNumbers::of_run(alloc, &scenario, layout.groups(), &found, &lasted, &again);
+    let run = RunNumbers::of_run(alloc, &scenario, layout.groups(), &found, &again);
     let limited = RunNumbers::of_limited(alloc, &scenario, layout.groups());
     let runs = [limited.expect(&rt, NO_MEMORY), run.expect(&rt, NO_MEMORY)];
     let sums = sums_of(&rt, alloc, layout.groups(), 1, &runs);

@@ -6,8 +6,8 @@ use super::studies::layout_of;
 use crate::comparisons::{NO_MEMORY, is_text};
 use crate::findings::{outcome, quiet, without_mistake};
 use crate::traces::{CRASH_AT_3, axes, scenario_of};
-use judges::Answer;
-use reporting::{Detection, Durations, RunDurations, RunFindings, Summary};
+use judges::{Answer, Verdicts};
+use reporting::{Detection, Durations, LayerFindings, PairMeasures, RunFindings, Summary};
 use runs::Trusts;
 use scenario::Scenario;
 use std::alloc::Global;
@@ -51,15 +51,32 @@ pub fn one_crash<R: Abort>(
             lost: 0,
             outcomes: outcomes.expect(rt, NO_MEMORY),
         },
-        first: without_mistake(tick, tick),
+        first: found_on(rt, alloc, without_mistake(tick, tick), &pairs, &[]),
         second: None,
-        measures: Vec::from_array(alloc, pairs).expect(rt, NO_MEMORY),
     }
 }
 
-/// How long each mistake was on a layer of so many processes, by observer and then by subject; of pairs that come after
-/// these there was none.
-pub fn durations<R: Abort>(rt: &R, alloc: Global, processes: u16, lengths: &[&[u32]]) -> Durations {
+/// What is found on a layer, with these verdicts and these measures, and how long each mistake was, by observer and then
+/// by subject; of pairs that come after these there was none.
+pub fn found_on<R: Abort>(
+    rt: &R,
+    alloc: Global,
+    verdicts: Verdicts,
+    pairs: &[PairMeasures],
+    lengths: &[&[u32]],
+) -> LayerFindings {
+    let mut measures = Vec::new(alloc);
+    measures.extend_from_slice(pairs).expect(rt, NO_MEMORY);
+    LayerFindings {
+        verdicts,
+        measures,
+        durations: durations(rt, alloc, lengths),
+    }
+}
+
+/// How long each mistake was, of three processes where there are more than two pairs, and else of two.
+fn durations<R: Abort>(rt: &R, alloc: Global, lengths: &[&[u32]]) -> Durations {
+    let processes = if lengths.len() > 2 { 3 } else { 2 };
     let mut pairs = Vec::new(alloc);
     for ticks in lengths {
         let mut pair = Vec::new(alloc);
@@ -87,12 +104,8 @@ pub fn run_of<R: Abort>(
     scenario: &Scenario,
     found: &RunFindings,
 ) -> RunNumbers {
-    let none = RunDurations {
-        first: durations(rt, alloc, 2, &[]),
-        second: durations(rt, alloc, 2, &[]),
-    };
     let again = trusts(rt, alloc, 2, &[]);
-    RunNumbers::of_run(alloc, scenario, &[Group::All], found, &none, &again).expect(rt, NO_MEMORY)
+    RunNumbers::of_run(alloc, scenario, &[Group::All], found, &again).expect(rt, NO_MEMORY)
 }
 
 /// What a run gives that passed its limit.

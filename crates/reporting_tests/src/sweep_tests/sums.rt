@@ -1,6 +1,6 @@
 //! The rows of points whose runs are worked by hand.
 use super::points::{
-    HEADER, are_rows, crash_at_3, crash_run, durations, first_of, grid_of, limited_run, one_crash,
+    HEADER, are_rows, crash_at_3, crash_run, first_of, found_on, grid_of, limited_run, one_crash,
     rows_of, run_of, sums_of, trusts,
 };
 use super::studies::layout_of;
@@ -8,7 +8,7 @@ use crate::comparisons::{NO_MEMORY, is_text, same};
 use crate::findings::{outcome, quiet, without_mistake};
 use crate::traces::scenario_of;
 use judges::Answer;
-use reporting::{Detection, PairMeasures, RunDurations, RunFindings};
+use reporting::{Detection, PairMeasures, RunFindings};
 use scenario::read_scenario;
 use std::alloc::Global;
 use std::process::Abort;
@@ -60,7 +60,7 @@ at = 3
 
 /// The findings of a run with a reduction: on layer 1 a mistake of 2 ticks and a detection, on layer 2 neither.
 fn shared<R: Abort>(rt: &R, alloc: Global) -> RunFindings {
-    let pairs = [
+    let first = [
         PairMeasures {
             mistakes: 1,
             mistake_ticks: 2,
@@ -69,12 +69,18 @@ fn shared<R: Abort>(rt: &R, alloc: Global) -> RunFindings {
             ..quiet(rt, 1, 1, 2, Detection::At(6))
         },
         quiet(rt, 1, 2, 1, Detection::Na),
+    ];
+    let second = [
         quiet(rt, 2, 1, 2, Detection::NoTick),
         quiet(rt, 2, 2, 1, Detection::Na),
     ];
+    let (late, never) = (
+        without_mistake(Some(9), Some(9)),
+        without_mistake(None, None),
+    );
     RunFindings {
-        second: Some(without_mistake(None, None)),
-        measures: Vec::from_array(alloc, pairs).expect(rt, NO_MEMORY),
+        first: found_on(rt, alloc, late, &first, &[&[], &[2]]),
+        second: Some(found_on(rt, alloc, never, &second, &[&[9], &[]])),
         ..one_crash(rt, alloc, Some(9), Detection::At(6))
     }
 }
@@ -84,13 +90,9 @@ fn shared<R: Abort>(rt: &R, alloc: Global) -> RunFindings {
 fn two_layers(rt: HostRuntime) {
     let alloc = rt.alloc();
     let with = scenario_of(&rt, alloc, 2, 10, SHARED);
-    let lasted = RunDurations {
-        first: durations(&rt, alloc, 2, &[&[], &[2]]),
-        second: durations(&rt, alloc, 2, &[&[9], &[]]),
-    };
     let again = trusts(&rt, alloc, 2, &[]);
     let found = shared(&rt, alloc);
-    let shared = RunNumbers::of_run(alloc, &with, &[Group::All], &found, &lasted, &again);
+    let shared = RunNumbers::of_run(alloc, &with, &[Group::All], &found, &again);
     let runs = [
         shared.expect(&rt, NO_MEMORY),
         crash_run(&rt, alloc, Some(7), Detection::At(4)),
@@ -212,8 +214,15 @@ pub fn circle<R: Abort>(rt: &R, alloc: Global) -> RunFindings {
         quiet(rt, 1, 3, 1, Detection::Na),
         quiet(rt, 1, 3, 2, Detection::NoTick),
     ];
+    let lasted: [&[u32]; 6] = [&[], &[], &[3, 4], &[], &[], &[2]];
     RunFindings {
-        measures: Vec::from_array(alloc, pairs).expect(rt, NO_MEMORY),
+        first: found_on(
+            rt,
+            alloc,
+            without_mistake(Some(3), Some(3)),
+            &pairs,
+            &lasted,
+        ),
         ..one_crash(rt, alloc, Some(3), Detection::Na)
     }
 }
@@ -225,16 +234,11 @@ pub fn circle<R: Abort>(rt: &R, alloc: Global) -> RunFindings {
 fn watched_pairs(rt: HostRuntime) {
     let alloc = rt.alloc();
     let scenario = read_scenario(alloc, CIRCLE.as_bytes()).expect(&rt, "not a scenario");
-    let lasted = RunDurations {
-        first: durations(&rt, alloc, 3, &[&[], &[], &[3, 4], &[], &[], &[2]]),
-        second: durations(&rt, alloc, 3, &[]),
-    };
     let run = RunNumbers::of_run(
         alloc,
         &scenario,
         &[Group::All],
         &circle(&rt, alloc),
-        &lasted,
         &trusts(&rt, alloc, 3, &[0, 3]),
     );
     let runs = [

@@ -1,34 +1,16 @@
-use Rattle.std.proofs.Common.{◌∙◌, ◌++◌, sym, ap, subst, cond, Some, None, [], is_some, append-nil, true≢false}
+use Rattle.std.proofs.Common.{sym, subst, None, Some, is_some}
+use Rattle.process_api.specs.Following.{IsWhere}
 use Rattle.process_api.proofs.Where.{absent_where, there_where}
-use Rattle.judges.specs.Verdicts.{verdicts}
-use Rattle.reporting.specs.Measures.{layer_measures}
+use Rattle.reporting.specs.Measured.{AreLayerFindings}
 use Rattle.reporting.specs.Running.{IsLayer, IsSecond}
 use Rattle.reporting.proofs.telling.close_second.Goals as goal
 
-pub returns-in_ok-open-in-None-clause-verdicts : goal.returns-in_ok-open-in-None-clause-verdicts
-returns-in_ok-open-in-None-clause-verdicts c = λ listed S trace h.
+pub returns-in-None : goal.returns-in-None
+returns-in-None c = λ listed S trace h.
     let none = absent_where (IsLayer listed S 2 trace) (is_some S.share) (subst (IsSecond listed S trace) c.in-None.is h) in
-    sym (ap (λ b. cond b (Some (verdicts S trace 2)) None) none)
+    subst (λ b. IsWhere b (AreLayerFindings listed S trace 2) None) (sym none) tt
 
-pub returns-in_ok-open-in-None-clause-lengths : goal.returns-in_ok-open-in-None-clause-lengths
-returns-in_ok-open-in-None-clause-lengths c = λ S trace h shared.
-    absurd (true≢false (sym shared ∙ absent_where (IsLayer _ S 2 trace) (is_some S.share) (subst (IsSecond _ S trace) c.in-None.is h)))
-
-pub returns-in_ok-open-in-None-clause-measures : goal.returns-in_ok-open-in-None-clause-measures
-returns-in_ok-open-in-None-clause-measures c = λ listed S trace h.
-    let none = absent_where (IsLayer listed S 2 trace) (is_some S.share) (subst (IsSecond listed S trace) c.in-None.is h) in
-    sym (ap (λ b. c.args.rows.now.items ++ cond b (layer_measures S trace 2) []) none ∙ append-nil c.args.rows.now.items)
-
-pub returns-in_ok-verdicts-in-Some-clause-verdicts : goal.returns-in_ok-verdicts-in-Some-clause-verdicts
-returns-in_ok-verdicts-in-Some-clause-verdicts c = λ listed S trace h.
+pub returns-in_ok-found-in-Some : goal.returns-in_ok-found-in-Some
+returns-in_ok-found-in-Some c = λ listed S trace h.
     let some = there_where (IsLayer listed S 2 trace) (is_some S.share) c.in-Some.layer (subst (IsSecond listed S trace) c.in-Some.is h) in
-    ap Some (c.in_ok-verdicts-in-Some.ensures.verdicts listed S 2 trace some.1) ∙ sym (ap (λ b. cond b (Some (verdicts S trace 2)) None) some.0)
-
-pub returns-in_ok-verdicts-in-Some-clause-lengths : goal.returns-in_ok-verdicts-in-Some-clause-lengths
-returns-in_ok-verdicts-in-Some-clause-lengths c = λ S trace h shared.
-    c.in_ok-verdicts-in-Some.ensures.lengths S 2 trace (there_where (IsLayer _ S 2 trace) (is_some S.share) c.in-Some.layer (subst (IsSecond _ S trace) c.in-Some.is h)).1
-
-pub returns-in_ok-verdicts-in-Some-clause-measures : goal.returns-in_ok-verdicts-in-Some-clause-measures
-returns-in_ok-verdicts-in-Some-clause-measures c = λ listed S trace h.
-    let some = there_where (IsLayer listed S 2 trace) (is_some S.share) c.in-Some.layer (subst (IsSecond listed S trace) c.in-Some.is h) in
-    c.in_ok-verdicts-in-Some.ensures.measures listed S 2 trace some.1 ∙ sym (ap (λ b. c.args.rows.now.items ++ cond b (layer_measures S trace 2) []) some.0)
+    subst (λ b. IsWhere b (AreLayerFindings listed S trace 2) (Some c.in_ok-found-in-Some.found)) (sym some.0) (c.in_ok-found-in-Some.ensures listed S 2 trace some.1)

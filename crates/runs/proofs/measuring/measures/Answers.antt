@@ -4,6 +4,7 @@ use Rattle.judges.proofs.Blamed.{shares_suspicions}
 use Rattle.runs.specs.Grounds.{IsBounded, RestsOnBlame}
 use Rattle.reporting.specs.Measures.{all_measures}
 use Rattle.reporting.proofs.Followed.{measuring_same, measuring_told}
+use Rattle.reporting.proofs.Layers.{measures_of}
 use Rattle.runs.proofs.Resting.{all_bounded, all_rest}
 use Rattle.runs.proofs.measuring.measures.Goals as goal
 
@@ -14,7 +15,8 @@ returns-clause-rows c =
     let opened = c.in_ok-measuring.measuring in
     let small : length trace < 2 ^ 64 = search rules in
     let told = measuring_told S trace c.entries.ensures.rising false opened c.follow_all.new.follower (c.in_ok-follow_all.ensures opened [] (measuring_same opened)) c.in_ok-measuring.ensures in
-    (c.in_ok-found.ensures.found false S trace told small).measures ∙ ap (all_measures S) c.entries.ensures.value
+    let found = c.in_ok-found.ensures false S trace told small in
+    c.into_measures.ensures ∙ measures_of false S trace c.in_ok-found.found found ∙ ap (all_measures S) c.entries.ensures.value
 
 pub returns-clause-blame : goal.returns-clause-blame
 returns-clause-blame c is_trace =
