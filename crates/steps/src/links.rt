@@ -13,7 +13,8 @@ ghost use Rattle.trace_laws.specs.Step.{raised, in_time, counted, joining, sent_
 use crate::listener::Listener;
 use process_api::{Action, Entry, Key, Kind, Payload, Pid, StepInput, Tag};
 use std::alloc::{AllocError, Global};
-use streams::{Fate, LinkWords, Streams};
+use scenario_record::Scenario;
+use streams::{Fate, SenderWords, Streams};
 use trace_laws::{Event, Joins};
 
 /// How much a process put on the link to each process so far: letters, lost ones too, and wakes.
@@ -23,8 +24,7 @@ pub struct Links {
     horizon: u32,
     // by receiver; place 0 is unused
     counts: Vec<u64>,
-    // by receiver, as the counts; where there is none, words are drawn afresh
-    words: Vec<LinkWords>,
+    words: SenderWords,
 }
 
 /// The key of what is due so many ticks after it was sent, where that is below the horizon.
@@ -45,18 +45,21 @@ fn due_after(horizon: u32, sent: Key, ticks: u32) -> Option<Key>
 }
 
 impl Links {
-    /// The links of a process that put nothing on any of them.
-    pub fn new(alloc: Global, horizon: u32, processes: u16) -> Result<Links, AllocError>
-        ensures horizon { IfOk result (λ l. l.horizon ≡ horizon) }
-        ensures counts { IfOk result (λ l. l.counts.items ≡ replicate (processes + 1) 0) }
+    /// The links of a process of a scenario that put nothing on any of them.
+    pub fn new(
+        alloc: Global,
+        scenario: &Scenario,
+        own: Pid,
+    ) -> Result<Links, AllocError>
+        ensures horizon { IfOk result (λ l. l.horizon ≡ scenario.now.horizon) }
+        ensures counts { IfOk result (λ l. l.counts.items ≡ replicate (scenario.now.processes + 1) 0) }
     {
         // one for each process, and one for place 0
-        let places = usize::from(processes) + 1;
+        let places = usize::from(scenario.processes()) + 1;
         let counts = vec![in alloc; 0; places]?;
-        let mut words = Vec::new(alloc);
-        words.resize_with(places, LinkWords::new)?;
+        let words = SenderWords::new(alloc, scenario.seed(), own, places)?;
         Ok(Links {
-            horizon,
+            horizon: scenario.horizon(),
             counts,
             words,
         })

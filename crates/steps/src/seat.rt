@@ -78,8 +78,9 @@ impl<M: Process> Seat<M> {
         ensures process { IfOk result (λ s. process_of M.mind s ≡ opened (M.mind machine)) }
         ensures seated { IfOk result (IsSeated M.mind scenario.now 0) }
     {
-        let crash = scenario.crash(machine.pid());
-        let links = Links::new(alloc, scenario.horizon(), scenario.processes())?;
+        let own = machine.pid();
+        let crash = scenario.crash(own);
+        let links = Links::new(alloc, scenario, own)?;
         Ok(Seat {
             machine,
             crash,

@@ -1,0 +1,250 @@
+//! Random words of a sender's links.
+ghost use Rattle.std.specs.Prelude.{◌≡◌, ◌≤◌, ◌<◌, ◌+◌, ◌-◌, ◌*◌, ◌^◌, ℕ, IfOk, MatchOption, ⊤};
+ghost use Rattle.std.specs.List.{All};
+ghost use Rattle.streams.specs.Fate.{key_of_seed, stream_of, word};
+ghost use Rattle.streams.specs.Words.{AreDrawn, AreWordsOf, IsDrawn, stands_at};
+
+use process_api::Pid;
+use rand_chacha::ChaCha8Rng;
+use rand_core::SeedableRng;
+use rand_core::utils::NextWord;
+use std::alloc::{AllocError, Global};
+use std::marker::Model;
+
+/// How many letters of a link share a draw: their words are four blocks of ChaCha, which come together.
+const LETTERS: usize = 32;
+
+/// The two words of a letter of a link.
+#[derive(Clone, Copy)]
+struct Drawn {
+    // the letter's number on its link, and 0 where there is none
+    number: u64,
+    first: u32,
+    second: u32,
+}
+
+/// No letter's words.
+const NONE: Drawn = Drawn {
+    number: 0,
+    first: 0,
+    second: 0,
+};
+
+/// Words of a sender's links that are at hand for their next letters. Nothing that is answered depends on them: others
+/// are drawn where the seed, the sender or the letter is another one.
+///
+/// Letters with the same number on several links have their words side by side, since a sender often sends to all.
+/// Contracts see the seed and the sender.
+#[derive(Drop)]
+pub struct SenderWords {
+    seed: u64,
+    // the sender's number
+    from: u16,
+    // letter k of a link is in row (k - 1) mod 32, at the receiver's place
+    rows: Vec<Vec<Drawn>>,
+}
+
+impl Model for SenderWords {
+    ghost use Rattle.std.specs.List.{All};
+    ghost use Rattle.std.specs.Prelude.{ℕ};
+    ghost use Rattle.streams.specs.Words.{AreDrawn};
+
+    ghost Value = { ℕ × ℕ };
+
+    ghost view = { λ w. (w.seed, w.from) };
+
+    ghost invariant = { λ w. All (λ row. AreDrawn w.seed w.from row.items) w.rows.items };
+}
+
+/// The generator of a seed, at the start of stream 0.
+#[tactic(auto, unfolding(crate::specs::Fate::key_of_seed))]
+fn generator_of(seed: u64) -> ChaCha8Rng
+    ensures { result.key ≡ key_of_seed seed }
+{
+    let mut key = [0u8; 32];
+    key[..8].copy_from_slice(&seed.to_le_bytes());
+    ChaCha8Rng::from_seed(key)
+}
+
+/// The number of a link's stream.
+fn stream_between(from: Pid, to: Pid) -> u64
+    ensures { result ≡ stream_of from to }
+{
+    let row = u64::from(from.number()) - 1;
+    let column = u64::from(to.number()) - 1;
+    row * 65536 + column
+}
+
+/// The generator of a link's stream, where the words of the letter with this number come next.
+fn generator_at(seed: u64, from: Pid, to: Pid, number: u64) -> ChaCha8Rng
+    requires { 1 ≤ number }
+    ensures { result ≡ stands_at seed from to (2 * (number - 1)) }
+{
+    let mut generator = generator_of(seed);
+    generator.set_stream(stream_between(from, to));
+    generator.set_word_pos(2 * (u128::from(number) - 1));
+    generator
+}
+
+/// The next two words.
+#[tactic(auto, unfolding(crate::specs::Fate::word))]
+fn next_pair(generator: &mut ChaCha8Rng) -> (u32, u32)
+    ensures words { (seed from to number : ℕ) → number < 2 ^ 64
+        → generator.old ≡ stands_at seed from to (2 * (number - 1))
+        → AreWordsOf seed from to number result.0 result.1 }
+    ensures next { (seed from to number : ℕ) → 1 ≤ number → number < 2 ^ 64
+        → generator.old ≡ stands_at seed from to (2 * (number - 1))
+        → generator.new ≡ stands_at seed from to (2 * number) }
+{
+    let first = generator.next_word();
+    let second = generator.next_word();
+    (first, second)
+}
+
+/// The words of a letter of a link, by its number from 1.
+pub(crate) fn pair_of(seed: u64, from: Pid, to: Pid, number: u64) -> (u32, u32)
+    requires { 1 ≤ number }
+    ensures { AreWordsOf seed from to number result.0 result.1 }
+{
+    next_pair(&mut generator_at(seed, from, to, number))
+}
+
+/// The row of a letter.
+#[inline(always)]
+fn row_of(number: u64) -> usize
+    ensures { result < LETTERS }
+{
+    (number.wrapping_sub(1) % LETTERS as u64) as usize
+}
+
+/// Keeps the words of a letter in its row, where that has a place for the receiver.
+#[tactic(auto, using(crate::proofs::Kept::put_drawn))]
+fn put(row: &mut [Drawn], to: Pid, drawn: Drawn)
+    ensures { (seed from : ℕ) → IsDrawn seed from to drawn
+        → AreDrawn seed from row.old → AreDrawn seed from row.new }
+{
+    let place = usize::from(to.number());
+    if place < row.len() {
+        row[place] = drawn;
+    }
+}
+
+/// Keeps the words of a letter in the row at a place, if there is one.
+fn keep(rows: &mut Vec<Vec<Drawn>>, at: usize, to: Pid, drawn: Drawn)
+    ensures { (seed from : ℕ) → IsDrawn seed from to drawn
+        → All (λ row. AreDrawn seed from row.items) rows.old.items
+        → All (λ row. AreDrawn seed from row.items) rows.new.items }
+{
+    if at < rows.len() {
+        put(&mut rows[at], to, drawn);
+    }
+}
+
+/// Draws the words of the letters after one, up to the last of their rows, and keeps them.
+fn keep_next(rows: &mut Vec<Vec<Drawn>>, mut generator: ChaCha8Rng, to: Pid, number: u64)
+    requires { 1 ≤ number }
+    ensures { (seed from : ℕ) → generator ≡ stands_at seed from to (2 * number)
+        → All (λ row. AreDrawn seed from row.items) rows.old.items
+        → All (λ row. AreDrawn seed from row.items) rows.new.items }
+{
+    let mut last = number;
+    for at in row_of(number) + 1..LETTERS {
+        let Some(number) = last.checked_add(1) else {
+            return;
+        };
+        let (first, second) = next_pair(&mut generator);
+        let drawn = Drawn {
+            number,
+            first,
+            second,
+        };
+        keep(rows, at, to, drawn);
+        last = number;
+    }
+}
+
+/// Rows without words.
+#[tactic(auto, using(crate::proofs::Kept::no_words))]
+fn empty_rows(alloc: Global, places: usize) -> Result<Vec<Vec<Drawn>>, AllocError>
+    ensures { IfOk result (λ rows. (seed from : ℕ) → All (λ row. AreDrawn seed from row.items) rows.items) }
+{
+    let mut rows = Vec::with_capacity(alloc, LETTERS)?;
+    for _ in 0..LETTERS {
+        rows.push(vec![in alloc; NONE; places]?)?;
+    }
+    Ok(rows)
+}
+
+impl SenderWords {
+    /// No words yet of a sender's links to receivers below so many, under a seed.
+    ///
+    /// # Errors
+    ///
+    /// `AllocError` where memory was refused.
+    pub fn new(
+        alloc: Global,
+        seed: u64,
+        from: Pid,
+        places: usize,
+    ) -> Result<SenderWords, AllocError> {
+        Ok(SenderWords {
+            seed,
+            from: from.number(),
+            rows: empty_rows(alloc, places)?,
+        })
+    }
+
+    /// Makes sure that the words at hand are of this seed and sender. Where they were of others, none are kept from
+    /// then on.
+    fn turn_to(&mut self, seed: u64, from: Pid)
+        ensures { self.new ≡ (seed, from) }
+    {
+        if self.seed == seed && self.from == from.number() {
+            return;
+        }
+        self.rows.clear();
+        self.seed = seed;
+        self.from = from.number();
+    }
+
+    /// The words of a letter, where they are at hand.
+    #[inline(always)]
+    fn find(&self, to: Pid, number: u64) -> Option<(u32, u32)>
+        requires { 1 ≤ number }
+        ensures { MatchOption result ⊤
+            (λ pair. AreWordsOf self.now.0 self.now.1 to number pair.0 pair.1) }
+    {
+        let row = self.rows.get(row_of(number))?;
+        let drawn = row.get(usize::from(to.number()))?;
+        if drawn.number != number {
+            return None;
+        }
+        Some((drawn.first, drawn.second))
+    }
+
+    /// Draws the words of a letter, and keeps those of the next letters of its link.
+    fn draw(&mut self, from: Pid, to: Pid, number: u64) -> (u32, u32)
+        requires number { 1 ≤ number }
+        requires from { self.old.1 ≡ from }
+        ensures { AreWordsOf self.old.0 from to number result.0 result.1 }
+    {
+        let mut generator = generator_at(self.seed, from, to, number);
+        let pair = next_pair(&mut generator);
+        keep_next(&mut self.rows, generator, to, number);
+        pair
+    }
+
+    /// The words of a letter of a link, by its number from 1. Where they aren't at hand they are drawn, with those of
+    /// the next letters of the link. It stands apart, so that a sure link's fate is found with no call.
+    #[inline(never)]
+    pub fn pair_at(&mut self, seed: u64, from: Pid, to: Pid, number: u64) -> (u32, u32)
+        requires { 1 ≤ number }
+        ensures { AreWordsOf seed from to number result.0 result.1 }
+    {
+        self.turn_to(seed, from);
+        match self.find(to, number) {
+            Some(pair) => pair,
+            None => self.draw(from, to, number),
+        }
+    }
+}
