@@ -20,3 +20,4 @@ pub mod Sending
 pub mod Waits
 pub mod Dropping
 pub mod Where
+pub mod Packed

@@ -1,5 +1,5 @@
 //! Keys of events.
-ghost use Rattle.std.specs.Prelude.{◌≡◌};
+ghost use Rattle.std.specs.Prelude.{◌≡◌, ◌+◌, ◌*◌, ◌<◌};
 ghost use Rattle.process_api.specs.Order.{is_before};
 
 use crate::pid::Pid;
@@ -19,11 +19,26 @@ pub struct Key {
     pub number: u64,
 }
 
+/// The tick, the receiver and the sender of a key, as one number.
+#[inline(always)]
+fn packed(key: &Key) -> u64
+    ensures number { result ≡ (key.now.tick * 65536 + key.now.receiver) * 65536 + key.now.sender }
+    ensures digits { (key.now.receiver < 65536) × (key.now.sender < 65536) }
+{
+    let process = u64::from(key.tick) * 65_536 + u64::from(key.receiver.number());
+    process * 65_536 + u64::from(key.sender.number())
+}
+
 impl Key {
-    /// Whether this key comes before the other.
+    /// Whether this key comes before the other. Two numbers are compared at most, as events are put in order by this.
+    #[inline(always)]
     pub fn is_before(&self, other: &Key) -> bool
         ensures { result ≡ is_before self.now other.now }
     {
-        self < other
+        let (mine, others) = (packed(self), packed(other));
+        if mine != others {
+            return mine < others;
+        }
+        self.number < other.number
     }
 }

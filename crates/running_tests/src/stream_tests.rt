@@ -10,7 +10,7 @@ use rand_core::{Rng, SeedableRng};
 use scenario::Scenario;
 use std::alloc::Global;
 use std::process::Abort;
-use streams::{Fate, LinkWords, Streams};
+use streams::{Fate, SenderWords, Streams};
 
 /// Links that lose three letters of ten.
 const LOSSY: &str = "[link]\nmin = 2\nmax = 9\nloss = 300\n";
@@ -31,26 +31,25 @@ fn process<R: Abort>(rt: &R, number: u16) -> Pid
     Pid::new(number).expect(rt, "no process")
 }
 
-/// Kept words of the links to processes 1 to 5, each at the receiver's place.
-fn words_of_links() -> [LinkWords; 6] {
-    [
-        LinkWords::new(),
-        LinkWords::new(),
-        LinkWords::new(),
-        LinkWords::new(),
-        LinkWords::new(),
-        LinkWords::new(),
-    ]
+/// Kept words of the links of one sender under a seed, to receivers up to 256.
+fn words_of<R: Abort>(rt: &R, alloc: Global, seed: u64, from: Pid) -> SenderWords {
+    SenderWords::new(alloc, seed, from, 257).expect(rt, NO_MEMORY)
 }
 
 /// Letters 1 to 12 of a link, each sent at the tick of its number and asked for in their turn: their delays, and 0 for
 /// a lost one.
-fn delays<R: Abort>(rt: &R, scenario: &Scenario, from: u16, to: u16) -> [u32; 12] {
+fn delays<R: Abort>(
+    rt: &R,
+    alloc: Global,
+    scenario: &Scenario,
+    from: u16,
+    to: u16,
+) -> [u32; 12] {
     let streams = Streams::new(scenario);
-    let mut words = words_of_links();
     let last = scenario.processes();
     assert!(rt; from != to && from <= last && to <= last);
     let (from, to) = (process(rt, from), process(rt, to));
+    let mut words = words_of(rt, alloc, scenario.seed(), from);
     let mut delays = [0u32; 12];
     for place in 0..12usize {
         let fate = streams.next_fate(from, to, place as u64 + 1, place as u32 + 1, &mut words);
@@ -120,11 +119,13 @@ const WORDS: [(u64, u16, u16, [u32; 7]); 6] = [
 fn words_of_streams(rt: HostRuntime) {
     for (seed, from, to, words) in WORDS {
         let (sender, receiver) = (process(&rt, from), process(&rt, to));
-        let mut kept = LinkWords::new();
+        let mut kept = words_of(&rt, rt.alloc(), seed, sender);
         let mut came = [0u32; 7];
         for index in 0..7usize {
-            let place = u128::from(PLACES[index]);
-            came[index] = kept.pair_at(seed, sender, receiver, place).0;
+            let place = PLACES[index];
+            let number = u64::from(place) / 2 + 1;
+            let pair = kept.pair_at(seed, sender, receiver, number);
+            came[index] = if place % 2 == 0 { pair.0 } else { pair.1 };
         }
         same(&rt, &(seed, (from, to), came), &(seed, (from, to), words));
     }
@@ -168,7 +169,7 @@ const DELAYS: [(&str, (u16, u16), [u32; 12]); 12] = [
 fn fates_of_links(rt: HostRuntime) {
     for (links, (from, to), wanted) in DELAYS {
         let scenario = scenario(&rt, rt.alloc(), 1, links);
-        let came = delays(&rt, &scenario, from, to);
+        let came = delays(&rt, rt.alloc(), &scenario, from, to);
         same(
             &rt,
             &(links, (from, to), came),
@@ -208,7 +209,8 @@ fn any_order_gives_the_same(rt: HostRuntime) {
     assert!(rt; scenario.processes() == 5);
     let streams = Streams::new(&scenario);
     let (from, to) = (pid(3), pid(4));
-    let mut kept = words_of_links();
+    // words of another seed and sender at first
+    let mut kept = words_of(&rt, rt.alloc(), 1, pid(2));
     for number in (1..=100u64).rev() {
         let at = 2 * (number as usize - 1);
         assert!(rt; at + 1 < words.len());

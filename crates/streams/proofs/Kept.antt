@@ -1,5 +1,5 @@
 -- Rows of words that are at hand.
-use Rattle.std.proofs.Common.{◌≡◌, ◌<◌, ℕ, List, length, subst, sym, ap, ◌∙◌, get_or, set, replicate, ⊎_elim, absurd, arith}
+use Rattle.std.proofs.Common.{◌≡◌, ◌<◌, ◌≤◌, ℕ, List, length, subst, sym, ap, ◌∙◌, get_or, set, replicate, ⊎_elim, arith}
 use Rattle.std.proofs.lemmas.Bool.{cases_eq, cases_lt}
 use Rattle.std.proofs.lemmas.List.{get_or-set_same, get_or-set_other, get_or-replicate, get_or_past, length-replicate}
 use Rattle.streams.specs.Words.{AreDrawn, IsDrawn, none}
@@ -20,6 +20,6 @@ pub no_words : (n seed from : ℕ) → AreDrawn seed from (replicate n none)
 no_words n seed from k =
     let same : get_or (replicate n none) k none ≡ none = ⊎_elim
         (λ lt. get_or-replicate n k none none lt)
-        (λ le. get_or_past (replicate n none) k none (le_at (sym (length-replicate n none)) le))
+        (λ le. get_or_past (replicate n none) k none (subst (λ m. m ≤ k) (sym (length-replicate n none)) le))
         (cases_lt k n) in
     subst (IsDrawn seed from k) (sym same) (λ some. absurd (omega arith))

@@ -7,8 +7,7 @@
 //! nothing on any other, and threads may ask in any order.
 //!
 //! The one contract for the layers above: [`Streams::fate`] is `fate_of` (`specs/Fate.antt`), for every letter, and so
-//! is [`Streams::next_fate`], which keeps words of a sender's links ([`SenderWords`]) for their
-//! next letters.
+//! is [`Streams::next_fate`], which keeps the words of a sender's next letters ([`SenderWords`]).
 //!
 //! For example, let the loss be 300, the delays 2 to 9 and the seed 1. Then letters 1 to 6 from process 1 to 2 take 6,
 //! 3, 8, 6, 9 and 3 ticks, the seventh is lost, and the eighth takes 7 ticks.

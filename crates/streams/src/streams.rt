@@ -1,7 +1,7 @@
 //! What becomes of letters, by the streams of their links.
-ghost use Rattle.std.specs.Prelude.{◌≡◌, ◌≢◌, ◌≤◌, ◌<◌, ◌^◌};
+ghost use Rattle.std.specs.Prelude.{◌≡◌, ◌≢◌, ◌≤◌, ◌<◌, ◌+◌, ◌-◌, ◌*◌, ◌^◌, ℕ, IfOk, IfErr};
 ghost use Rattle.scenario_record.specs.Record.{Record};
-ghost use Rattle.streams.specs.Fate.{fate_of, fate_by as fate_for};
+ghost use Rattle.streams.specs.Fate.{fate_of, fate_by as fate_for, word};
 
 use crate::fate::Fate;
 use crate::words::{SenderWords, pair_of};
@@ -43,9 +43,32 @@ impl<'a> Streams<'a> {
         Streams { scenario }
     }
 
+    /// The fate of a letter that has no need of words, as it is lost in an outage, or its link has no loss and one delay.
+    /// For others the error is what the link does to letters.
+    #[inline(always)]
+    #[tactic(auto, unfolding(crate::specs::Fate::fate_of))]
+    fn sure_fate(&self, from: Pid, to: Pid, sent_at: u32) -> Result<Fate, Link>
+        requires different { from ≢ to }
+        requires from_one { from ≤ self.now.processes }
+        requires to_one { to ≤ self.now.processes }
+        ensures sure { IfOk result (λ fate. (number : ℕ) → fate ≡ fate_of self.now from to number sent_at) }
+        ensures by_words { IfErr result (λ l. (number : ℕ) → fate_of self.now from to number sent_at
+            ≡ fate_for l (word self.now.seed from to (2 * (number - 1)))
+            (word self.now.seed from to (2 * (number - 1) + 1))) }
+        ensures ranges { IfErr result (λ l. (l.min ≤ l.max) × (l.max < 2 ^ 31)) }
+    {
+        if self.scenario.is_cut(from, to, sent_at) {
+            return Ok(Fate::Lost);
+        }
+        let link = self.scenario.link(from, to);
+        if link.loss == 0 && link.min == link.max {
+            return Ok(Fate::Delay(link.min));
+        }
+        Err(link)
+    }
+
     /// What becomes of letter `number` (from 1) of the link from one process to another, sent at the tick `sent_at`.
     /// The answer is by the place and the tick of sending alone: asked again, or in any order, it is the same.
-    #[tactic(auto, unfolding(crate::specs::Fate::fate_of))]
     pub fn fate(&self, from: Pid, to: Pid, number: u64, sent_at: u32) -> Fate
         requires different { from ≢ to }
         requires from_one { from ≤ self.now.processes }
@@ -53,18 +76,16 @@ impl<'a> Streams<'a> {
         requires counted { 1 ≤ number }
         ensures { result ≡ fate_of self.now from to number sent_at }
     {
-        if self.scenario.is_cut(from, to, sent_at) {
-            return Fate::Lost;
+        match self.sure_fate(from, to, sent_at) {
+            Ok(fate) => fate,
+            Err(link) => fate_by(link, pair_of(self.scenario.seed(), from, to, number)),
         }
-        let link = self.scenario.link(from, to);
-        fate_by(link, pair_of(self.scenario.seed(), from, to, number))
     }
 
     /// The same, for letters that are asked for in their turn: the words of the next letters of a link are kept in
     /// `words`, which one sender has. A letter that is lost in an outage draws none, and nor does a link without loss
     /// and with one delay: the words of the next letters are at their own places all the same.
     #[inline(always)]
-    #[tactic(auto, unfolding(crate::specs::Fate::fate_of))]
     pub fn next_fate(
         &self,
         from: Pid,
@@ -79,13 +100,12 @@ impl<'a> Streams<'a> {
         requires counted { 1 ≤ number }
         ensures { result ≡ fate_of self.now from to number sent_at }
     {
-        if self.scenario.is_cut(from, to, sent_at) {
-            return Fate::Lost;
+        match self.sure_fate(from, to, sent_at) {
+            Ok(fate) => fate,
+            Err(link) => fate_by(
+                link,
+                words.pair_at(self.scenario.seed(), from, to, number),
+            ),
         }
-        let link = self.scenario.link(from, to);
-        if link.loss == 0 && link.min == link.max {
-            return Fate::Delay(link.min);
-        }
-        fate_by(link, words.pair_at(self.scenario.seed(), from, to, number))
     }
 }
