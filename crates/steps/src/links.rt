@@ -12,8 +12,8 @@ ghost use Rattle.trace_laws.specs.Step.{raised, in_time, counted, joining, sent_
 
 use crate::listener::Listener;
 use process_api::{Action, Entry, Key, Kind, Payload, Pid, StepInput, Tag};
-use std::alloc::{AllocError, Global};
 use scenario_record::Scenario;
+use std::alloc::{AllocError, Global};
 use streams::{Fate, SenderWords, Streams};
 use trace_laws::{Event, Joins};
 
@@ -46,11 +46,7 @@ fn due_after(horizon: u32, sent: Key, ticks: u32) -> Option<Key>
 
 impl Links {
     /// The links of a process of a scenario that put nothing on any of them.
-    pub fn new(
-        alloc: Global,
-        scenario: &Scenario,
-        own: Pid,
-    ) -> Result<Links, AllocError>
+    pub fn new(alloc: Global, scenario: &Scenario, own: Pid) -> Result<Links, AllocError>
         ensures horizon { IfOk result (λ l. l.horizon ≡ scenario.now.horizon) }
         ensures counts { IfOk result (λ l. l.counts.items ≡ replicate (scenario.now.processes + 1) 0) }
     {

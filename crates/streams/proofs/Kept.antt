@@ -10,8 +10,8 @@ pub put_drawn : (seed from : ℕ) (row : List Drawn) (to : ℕ) (d : Drawn) → 
     → IsDrawn seed from to d → AreDrawn seed from row → AreDrawn seed from (set row to d)
 put_drawn seed from row to d there is are k = ⊎_elim
     (λ e. subst (IsDrawn seed from k)
-        (sym (ap (λ n. get_or (set row to d) n none) e ∙ get_or-set_same row to d none there))
-        (subst (λ n. IsDrawn seed from n d) (sym e) is))
+    (sym (ap (λ n. get_or (set row to d) n none) e ∙ get_or-set_same row to d none there))
+    (subst (λ n. IsDrawn seed from n d) (sym e) is))
     (λ n. subst (IsDrawn seed from k) (sym (get_or-set_other row to k d none n)) (are k))
     (cases_eq k to)
 
@@ -19,7 +19,7 @@ put_drawn seed from row to d there is are k = ⊎_elim
 pub no_words : (n seed from : ℕ) → AreDrawn seed from (replicate n none)
 no_words n seed from k =
     let same : get_or (replicate n none) k none ≡ none = ⊎_elim
-        (λ lt. get_or-replicate n k none none lt)
-        (λ le. get_or_past (replicate n none) k none (subst (λ m. m ≤ k) (sym (length-replicate n none)) le))
-        (cases_lt k n) in
+    (λ lt. get_or-replicate n k none none lt)
+    (λ le. get_or_past (replicate n none) k none (subst (λ m. m ≤ k) (sym (length-replicate n none)) le))
+    (cases_lt k n) in
     subst (IsDrawn seed from k) (sym same) (λ some. absurd (omega arith))

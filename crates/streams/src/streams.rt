@@ -102,10 +102,7 @@ impl<'a> Streams<'a> {
     {
         match self.sure_fate(from, to, sent_at) {
             Ok(fate) => fate,
-            Err(link) => fate_by(
-                link,
-                words.pair_at(self.scenario.seed(), from, to, number),
-            ),
+            Err(link) => fate_by(link, words.pair_at(self.scenario.seed(), from, to, number)),
         }
     }
 }

@@ -9,10 +9,12 @@ loop-at-preserved c =
     let small : c.in-Some.number < 2 ^ 64 = omega arith in
     let twice : 2 * c.loop-at.last ≡ 2 * (c.in-Some.number - 1) = omega arith in
     let stands : (seed from : ℕ) → c.args.generator ≡ stands_at seed from c.args.to (2 * c.args.number)
-            → c.loop-at.generator ≡ stands_at seed from c.args.to (2 * (c.in-Some.number - 1))
-        = λ seed from at. inv.2 seed from at ∙ ap (stands_at seed from c.args.to) twice in
-    (omega arith, small,
+    → c.loop-at.generator ≡ stands_at seed from c.args.to (2 * (c.in-Some.number - 1))
+    = λ seed from at. inv.2 seed from at ∙ ap (stands_at seed from c.args.to) twice in (
+      omega arith,
+      small,
       (λ seed from at. c.next_pair-first.ensures.next seed from c.args.to c.in-Some.number (omega arith) small (stands seed from at)),
       (λ seed from at rows. c.keep.ensures seed from
           (λ _. c.next_pair-first.ensures.words seed from c.args.to c.in-Some.number small (stands seed from at))
-          (inv.3 seed from at rows)))
+          (inv.3 seed from at rows)),
+    )
