@@ -1,4 +1,4 @@
-use Rattle.std.proofs.Common.{◌≡◌, ◌≤◌, ℕ}
+use Rattle.std.proofs.Common.{ℕ}
 use Rattle.std.specs.List.{All}
 use Rattle.streams.specs.Words.{AreDrawn}
 use Rattle.streams.proofs.words.empty_rows.Given as goal

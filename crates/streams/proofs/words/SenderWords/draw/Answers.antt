@@ -1,4 +1,4 @@
-use Rattle.std.proofs.Common.{◌≡◌, ◌*◌, ◌<◌, ◌^◌, ℕ, ap, sym, ◌∙◌, subst, arith, rules}
+use Rattle.std.proofs.Common.{◌≡◌, ◌*◌, ℕ, ap, sym, ◌∙◌, rules}
 use Rattle.streams.specs.Words.{stands_at}
 use Rattle.streams.proofs.words.SenderWords.draw.Goals as goal
 
