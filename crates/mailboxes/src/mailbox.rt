@@ -155,9 +155,7 @@ impl Mailbox {
             (ticket.new ≡ ticket_of ticket.old.mailbox (ticket.old.posted ++ letters.old.items)) }
         ensures empty { OnOk result (letters.new.items ≡ []) }
     {
-        // The first letter is taken from the end.
-        letters.reverse();
-        while let Some(letter) = letters.pop() {
+        for letter in letters.drain(..) {
             if self.post(rt, ticket, letter).is_err() {
                 return Err(AllocError);
             }

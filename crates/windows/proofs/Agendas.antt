@@ -1,11 +1,12 @@
 -- Events in a row and events that wait, as one set.
-use Rattle.windows.proofs.Words.{◌≡◌, ◌≢◌, ◌⊎◌, ◌≤◌, ◌<◌, ℕ, ◌+◌, inl, inr, refl, sym, ap, ◌∙◌, subst, List, [], ◌∷◌, ◌++◌, map, append_assoc, min, arith, Less, Option, Some, None, MatchOption, AllByRecursion, IsPermutation, cases_lt, Contains-permutation, IsPermutation-sym, key_cmp, Key, Letter, StepInput, keys_total, exact_keys, same_or_not, ticks_rise, weaker, IsIn, IsEmpty, IsLeastTick, Event, Events, Has, IsLeast, NoneBelow, joined, joined_one, least_below, insert_at, insert_other, joined_cases, one_input, remove_at, remove_other, removed, same_events, event_of, earlier_of, soonest_in, in_map, joined_back, map_in, AreFrom, AreOne, All, All-push, before_or_not, not_None, in_left, in_right, IsNextStart, first_tick}
+use Rattle.windows.proofs.Words.{◌≡◌, ◌≢◌, ◌⊎◌, ◌≤◌, ◌<◌, ℕ, ◌+◌, inl, inr, refl, sym, ap, ◌∙◌, subst, List, [], ◌∷◌, ◌++◌, map, append_assoc, min, arith, Less, Option, Some, None, MatchOption, AllByRecursion, IsPermutation, cases_lt, Contains-permutation, IsPermutation-sym, key_cmp, Key, Letter, StepInput, keys_total, exact_keys, same_or_not, ticks_rise, weaker, IsIn, IsEmpty, IsLeastTick, Event, Events, Has, IsLeast, NoneBelow, joined, joined_one, least_below, insert_at, insert_other, joined_cases, one_input, remove_at, remove_other, removed, same_events, event_of, earlier_of, soonest_in, in_map, joined_back, map_in, AreFrom, AreLists, AreOne, all_ahead, in_box, All, All-push, before_or_not, not_None, in_left, in_right, IsNextStart, first_tick}
 use Rattle.std.specs.FinMap as events
 use Rattle.std.specs.Option.{option_or}
 use Rattle.pending_events.specs.Inside.Buckets.{latest}
 use Rattle.pending_events.proofs.Falling.{none_latest}
 use Rattle.pending_events.proofs.Rows.{get_joined}
 use Rattle.windows.proofs.Letters.{joined_both}
+use Rattle.windows.specs.declared.agenda.Inner.{Inner}
 use Rattle.windows.proofs.Ranked.{contains_in, in_contains}
 use Rattle.windows.proofs.Places.{all_at, all_place}
 
@@ -226,3 +227,12 @@ module _ (due later es : List Event) (e : Event) (same : joined events.empty (du
   filed_later =
       ap (joined events.empty) (sym (append_assoc due later (e ∷ [])))
       ∙ (joined_one events.empty (due ++ later) e ∙ (ap (λ m. events.insert m e.0 e.1) same ∙ sym (joined_one events.empty es e)))
+
+-- ---- what the box has
+
+module _ (i j : Inner) (same : i ≡ j) where
+  pub are_inside : AreLists j.lists × AreOne (in_box j.inbox) → AreLists i.lists × AreOne (in_box i.inbox)
+  are_inside = subst (λ (k : Inner). AreLists k.lists × AreOne (in_box k.inbox)) (sym same)
+
+  pub all_inside : all_ahead i.lists i.inbox ≡ all_ahead j.lists j.inbox
+  all_inside = ap (λ (k : Inner). all_ahead k.lists k.inbox) same

@@ -56,7 +56,7 @@ pub use Rattle.window_laws.specs.Machine.{Act, IsRun, StageRecord, StandsFor, en
 pub use Rattle.window_laws.specs.Theorems.{IsMerge, end_to_end}
 pub use Rattle.window_laws.specs.Window.{AreBerths, BerthRun, IsPosted, IsSameStage}
 pub use Rattle.windows.specs.Berth.{IsBerth, all_filed, made_in, most_in_part, with_letters}
-pub use Rattle.windows.specs.Inside.Agenda.{AreFrom, AreOne, IsParted, all_ahead, all_in, first_tick, in_box}
+pub use Rattle.windows.specs.Inside.Agenda.{AreFrom, AreLists, AreOne, IsParted, all_ahead, all_in, first_tick, in_box}
 pub use Rattle.windows.specs.Inside.Closing.{AreLettersOf, IsClosedBy, IsOutcomeBy}
 pub use Rattle.windows.specs.Inside.Last.{AreParts, HasMade, IsMerged, TookAllBut, TookFrontOf}
 pub use Rattle.windows.specs.Inside.Shared.{AreAnswers, ArePosting, AreReady, HadWindow, IsAnswerTo, IsOneTooLong, IsStart, IsWorkBy, IsWorkIn, KnowOneTooLong}

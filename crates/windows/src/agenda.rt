@@ -40,6 +40,13 @@ pub(crate) struct Lists {
 /// is; the worker that runs the process next empties it, and parts those of its window from the others.
 #[derive(Drop)]
 pub(crate) struct Agenda {
+    // boxed, since a berth is moved often
+    inner: Box<Inner>,
+}
+
+/// The lists of a process, and its inbox.
+#[derive(Drop)]
+struct Inner {
     lists: Lists,
     // the letters that came after the row was filled
     inbox: Option<Inbox>,
@@ -56,9 +63,9 @@ impl Model for Agenda {
 
     ghost coded = { events.code key_code step_input.the_row.coded };
 
-    ghost view = { λ a. all_ahead a.lists a.inbox };
+    ghost view = { λ a. all_ahead a.inner.value.lists a.inner.value.inbox };
 
-    ghost invariant = { λ a. AreLists a.lists × AreOne (in_box a.inbox) };
+    ghost invariant = { λ a. AreLists a.inner.value.lists × AreOne (in_box a.inner.value.inbox) };
 }
 
 /// The least tick of the letters of an inbox, if there are any.
@@ -266,7 +273,8 @@ impl Agenda {
     {
         let mut lists = no_events(alloc);
         join(&mut lists, Event::start(p))?;
-        Ok(Agenda { lists, inbox: None })
+        let inner = Box::new(alloc, Inner { lists, inbox: None })?;
+        Ok(Agenda { inner })
     }
 
     /// Letters come for the process. Answers the inbox from before, which is empty, if there was one. Where memory is
@@ -280,28 +288,30 @@ impl Agenda {
         ensures joined { OnOk result (self.new ≡ joined self.old (map event_of inbox)) }
         ensures empty { IfOk result (λ before. in_box before ≡ []) }
     {
-        let last = self.lists.end;
-        settle(rt, &mut self.lists, &mut self.inbox, last)?;
-        Ok(replace(&mut self.inbox, Some(inbox)))
+        let inner = &mut *self.inner;
+        let last = inner.lists.end;
+        settle(rt, &mut inner.lists, &mut inner.inbox, last)?;
+        Ok(replace(&mut inner.inbox, Some(inbox)))
     }
 
     /// One more event. Where memory is refused all may be gone.
     pub(crate) fn join<R: Wait>(&mut self, rt: &R, event: Event) -> Result<(), AllocError>
         ensures { OnOk result (self.new ≡ events.insert self.old event.0 event.1) }
     {
-        let end = self.lists.end;
-        settle(rt, &mut self.lists, &mut self.inbox, end)?;
-        join(&mut self.lists, event)
+        let inner = &mut *self.inner;
+        let end = inner.lists.end;
+        settle(rt, &mut inner.lists, &mut inner.inbox, end)?;
+        join(&mut inner.lists, event)
     }
 
     /// The tick of the least event, if there is one.
     pub(crate) fn least_tick(&self) -> Option<u32>
         ensures { MatchOption result (IsEmpty self.now) (λ tick. IsLeastTick self.now tick) }
     {
-        let lists = &self.lists;
+        let Inner { lists, inbox } = &*self.inner;
         earlier(
             earlier(lists.row.least_tick(), lists.next),
-            soonest_of(&self.inbox),
+            soonest_of(inbox),
         )
     }
 
@@ -316,7 +326,8 @@ impl Agenda {
         ensures removed { IfOk result (λ r.
             MatchOption r (self.new ≡ self.old) (λ e. self.new ≡ events.remove self.old e.0)) }
     {
-        settle(rt, &mut self.lists, &mut self.inbox, end)?;
-        Ok(self.lists.row.take_least())
+        let inner = &mut *self.inner;
+        settle(rt, &mut inner.lists, &mut inner.inbox, end)?;
+        Ok(inner.lists.row.take_least())
     }
 }
