@@ -19,11 +19,11 @@ unplaced bytes e file nothing is = tt
 pub told : (bytes : List ℕ) (file : Members) (d : Diagnosis) → IsDocumentOf bytes (Some file) → IsTableDiagnosisOf file d → IsDiagnosisOf bytes d
 told bytes file (diagnosis.Accepted a) is_document is = record {
   stands_for = record_of file;
-  accepts = accepted bytes file (Ok (record_of file)) is_document is.passes refl;
+  accepts = accepted bytes file (Ok (record_of file)) is_document is.unrefused refl;
   describes = is.describes;
 }
 told bytes file (diagnosis.Refused r) is_document is = record {
-  refuses = refused bytes file (Err r.refusal) is_document (λ other. is.first) is.other;
+  refuses = refused bytes file (Err r.refusal) is_document (λ other. is.applies) is.other;
   document = Some file;
   is_document = is_document;
   its = is.its;

@@ -4,8 +4,7 @@ use Rattle.std.specs.Borrow.{Bor}
 use Rattle.toml.specs.Data.{Members}
 use Rattle.scenario_record.specs.Record.{Record}
 use Rattle.scenario.specs.Text.{record_of}
-use Rattle.scenario.specs.Refusals.{Accepts, Refuses, IsDocumentOf, IsFirst, is_memory, table_rules}
-use Rattle.scenario.specs.Groups.{Passes}
+use Rattle.scenario.specs.Refusals.{Accepts, Refuses, IsDocumentOf, is_memory, refusal_of}
 use Rattle.scenario.specs.Parts.{fields_of}
 use Rattle.scenario.specs.Faults.{Breaks}
 use Rattle.scenario.specs.declared.fault.Fault.TheVariants as fault
@@ -85,15 +84,15 @@ IsDiagnosisOf bytes (diagnosis.Refused r) = RefusesFor bytes r
 
 -- ---- a file's table
 
--- no rule applies, and the record is described for which the table stands
+-- no refusal applies, and the record is described for which the table stands
 pub record AcceptsTableAs (file : Members) (a : Accepted) : Type 0 where
-  pub passes : Passes table_rules (Some file)
+  pub unrefused : refusal_of file ≡ None
   pub describes : Describes (record_of file) a
 
--- the refusal is that of the first rule that applies, and the line tells it with what breaks that
+-- the refusal is that of the table, and the line tells it with what breaks its rule
 pub record RefusesTableFor (file : Members) (r : Refused) : Type 0 where
   pub other : is_memory r.refusal ≡ false
-  pub first : IsFirst table_rules (Some file) r.refusal
+  pub applies : refusal_of file ≡ Some r.refusal
   pub its : Reason
   pub is_reason : IsReason r.refusal (Some file) its
   pub told : string_bytes r.line ≡ told_text r.refusal its

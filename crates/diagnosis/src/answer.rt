@@ -2,8 +2,7 @@
 ghost use Rattle.std.specs.Prelude.{◌≡◌, IfOk, IfSome, Some, None};
 ghost use Rattle.toml.specs.View.{table_view};
 ghost use Rattle.toml.specs.Errors.{IsWithin, span_start, IsMemory as IsMemoryError};
-ghost use Rattle.scenario.specs.Refusals.{IsDocumentOf, table_rules, is_memory as is_for_memory};
-ghost use Rattle.scenario.specs.Groups.{StopsFirst};
+ghost use Rattle.scenario.specs.Refusals.{IsAnswer, IsDocumentOf, refusal_of, is_memory as is_for_memory};
 ghost use Rattle.scenario.specs.Faults.{Breaks};
 ghost use Rattle.diagnosis.specs.Diagnosis.{IsDiagnosisOf, IsPlaced, IsTableDiagnosisOf, RefusesFor, RefusesTableFor};
 
@@ -65,7 +64,7 @@ fn refused_table(
     refusal: ScenarioError,
     finding: &Option<Finding>,
 ) -> Result<Refused, AllocError>
-    requires first { StopsFirst table_rules (Some (table_view table.now)) refusal }
+    requires applies { IsAnswer (refusal_of (table_view table.now)) refusal }
     requires finds { IfSome finding.now (Breaks refusal (table_view table.now)) }
     ensures { IfOk result (RefusesTableFor (table_view table.now)) }
 {

@@ -8,8 +8,7 @@ use Rattle.scenario_record.specs.Record.{Record}
 use Rattle.scenario.specs.Table.{number_or, text_or, integers_at, has_key, table_at, tables_at}
 use Rattle.scenario.specs.Text.{number_at, is_second, processes_of, outages_among, record_of}
 use Rattle.scenario.specs.Rules.{is_outside, is_negative, pair_below}
-use Rattle.scenario.specs.Refusals.{number_rules, part_rules}
-use Rattle.scenario.proofs.Rulings.{AreAlike}
+use Rattle.scenario.specs.Refusals.{number_refusals, part_refusals}
 
 -- the key is another one
 abbrev pub is_other : List ℕ → Bool
@@ -80,41 +79,30 @@ module _ (t u : Members) (kept : (key : List ℕ) → is_other key ≡ false →
   unfolding pair_below
   others s outages = refl
 
-  pub below_alike : pair_below (record_of u) ≡ pair_below (record_of t)
+  below_alike : pair_below (record_of u) ≡ pair_below (record_of t)
   below_alike = ap pair_below record_alike ∙ others (record_of t) (outages_among (tables_at (codes "outage") u) (processes_of t))
 
-  pub numbers_alike : AreAlike number_rules t u
-  numbers_alike = (
+  pub numbers_alike : number_refusals u ≡ number_refusals t
+  numbers_alike = rw (
+    second,
     outside _ _ (codes "version") 0 refl,
-    (
-      rw second (outside _ _ (codes "processes") 0 refl),
-      (
-        outside _ _ (codes "horizon") 0 refl,
-        (
-          outside _ _ (codes "lookahead") 0 refl,
-          (outside _ _ (codes "limit") 1000000 refl, (seed, tt)),
-        ),
-      ),
-    ),
-  )
+    outside _ _ (codes "processes") 0 refl,
+    outside _ _ (codes "horizon") 0 refl,
+    outside _ _ (codes "lookahead") 0 refl,
+    outside _ _ (codes "limit") 1000000 refl,
+    seed,
+  ) refl
 
-  pub parts_alike : AreAlike part_rules t u
-  parts_alike = (
-    rw (text (codes "algorithm") _ refl) refl,
-    (
-      rw (text (codes "algorithm") _ refl, natural (codes "processes") 0 refl, there (codes "proposals") refl, integers (codes "proposals") refl) refl,
-      (
-        rw (inner (codes "detector") refl) refl,
-        (
-          rw (inner (codes "share") refl) refl,
-          (
-            rw (natural (codes "processes") 0 refl, inner (codes "link") refl, tables (codes "links") refl) refl,
-            (
-              ap is_some below_alike,
-              (rw (natural (codes "processes") 0 refl, tables (codes "crash") refl) refl, tt),
-            ),
-          ),
-        ),
-      ),
-    ),
-  )
+  pub parts_alike : part_refusals u ≡ part_refusals t
+  parts_alike = rw (
+    below_alike,
+    text (codes "algorithm") _ refl,
+    natural (codes "processes") 0 refl,
+    there (codes "proposals") refl,
+    integers (codes "proposals") refl,
+    inner (codes "detector") refl,
+    inner (codes "share") refl,
+    inner (codes "link") refl,
+    tables (codes "links") refl,
+    tables (codes "crash") refl,
+  ) refl

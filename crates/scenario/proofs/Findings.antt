@@ -1,9 +1,10 @@
 -- What is found with a refusal.
-use Rattle.std.proofs.Common.{◌≡◌, ℕ, ℤ, List, true, Option, Some, None, IfSome, IsSomeAnd, refl, rules, codes}
+use Rattle.std.proofs.Common.{◌≡◌, ℕ, ℤ, List, true, Option, Some, None, IfSome, refl, rules, codes}
+use Rattle.std.specs.Option.{option_or}
 use Rattle.std.proofs.lemmas.Bool.Decides.{Decides-int_eq}
 use Rattle.toml.specs.Data.{Data, integer, as_integer, Members}
-use Rattle.scenario.specs.Ranges.{subject_of}
-use Rattle.scenario.specs.Faults.{IsFault, IsValueFault, has_integer, integer_in, is_of_pair}
+use Rattle.scenario.specs.Ranges.{Subject, subject_of}
+use Rattle.scenario.specs.Faults.{IsFault, IsFoundBy, IsValueFault, has_integer, integer_in, is_of_pair}
 use Rattle.scenario.specs.declared.error.ScenarioError.{ScenarioError}
 use Rattle.scenario.specs.declared.fault.Fault.{Fault}
 use Rattle.scenario.specs.declared.fault.Fault.TheVariants as fault
@@ -28,7 +29,11 @@ integer_is d z is = elim d as (λ e. Some z ≡ as_integer e → e ≡ integer z
 pub both_it : (from to : ℤ) (t : Members) → Some from ≡ integer_in (codes "from") t → Some to ≡ integer_in (codes "to") t → is_of_pair from to t ≡ true
 both_it from to t is also = rw (has_it (codes "from") from t is, has_it (codes "to") to t also) refl
 
--- what is so of something that is there is so of it, if it is there
-pub if_there : {X : Type 0} (found : Option X) (P : X → Type 0) → IsSomeAnd found P → IfSome found P
-if_there None P is = absurd is
-if_there (Some x) P is = is
+-- what is so of two things, if they are there, is so of the first that is
+pub either_found : {X : Type 0} (P : X → Type 0) (a b : Option X) → IfSome a P → IfSome b P → IfSome (option_or a b) P
+either_found P None b first second = second
+either_found P (Some x) b first second = first
+
+pub either : (s : Subject) (t : Members) (a b : Option Fault) → IsFoundBy s t a → IsFoundBy s t b → IsFoundBy s t (option_or a b)
+unfolding IsFoundBy
+either s t a b first second = either_found (IsValueFault s t) a b first second

@@ -9,14 +9,13 @@ pub mod Grid
 pub mod Taking
 pub mod Within
 pub mod Cuts
-pub mod Places
+pub mod Firsts
 pub mod BelowFacts
 pub mod RangeFacts
 pub mod Reading
 pub mod Elements
 pub mod Items
 pub mod Findings
-pub mod Rulings
 pub mod Alike
 pub mod DrawnTables
 pub mod WithOutages

@@ -1,5 +1,5 @@
 -- The record of a table to which no rule applies is in its ranges.
-use Rattle.std.proofs.Common.{◌≡◌, ◌≢◌, ℕ, zero, suc, ◌-◌, ◌<◌, ◌≤◌, ◌^◌, ◌==◌, ℤ, List, [], ◌∷◌, map, filter, find, length, get_or, Bool, true, false, not, ◌&&◌, ◌||◌, Option, Some, None, is_some, is_none, refl, ap, sym, ◌∙◌, arith, subst, codes, cond, IfSome}
+use Rattle.std.proofs.Common.{◌≡◌, ◌≢◌, ℕ, zero, suc, ◌-◌, ◌<◌, ◌≤◌, ◌^◌, ◌==◌, ℤ, List, [], ◌∷◌, ◌++◌, map, filter, find, length, get_or, Bool, true, false, not, ◌&&◌, ◌||◌, Option, Some, None, is_some, is_none, refl, ap, sym, ◌∙◌, arith, subst, codes, cond, IfSome}
 use Rattle.std.specs.Option.{option_map, option_map_or, unwrap_or, ForSome}
 use Rattle.std.specs.List.{range_with_len, flat_map, list_any, slice_get}
 use Rattle.std.proofs.lemmas.Bool.{ltb-false, ne_eqb, eqb-true}
@@ -15,8 +15,8 @@ use Rattle.scenario_record.specs.Ranges.{IsLink, IsInRange}
 use Rattle.scenario.specs.Table.{has_key, integers_at, table_at, table_or_empty, tables_at}
 use Rattle.scenario.specs.Text.{natural_of, natural, number_at, is_second, algorithm_in, processes_of, is_fresh, timeout_of, freshness_of, detector_of, share_of, delays_of, pair_of, same_pair, link_among, crash_process, crash_tick, crash_among, crashes_among, record_of}
 use Rattle.scenario.specs.Rules.{is_bad_proposal, are_other_than, are_bad_proposals, is_bad_detector, is_bad_timeout, is_bad_freshness, is_bad_share, is_bad_link, is_bad_pair, are_bad_pairs, is_bad_crash, are_bad_crashes, is_below, pairs, pairs_from, pair_below, most_in}
-use Rattle.scenario.specs.Refusals.{table_rules}
-use Rattle.scenario.specs.Groups.{Passes}
+use Rattle.scenario.specs.Refusals.{key_refusals, number_refusals, part_refusals, outage_refusals, refusal_of}
+use Rattle.scenario.proofs.Firsts.{are_none, untrue, no_pair}
 use Rattle.scenario.specs.Parts.{AreProcesses}
 use Rattle.scenario_record.specs.declared.algorithm.AlgorithmKind.{AlgorithmKind}
 use Rattle.scenario_record.specs.declared.algorithm.AlgorithmKind.TheVariants as kind
@@ -226,20 +226,22 @@ most_few : (second : Bool) → most_in second ≤ most_processes
 most_few true = omega arith
 most_few false = omega arith
 
-pub in_range : (t : Members) → Passes table_rules (Some t) → number_at (codes "seed") 0 t < 2 ^ 63 → IsInRange (record_of t)
-in_range t passes seed =
+pub in_range : (t : Members) → refusal_of t ≡ None → number_at (codes "seed") 0 t < 2 ^ 63 → IsInRange (record_of t)
+unfolding refusal_of
+in_range t none seed =
+    let passes = are_none (key_refusals t ++ (number_refusals t ++ (part_refusals t ++ outage_refusals t))) none in
     let n : ℕ = processes_of t in
     let numbers = passes.1.1.1 in
     let parts = numbers.1.1.1.1.1.1 in
-    let processes = within 1 (most_in (is_second t)) (codes "processes") 0 t numbers.1.0 in
+    let processes = within 1 (most_in (is_second t)) (codes "processes") 0 t (untrue _ _ numbers.1.0) in
     let few : most_in (is_second t) ≤ most_processes = most_few (is_second t) in
-    let horizon = within 1 10000000 (codes "horizon") 0 t numbers.1.1.0 in
-    let lookahead = within 1 1000000 (codes "lookahead") 0 t numbers.1.1.1.0 in
-    let limit = within 1 100000000 (codes "limit") 1000000 t numbers.1.1.1.1.0 in
-    let algorithm : algorithm_in t ≡ Some (unwrap_or (algorithm_in t) kind.Idle) = algorithm_is t parts.0 in
+    let horizon = within 1 10000000 (codes "horizon") 0 t (untrue _ _ numbers.1.1.0) in
+    let lookahead = within 1 1000000 (codes "lookahead") 0 t (untrue _ _ numbers.1.1.1.0) in
+    let limit = within 1 100000000 (codes "limit") 1000000 t (untrue _ _ numbers.1.1.1.1.0) in
+    let algorithm : algorithm_in t ≡ Some (unwrap_or (algorithm_in t) kind.Idle) = algorithm_is t (untrue _ _ parts.0) in
     let proposals : AreProposals n t (unwrap_or (algorithm_in t) kind.Idle) =
-    accepted_proposals n t (unwrap_or (algorithm_in t) kind.Idle) (ap (λ a. are_bad_proposals a n (has_key (codes "proposals") t) (integers_at (codes "proposals") t)) (sym algorithm) ∙ parts.1.0) in
-    let links = neither (is_bad_link (table_or_empty (codes "link") t)) (are_bad_pairs (processes_of t) (tables_at (codes "links") t)) parts.1.1.1.1.0 in
+    accepted_proposals n t (unwrap_or (algorithm_in t) kind.Idle) (ap (λ a. are_bad_proposals a n (has_key (codes "proposals") t) (integers_at (codes "proposals") t)) (sym algorithm) ∙ untrue _ _ parts.1.0) in
+    let links = neither (is_bad_link (table_or_empty (codes "link") t)) (are_bad_pairs (processes_of t) (tables_at (codes "links") t)) (untrue _ _ parts.1.1.1.1.0) in
     record {
       processes_low = processes.0;
       processes_high = omega arith;
@@ -250,11 +252,11 @@ in_range t passes seed =
       limit_low = limit.0;
       limit_high = limit.1;
       seed_high = seed;
-      numbers = detector_in_range (table_or_empty (codes "detector") t) parts.1.1.0;
-      share = for_some (option_map share_of (table_at (codes "share") t)) (λ period. (1 ≤ period) × (period ≤ 1000000)) (share_in_range (table_at (codes "share") t) parts.1.1.1.0);
+      numbers = detector_in_range (table_or_empty (codes "detector") t) (untrue _ _ parts.1.1.0);
+      share = for_some (option_map share_of (table_at (codes "share") t)) (λ period. (1 ≤ period) × (period ≤ 1000000)) (share_in_range (table_at (codes "share") t) (untrue _ _ parts.1.1.1.0));
       proposals = λ p. for_some (proposal (record_of t) p) (λ value. value < 2 ^ 32) (proposals.high (p - 1));
       proposed = λ p low high. proposals.each (p - 1) (omega arith);
-      crashes = λ p. for_some (crash (record_of t) p) (λ at. at ≤ 10000000) (crashes_in_range (processes_of t) (tables_at (codes "crash") t) (p - 1) parts.1.1.1.1.1.1.0);
+      crashes = λ p. for_some (crash (record_of t) p) (λ at. at ≤ 10000000) (crashes_in_range (processes_of t) (tables_at (codes "crash") t) (p - 1) (untrue _ _ parts.1.1.1.1.1.1.0));
       proposed_above = λ p above. proposals.above (p - 1) (omega arith);
       crashed_above = λ p above. no_crash_above (processes_of t) (tables_at (codes "crash") t) p above;
       linked = links_length (delays_of (table_or_empty (codes "link") t)) (tables_at (codes "links") t) (processes_of t);
@@ -262,8 +264,8 @@ in_range t passes seed =
           let good : AreProcesses (processes_of t) (from, to) = record { from = record { low = from_low; high = from_high }; to = record { low = to_low; high = to_high } } in
           subst (λ l. IsLink l) (sym (link_at (delays_of (table_or_empty (codes "link") t)) (tables_at (codes "links") t) (processes_of t) (from, to) no_link good))
           (pair_in_range (processes_of t) (table_or_empty (codes "link") t) (tables_at (codes "links") t) (from, to) links.0 links.1);
-      ahead = λ from to from_low from_high to_low to_high differ. not_below (record_of t) from to parts.1.1.1.1.1.0 from_low from_high to_low to_high differ;
+      ahead = λ from to from_low from_high to_low to_high differ. not_below (record_of t) from to (no_pair _ parts.1.1.1.1.1.0) from_low from_high to_low to_high differ;
       outages = λ from to from_low from_high to_low to_high.
           outages_in_range (processes_of t) (tables_at (codes "outage") t) (from, to)
-          (record { from = record { low = from_low; high = from_high }; to = record { low = to_low; high = to_high } }) parts.1.1.1.1.1.1.1.0;
+          (record { from = record { low = from_low; high = from_high }; to = record { low = to_low; high = to_high } }) (untrue _ _ parts.1.1.1.1.1.1.1.0);
     }

@@ -9,12 +9,11 @@ use Rattle.toml.specs.View.{items_of}
 use Rattle.scenario.specs.Table.{Field, tables_at, is_of, is_listed, has_unlisted, is_lacking, has_lacking, is_mistyped, has_mistyped}
 use Rattle.scenario.specs.Keys.{some_table, top_fields, outages_field, outage_fields}
 use Rattle.scenario.specs.Text.{is_second, processes_of, outages_among, record_of}
-use Rattle.scenario.specs.Rules.{unknown_key, wrong_kind, are_bad_outages, outages_refused}
-use Rattle.scenario.specs.Refusals.{key_rules}
+use Rattle.scenario.specs.Rules.{are_bad_outages, outages_refused}
+use Rattle.scenario.specs.Refusals.{key_refusals}
 use Rattle.scenario.specs.Drawn.{put, outage_table, all_outages, lacks_outages, with_outages}
 use Rattle.scenario.specs.declared.drawn.LinkOutage.{LinkOutage}
 use Rattle.scenario.proofs.Alike.{is_other, inner, tables, second, processes, record_alike}
-use Rattle.scenario.proofs.Rulings.{AreAlike, all_alike}
 use Rattle.scenario.proofs.Within.{neither}
 use Rattle.scenario.proofs.DrawnTables.{listed_drawn, whole_drawn, typed_drawn, read_put, keep_put, unlisted_put, unlisted_there, all_tables, back, none_drawn}
 
@@ -119,15 +118,14 @@ module _ (t : Members) (drawn : List LinkOutage) where
         behind,
       ) refl
 
-  keys_put : is_second t ≡ true → is_mistyped outages_field t ≡ false → AreAlike key_rules t put_drawn
+  keys_put : is_second t ≡ true → is_mistyped outages_field t ≡ false → key_refusals put_drawn ≡ key_refusals t
   keys_put is typed =
-      let ts = all_outages drawn t in (
+      let ts = all_outages drawn t in
+      rw (
         some_alike has_unlisted is (listed_put t ts) listed_drawn,
-        (
-          some_alike has_lacking is (lacking_put t ts) whole_drawn,
-          (some_alike has_mistyped is (mistyped_put t ts typed) typed_drawn, tt),
-        ),
-      )
+        some_alike has_lacking is (lacking_put t ts) whole_drawn,
+        some_alike has_mistyped is (mistyped_put t ts typed) typed_drawn,
+      ) refl
 
 -- ---- the file with them
 
@@ -138,18 +136,18 @@ kept (o ∷ os) t key other =
     elim (is_mistyped outages_field t) as (λ b. get_member key (cond b t (put_drawn t (o ∷ os))) ≡ get_member key t)
     [ true ↦ refl | false ↦ put_kept t (all_outages (o ∷ os) t) key other ]
 
-pub keys_alike : (drawn : List LinkOutage) (t : Members) → lacks_outages drawn t ≡ false → AreAlike key_rules t (with_outages drawn t)
+pub keys_alike : (drawn : List LinkOutage) (t : Members) → lacks_outages drawn t ≡ false → key_refusals (with_outages drawn t) ≡ key_refusals t
 unfolding with_outages
-keys_alike [] t fits = all_alike key_rules t
+keys_alike [] t fits = refl
 keys_alike (o ∷ os) t fits = by (is_mistyped outages_field t) refl
   where
-    by : (b : Bool) → is_mistyped outages_field t ≡ b → AreAlike key_rules t (cond b t (put_drawn t (o ∷ os)))
-    by true e = all_alike key_rules t
+    by : (b : Bool) → is_mistyped outages_field t ≡ b → key_refusals (cond b t (put_drawn t (o ∷ os))) ≡ key_refusals t
+    by true e = refl
     by false e = keys_put t (o ∷ os) (is_true (is_second t) fits) e
 
 -- ---- a file that has no key for them
 
-unknown : (u : Members) → is_second u ≡ false → has_unlisted (top_fields false) u ≡ true → unknown_key u ≡ true
+unknown : (u : Members) → is_second u ≡ false → has_unlisted (top_fields false) u ≡ true → some_table has_unlisted u ≡ true
 unfolding some_table
 unknown u is there = rw (is, there) refl
 
@@ -176,7 +174,7 @@ unlisted_with (o ∷ os) t e = by (is_mistyped outages_field t) refl
         unlisted_put (top_fields false) (codes "outage") (array (items_of (map table (all_outages (o ∷ os) t)))) t
         ∙ ap (λ b. not b || has_unlisted (top_fields false) t) unlisted
 
-pub key_unknown : (drawn : List LinkOutage) (t : Members) → lacks_outages drawn t ≡ true → unknown_key (with_outages drawn t) ≡ true
+pub key_unknown : (drawn : List LinkOutage) (t : Members) → lacks_outages drawn t ≡ true → some_table has_unlisted (with_outages drawn t) ≡ true
 key_unknown drawn t lacks =
     let u = with_outages drawn t in
     unknown u (second t u (kept drawn t) ∙ older drawn t lacks) (unlisted_with drawn t lacks)
@@ -184,7 +182,7 @@ key_unknown drawn t lacks =
 -- ---- the outages
 
 -- where the keys are right it has the tables of all of them
-pub all_there : (drawn : List LinkOutage) (t : Members) → lacks_outages drawn t ≡ false → wrong_kind t ≡ false → tables_at (codes "outage") (with_outages drawn t) ≡ all_outages drawn t
+pub all_there : (drawn : List LinkOutage) (t : Members) → lacks_outages drawn t ≡ false → some_table has_mistyped t ≡ false → tables_at (codes "outage") (with_outages drawn t) ≡ all_outages drawn t
 unfolding with_outages some_table has_mistyped
 all_there [] t fits typed = sym (append-nil (tables_at (codes "outage") t))
 all_there (o ∷ os) t fits typed =
@@ -192,7 +190,7 @@ all_there (o ∷ os) t fits typed =
     let right : is_mistyped outages_field t ≡ false = (neither _ _ (sym (with_last (λ f. is_mistyped f t)) ∙ top)).1 in
     rw right (put_there t (all_outages (o ∷ os) t))
 
-module _ (drawn : List LinkOutage) (t : Members) (fits : lacks_outages drawn t ≡ false) (typed : wrong_kind t ≡ false) where
+module _ (drawn : List LinkOutage) (t : Members) (fits : lacks_outages drawn t ≡ false) (typed : some_table has_mistyped t ≡ false) where
   pub outages_alike : outages_refused (with_outages drawn t) ≡ are_bad_outages (processes_of t) (all_outages drawn t)
   outages_alike = rw (processes t (with_outages drawn t) (kept drawn t), all_there drawn t fits typed) refl
 

@@ -4,7 +4,6 @@ pub mod Text
 pub mod Drawn
 pub mod Rules
 pub mod Refusals
-pub mod Groups
 pub mod Parts
 pub mod Names
 pub mod Place

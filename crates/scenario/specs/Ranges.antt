@@ -7,6 +7,7 @@ use Rattle.scenario.specs.Text.{is_second, processes_of}
 use Rattle.scenario.specs.Rules.{most_in}
 use Rattle.scenario.specs.declared.error.ScenarioError.{ScenarioError}
 use Rattle.scenario.specs.declared.error.ScenarioError.TheVariants as error
+use Rattle.scenario.specs.declared.place.Section.{Section}
 use Rattle.scenario.specs.declared.place.Section.TheVariants as section
 use Rattle.scenario.specs.declared.place.TableArray.{TableArray}
 use Rattle.scenario.specs.declared.place.TableArray.TheVariants as array
@@ -95,6 +96,12 @@ outage_subject n =
       pair = true;
       ends = true;
     }
+
+-- the refusal that is about the table of a section
+abbrev pub section_error : Section → ScenarioError
+section_error section.Detector = error.DetectorNumbers
+section_error section.Share = error.Share
+section_error section.Link = error.LinkNumbers
 
 -- the refusal that is about the tables of an array
 abbrev pub array_error : TableArray → ScenarioError

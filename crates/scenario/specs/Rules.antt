@@ -34,46 +34,14 @@ has_repeat same key (t ∷ ts) = list_any (λ u. same (key t) (key u)) ts || has
 abbrev pub same_process : ℕ → ℕ → Bool
 same_process p q = p == q
 
--- ---- the keys
-
-abbrev pub unknown_key : Members → Bool
-unknown_key t = some_table has_unlisted t
-
-abbrev pub missing_key : Members → Bool
-missing_key t = some_table has_lacking t
-
-abbrev pub wrong_kind : Members → Bool
-wrong_kind t = some_table has_mistyped t
-
 -- ---- the numbers of the top table
-
-abbrev pub version_refused : Members → Bool
-version_refused t = is_outside 1 2 (codes "version") 0 t
 
 -- how many processes a file may have, by its version
 abbrev pub most_in : (is_second : Bool) → ℕ
 most_in true = most_processes
 most_in false = 64
 
-abbrev pub processes_refused : Members → Bool
-processes_refused t = is_outside 1 (most_in (is_second t)) (codes "processes") 0 t
-
-abbrev pub horizon_refused : Members → Bool
-horizon_refused t = is_outside 1 10000000 (codes "horizon") 0 t
-
-abbrev pub lookahead_refused : Members → Bool
-lookahead_refused t = is_outside 1 1000000 (codes "lookahead") 0 t
-
-abbrev pub limit_refused : Members → Bool
-limit_refused t = is_outside 1 100000000 (codes "limit") 1000000 t
-
-abbrev pub seed_refused : Members → Bool
-seed_refused t = is_negative (codes "seed") 0 t
-
 -- ---- the algorithm and its proposals
-
-abbrev pub algorithm_refused : Members → Bool
-algorithm_refused t = is_none (algorithm_in t)
 
 abbrev pub is_bad_proposal : ℤ → Bool
 is_bad_proposal z = not (is_within 0 4294967295 z)
@@ -167,9 +135,6 @@ is_below links lookahead pair = nat_lt (links pair).min lookahead
 -- the least pair, by from, then to, whose link has its min below the lookahead
 unfoldable pub pair_below : Record → Option (ℕ × ℕ)
 pair_below s = find (is_below (λ pair. link s pair.0 pair.1) s.lookahead) (pairs s.processes)
-
-abbrev pub below_refused : Members → Bool
-below_refused t = is_some (pair_below (record_of t))
 
 -- ---- the crashes
 

@@ -5,18 +5,14 @@ ghost use Rattle.scenario.specs.Rules.{pair_below, pairs_from, is_below};
 ghost use Rattle.toml.specs.View.{table_view};
 ghost use Rattle.scenario.specs.Text.{record_of};
 ghost use Rattle.scenario.specs.Parts.{link_in, IsLow, IsTop};
-ghost use Rattle.scenario.specs.Faults.{Finds};
 
-use crate::error::ScenarioError;
-use crate::fault::BelowLookahead;
-use crate::finding::Finding;
 use crate::links::place_of;
 use crate::numbers::Top;
 use process_api::Pid;
 use scenario_record::Link;
 
 /// The link of two processes.
-fn link_of(links: &[Link], n: u16, from: u16, to: u16) -> Link
+pub(crate) fn link_of(links: &[Link], n: u16, from: u16, to: u16) -> Link
     requires few { n ≤ most_processes }
     requires all { length links.now ≡ n * n }
     requires from_low { 1 ≤ from }
@@ -29,7 +25,7 @@ fn link_of(links: &[Link], n: u16, from: u16, to: u16) -> Link
 }
 
 /// Whether the processes differ and a letter from one to the other may take fewer ticks than the lookahead.
-fn is_low(links: &[Link], lookahead: u32, n: u16, from: u16, to: u16) -> bool
+pub(crate) fn is_low(links: &[Link], lookahead: u32, n: u16, from: u16, to: u16) -> bool
     requires few { n ≤ most_processes }
     requires all { length links.now ≡ n * n }
     requires from_low { 1 ≤ from }
@@ -86,31 +82,4 @@ pub(crate) fn first_below(top: &Top<'_>, links: &[Link]) -> Option<(Pid, Pid)>
         }
     }
     None
-}
-
-/// Notes a pair whose link is below the lookahead. Answers its refusal.
-pub(crate) fn below_lookahead(
-    top: &Top<'_>,
-    links: &[Link],
-    pair: (Pid, Pid),
-    found: &mut Option<Finding<'_>>,
-) -> ScenarioError
-    requires numbers { IsTop top.now }
-    requires links { links.now ≡ (record_of (table_view top.now.table.now)).links }
-    requires all { length links.now ≡ top.now.numbers.processes * top.now.numbers.processes }
-    requires low { IsLow top.now.numbers.processes links.now top.now.numbers.lookahead pair }
-    ensures error { result ≡ ScenarioError.BelowLookahead pair.0 pair.1 }
-    ensures finds { Finds (table_view top.now.table.now) found.new result }
-{
-    let (from, to) = pair;
-    let n = top.numbers.processes;
-    let lookahead = top.numbers.lookahead;
-    let min = link_of(links, n, from.number(), to.number()).min;
-    *found = Some(Finding::Below(BelowLookahead {
-        from,
-        to,
-        min,
-        lookahead,
-    }));
-    ScenarioError::BelowLookahead { from, to }
 }

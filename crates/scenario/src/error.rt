@@ -7,7 +7,7 @@ use std::alloc::{AllocError, AllocFailed};
 use thiserror::Error;
 
 /// Why a scenario's file is refused, in the order in which the rules are tried: of several faults the first is
-/// answered. `Memory` may come at any point. Contracts know the refusals by their numbers (`specs/Refusals.antt`).
+/// answered (`specs/Refusals.antt` has the list). `Memory` may come at any point.
 #[derive(Debug, PartialEq, Eq, Drop, Error)]
 #[error("no scenario was read: {}", self.name())]
 pub enum ScenarioError {

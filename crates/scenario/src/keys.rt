@@ -1,20 +1,19 @@
 //! The tables of a scenario's file, and the faults of their keys.
-ghost use Rattle.std.specs.Prelude.{◌≡◌, false, is_some, IsSomeAnd, IsTrue, Some, IfOk, IfSome, IfErr, OnOk};
+ghost use Rattle.std.specs.Prelude.{◌≡◌, false, is_some, Some, IfOk, IfSome};
 ghost use Rattle.std.specs.List.{list_any};
 ghost use Rattle.std.specs.Option.{option_map_or};
 ghost use Rattle.toml.specs.View.{table_view};
 ghost use Rattle.scenario.specs.Parts.{fields_of, fault_of, error_of, table_in, tables_in, AreTables};
 ghost use Rattle.scenario.specs.Keys.{some_table, top_fields, detector_fields, share_fields, link_fields, pair_fields, crash_fields, outage_fields};
 ghost use Rattle.scenario.specs.Table.{tables_at};
-ghost use Rattle.scenario.specs.Refusals.{key_rules};
-ghost use Rattle.scenario.specs.Groups.{Passes, StopsAt};
+ghost use Rattle.scenario.specs.Refusals.{Judges, first_of, key_refusals};
 ghost use Rattle.scenario.specs.Place.{array_key, fields_at, fields_in, fields_of_array, table_of};
-ghost use Rattle.scenario.specs.Faults.{Breaks, Finds, IsFault};
+ghost use Rattle.scenario.specs.Faults.{Breaks, IsFault};
 
 use crate::error::ScenarioError;
 use crate::fault::{Fault, UnknownKey};
 use crate::field::{Field, Kind};
-use crate::finding::Finding;
+use crate::finding::{Finding, answer_found};
 use crate::place::{Place, Section, TableArray};
 use crate::table::{
     inner_table, inner_tables, is_fresh, is_second, lacking_key, mistyped_key, unlisted_key,
@@ -194,78 +193,50 @@ impl KeyFault {
         }
     }
 
-    /// Whether the table at a place is there and has such a fault; notes its first.
-    fn at<'a>(
-        self,
-        top: &Table,
-        place: Place,
-        table: Option<&'a Table>,
-        found: &mut Option<Finding<'a>>,
-    ) -> bool
+    /// The first such fault of the table at a place, where it is there.
+    fn at<'a>(self, top: &Table, place: Place, table: Option<&'a Table>) -> Option<Finding<'a>>
         requires { table_in table ≡ table_of place (table_view top.now) }
-        ensures test { result ≡ option_map_or
+        ensures test { is_some result ≡ option_map_or
             (λ t. fault_of self (fields_at place (table_view top.now) t) t) (table_in table.entry) false }
-        ensures finds { IsTrue result → IsSomeAnd found.new (Breaks (error_of self) (table_view top.now)) }
+        ensures finds { IfSome result (Breaks (error_of self) (table_view top.now)) }
     {
-        let Some(table) = table else {
-            return false;
-        };
-        let Some(fault) = self.of_table(top, place, table) else {
-            return false;
-        };
-        *found = Some(Finding::At { place, fault });
-        true
+        let table = table?;
+        let fault = self.of_table(top, place, table)?;
+        Some(Finding::At { place, fault })
     }
 
-    /// Whether a table of an array has such a fault; notes the first.
-    fn among<'a>(
-        self,
-        top: &Table,
-        array: TableArray,
-        tables: &[&'a Table],
-        found: &mut Option<Finding<'a>>,
-    ) -> bool
+    /// The first such fault of a table of an array.
+    fn among<'a>(self, top: &Table, array: TableArray, tables: &[&'a Table]) -> Option<Finding<'a>>
         requires { tables_in tables.now ≡ tables_at (array_key array) (table_view top.now) }
-        ensures test { result ≡ list_any (fault_of self (fields_of_array array)) (tables_in tables.now) }
-        ensures finds { IsTrue result → IsSomeAnd found.new (Breaks (error_of self) (table_view top.now)) }
+        ensures test { is_some result ≡ list_any (fault_of self (fields_of_array array)) (tables_in tables.now) }
+        ensures finds { IfSome result (Breaks (error_of self) (table_view top.now)) }
     {
         for i in 0..tables.len() {
-            if self.at(top, array.place(tables, i), Some(tables[i]), found) {
-                return true;
+            let found = self.at(top, array.place(tables, i), Some(tables[i]));
+            if found.is_some() {
+                return found;
             }
         }
-        false
+        None
     }
 
-    /// Whether a table of a file has such a fault; notes the first.
+    /// The first such fault of a table of a file.
     #[tactic(auto, unfolding(crate::specs::Keys::some_table))]
-    fn find<'a>(self, top: &'a Table, tables: &Tables<'a>, found: &mut Option<Finding<'a>>) -> bool
+    pub(crate) fn find<'a>(self, top: &'a Table, tables: &Tables<'a>) -> Option<Finding<'a>>
         requires { AreTables (table_view top.now) tables.now }
-        ensures test { result ≡ some_table (fault_of self) (table_view top.now) }
-        ensures finds { IsTrue result → IsSomeAnd found.new (Breaks (error_of self) (table_view top.now)) }
+        ensures test { is_some result ≡ some_table (fault_of self) (table_view top.now) }
+        ensures finds { IfSome result (Breaks (error_of self) (table_view top.now)) }
     {
         let detector = inner_table(top, "detector");
         let share = inner_table(top, "share");
         let link = inner_table(top, "link");
-        if self.at(top, Place::Top, Some(top), found) {
-            return true;
-        }
-        if self.at(top, Place::Section(Section::Detector), detector, found) {
-            return true;
-        }
-        if self.at(top, Place::Section(Section::Share), share, found) {
-            return true;
-        }
-        if self.at(top, Place::Section(Section::Link), link, found) {
-            return true;
-        }
-        if self.among(top, TableArray::Links, &tables.links, found) {
-            return true;
-        }
-        if self.among(top, TableArray::Crash, &tables.crashes, found) {
-            return true;
-        }
-        self.among(top, TableArray::Outage, &tables.outages, found)
+        answer_found!(self.at(top, Place::Top, Some(top)));
+        answer_found!(self.at(top, Place::Section(Section::Detector), detector));
+        answer_found!(self.at(top, Place::Section(Section::Share), share));
+        answer_found!(self.at(top, Place::Section(Section::Link), link));
+        answer_found!(self.among(top, TableArray::Links, &tables.links));
+        answer_found!(self.among(top, TableArray::Crash, &tables.crashes));
+        self.among(top, TableArray::Outage, &tables.outages)
     }
 }
 
@@ -285,24 +256,17 @@ pub(crate) fn tables_of(alloc: Global, top: &Table) -> Result<Tables<'_>, AllocE
 
 /// Refuses a file of which some table has a fault of its keys: keys that aren't listed first, then missing ones, then
 /// values of another kind.
-#[tactic(auto, using(crate::proofs::Findings::if_there))]
-pub(crate) fn check_keys<'a>(
-    top: &'a Table,
-    tables: &Tables<'a>,
-    found: &mut Option<Finding<'a>>,
-) -> Result<(), ScenarioError>
+pub(crate) fn check_keys(top: &Table, tables: &Tables<'_>) -> Result<(), ScenarioError>
     requires { AreTables (table_view top.now) tables.now }
-    ensures ok { OnOk result (Passes key_rules (Some (table_view top.now))) }
-    ensures err { IfErr result (StopsAt key_rules (Some (table_view top.now))) }
-    ensures finds { IfErr result (Finds (table_view top.now) found.new) }
+    ensures judged { Judges (first_of (key_refusals (table_view top.now))) result }
 {
-    if KeyFault::Unlisted.find(top, tables, found) {
+    if KeyFault::Unlisted.find(top, tables).is_some() {
         return Err(ScenarioError::UnknownKey);
     }
-    if KeyFault::Lacking.find(top, tables, found) {
+    if KeyFault::Lacking.find(top, tables).is_some() {
         return Err(ScenarioError::MissingKey);
     }
-    if KeyFault::Mistyped.find(top, tables, found) {
+    if KeyFault::Mistyped.find(top, tables).is_some() {
         return Err(ScenarioError::WrongKind);
     }
     Ok(())

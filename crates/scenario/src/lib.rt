@@ -27,6 +27,7 @@ mod error;
 mod fault;
 mod field;
 mod finding;
+mod found;
 mod keys;
 mod links;
 mod names;
@@ -35,8 +36,10 @@ mod outages;
 mod parts;
 mod place;
 mod proposals;
+mod proposals_fault;
 mod read;
 mod table;
+mod table_fault;
 mod twice;
 
 pub use drawn::LinkOutage;

@@ -1,5 +1,5 @@
 //! The outage tables.
-ghost use Rattle.std.specs.Prelude.{◌≡◌, ◌<◌, ◌≤◌, ◌+◌, ◌++◌, ◌∷◌, ◌*◌, List, [], false, map, length, get_or, codes, vec_len, is_err, is_none, slice_set, true, OnOk, IfOk, IfErr, IfSome};
+ghost use Rattle.std.specs.Prelude.{◌≡◌, ◌<◌, ◌≤◌, ◌+◌, ◌++◌, ◌∷◌, ◌*◌, List, [], false, map, length, get_or, codes, vec_len, is_none, slice_set, true, OnOk, IfOk, IfSome};
 ghost use Rattle.process_api.specs.Bounds.{most_processes};
 ghost use Rattle.toml.specs.Data.{Members};
 ghost use Rattle.toml.specs.View.{table_view};
@@ -7,25 +7,17 @@ ghost use Rattle.scenario.specs.Table.{tables_at};
 ghost use Rattle.scenario.specs.Text.{pair_of, outage_of, each_pairs_outages, outages_among};
 ghost use Rattle.scenario.specs.Drawn.{outage_table, all_outages};
 ghost use Rattle.scenario.specs.Rules.{is_bad_outage, are_bad_outages};
-ghost use Rattle.scenario.specs.Refusals.{GivenBy};
+ghost use Rattle.scenario.specs.Refusals.{Judges, when};
 ghost use Rattle.scenario.specs.Parts.{tables_in, outages_in, AreProcesses, IsTop};
-ghost use Rattle.scenario.specs.Ranges.{Subject, outage_subject};
-ghost use Rattle.scenario.specs.Faults.{Finds, IsFoundBy};
 
+use crate::crashes::MOST_TICK;
 use crate::drawn::LinkOutage;
 use crate::error::ScenarioError;
-use crate::fault::{Fault, NotBefore};
-use crate::finding::{Finding, accepted, out_of_memory, refused_at};
-use crate::links::{place_of, to_itself};
+use crate::links::place_of;
 use crate::numbers::{Top, ranged};
-use crate::place::TableArray;
-use crate::table::integer_at;
 use scenario_record::{LinkOutages, Outage};
 use std::alloc::{AllocError, Global};
 use toml::Table;
-
-/// The greatest tick at which an outage may begin or end.
-const MOST_TICK: u32 = 10_000_000;
 
 /// What a table of `outage` says.
 #[derive(Clone, Copy)]
@@ -37,40 +29,23 @@ pub(crate) struct PairOutage {
     outage: Outage,
 }
 
-/// The fault of a table of `outage`, if its `begin` isn't below its `until`.
-#[tactic(auto, unfolding(crate::specs::Faults::IsFoundBy))]
-fn not_before(table: &Table) -> Option<Fault<'static>>
-    ensures { (s : Subject) → s.ends ≡ true → IsFoundBy s (table_view table.now) result }
+/// What the table of an outage among n processes says, where its numbers are in their ranges.
+#[tactic(auto, unfolding(crate::specs::Rules::is_bad_outage))]
+fn read_outage(table: &Table, n: u16) -> Option<PairOutage>
+    ensures test { is_none result ≡ is_bad_outage n (table_view table.now) }
+    ensures pair { IfSome result (λ o. (o.from, o.to) ≡ pair_of (table_view table.now)) }
+    ensures outage { IfSome result (λ o. o.outage ≡ outage_of (table_view table.now)) }
+    ensures processes { IfSome result (λ o. AreProcesses n (o.from, o.to)) }
 {
-    let begin = integer_at(table, "begin")?;
-    let until = integer_at(table, "until")?;
-    if begin < until {
+    let from = ranged(table, "from", 0, 1, u32::from(n))?;
+    let to = ranged(table, "to", 0, 1, u32::from(n))?;
+    let begin = ranged(table, "begin", 0, 0, MOST_TICK)?;
+    let until = ranged(table, "until", 0, 0, MOST_TICK)?;
+    if from == to || until <= begin {
         return None;
     }
-    Some(Fault::NotBefore(NotBefore { begin, until }))
-}
-
-/// What the table of an outage among n processes says, where its numbers are in their ranges; else its fault.
-#[tactic(auto, unfolding(crate::specs::Rules::is_bad_outage))]
-fn read_outage(table: &Table, n: u16) -> Result<PairOutage, Option<Fault<'static>>>
-    ensures test { is_err result ≡ is_bad_outage n (table_view table.now) }
-    ensures pair { IfOk result (λ o. (o.from, o.to) ≡ pair_of (table_view table.now)) }
-    ensures outage { IfOk result (λ o. o.outage ≡ outage_of (table_view table.now)) }
-    ensures processes { IfOk result (λ o. AreProcesses n (o.from, o.to)) }
-    ensures fault { IfErr result (IsFoundBy (outage_subject n) (table_view table.now)) }
-{
-    let from = accepted!(ranged(table, "from", 0, 1, u32::from(n)));
-    let to = accepted!(ranged(table, "to", 0, 1, u32::from(n)));
-    let begin = accepted!(ranged(table, "begin", 0, 0, MOST_TICK));
-    let until = accepted!(ranged(table, "until", 0, 0, MOST_TICK));
-    if from == to {
-        return Err(to_itself(table));
-    }
-    if until <= begin {
-        return Err(not_before(table));
-    }
     let outage = Outage { begin, until };
-    Ok(PairOutage { from, to, outage })
+    Some(PairOutage { from, to, outage })
 }
 
 /// No outages of the link from each of n processes to each.
@@ -112,30 +87,21 @@ fn add_tables(
     top: &Top<'_>,
     tables: &[&Table],
     lists: &mut Vec<Vec<Outage>>,
-    found: &mut Option<Finding<'_>>,
 ) -> Result<(), ScenarioError>
     requires numbers { IsTop top.now }
     requires tables { tables_in tables.now ≡ tables_at (codes "outage") (table_view top.now.table.now) }
     requires none { outages_in lists.old.items ≡ each_pairs_outages [] top.now.numbers.processes }
-    ensures ok { OnOk result (are_bad_outages top.now.numbers.processes (tables_in tables.now) ≡ false) }
+    ensures judged { Judges
+        (when (are_bad_outages top.now.numbers.processes (tables_in tables.now)) ScenarioError.OutageLine) result }
     ensures lists { OnOk result
         (outages_in lists.new.items ≡ each_pairs_outages (tables_in tables.now) top.now.numbers.processes) }
-    ensures err { IfErr result
-        (GivenBy ScenarioError.OutageLine (are_bad_outages top.now.numbers.processes (tables_in tables.now))) }
-    ensures finds { IfErr result (Finds (table_view top.now.table.now) found.new) }
 {
     let n = top.numbers.processes;
     for i in 0..tables.len() {
-        let pair = match read_outage(tables[i], n) {
-            Ok(pair) => pair,
-            Err(fault) => {
-                let place = TableArray::Outage.place(tables, i);
-                return Err(refused_at(found, ScenarioError::OutageLine, place, fault));
-            }
+        let Some(pair) = read_outage(tables[i], n) else {
+            return Err(ScenarioError::OutageLine);
         };
-        if let Err(_) = add(lists, n, pair) {
-            return Err(out_of_memory(found));
-        }
+        add(lists, n, pair)?;
     }
     Ok(())
 }
@@ -176,11 +142,9 @@ fn add_drawn(
 ) -> Result<(), ScenarioError>
     requires few { n ≤ most_processes }
     requires all { length lists.old.items ≡ n * n }
-    ensures ok { OnOk result (are_bad_outages n (map outage_table drawn.now) ≡ false) }
+    ensures judged { Judges (when (are_bad_outages n (map outage_table drawn.now)) ScenarioError.OutageLine) result }
     ensures lists { (tables : List Members) → outages_in lists.old.items ≡ each_pairs_outages tables n
         → OnOk result (outages_in lists.new.items ≡ each_pairs_outages (tables ++ map outage_table drawn.now) n) }
-    ensures err { IfErr result
-        (GivenBy ScenarioError.OutageLine (are_bad_outages n (map outage_table drawn.now))) }
 {
     for outage in drawn {
         let Some(pair) = fitting(*outage, n) else {
@@ -210,33 +174,21 @@ pub(crate) fn read_outages(
     top: &Top<'_>,
     tables: &[&Table],
     drawn: &[LinkOutage],
-    found: &mut Option<Finding<'_>>,
 ) -> Result<Vec<LinkOutages>, ScenarioError>
     requires numbers { IsTop top.now }
     requires tables { tables_in tables.now ≡ tables_at (codes "outage") (table_view top.now.table.now) }
-    ensures ok { OnOk result
-        (are_bad_outages top.now.numbers.processes (all_outages drawn.now (table_view top.now.table.now)) ≡ false) }
+    ensures judged { Judges (when (are_bad_outages top.now.numbers.processes
+        (all_outages drawn.now (table_view top.now.table.now))) ScenarioError.OutageLine) result }
     ensures value { IfOk result (λ v. v.items
         ≡ outages_among (all_outages drawn.now (table_view top.now.table.now)) top.now.numbers.processes) }
-    ensures err { IfErr result (GivenBy ScenarioError.OutageLine
-        (are_bad_outages top.now.numbers.processes (all_outages drawn.now (table_view top.now.table.now)))) }
-    ensures finds { IfErr result (Finds (table_view top.now.table.now) found.new) }
 {
     let n = top.numbers.processes;
     if tables.is_empty() && drawn.is_empty() {
         return Ok(Vec::new(alloc));
     }
-    let mut lists = match no_outages(alloc, n) {
-        Ok(lists) => lists,
-        Err(_) => return Err(out_of_memory(found)),
-    };
-    accepted!(add_tables(top, tables, &mut lists, found));
-    if let Err(refused) = add_drawn(n, drawn, &mut lists) {
-        *found = None;
-        return Err(refused);
-    }
-    match ready(alloc, lists) {
-        Ok(links) => Ok(links),
-        Err(_) => Err(out_of_memory(found)),
-    }
+    let mut lists = no_outages(alloc, n)?;
+    add_tables(top, tables, &mut lists)?;
+    add_drawn(n, drawn, &mut lists)?;
+    let links = ready(alloc, lists)?;
+    Ok(links)
 }

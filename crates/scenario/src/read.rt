@@ -1,17 +1,17 @@
 //! How a scenario's file is read.
-ghost use Rattle.std.specs.Prelude.{◌≡◌, false, Some, OnOk, IfOk, IfErr};
+ghost use Rattle.std.specs.Prelude.{◌≡◌, false, None, OnOk, IfOk, IfErr};
 ghost use Rattle.toml.specs.View.{table_view};
 ghost use Rattle.toml.specs.Data.{Members};
 ghost use Rattle.scenario.specs.Text.{record_of};
 ghost use Rattle.scenario.specs.Drawn.{lacks_outages, with_outages};
 ghost use Rattle.scenario.specs.Parts.{AreNumbersOf, ArePartsOf};
-ghost use Rattle.scenario.specs.Refusals.{Accepts, Refuses, is_memory, table_rules};
-ghost use Rattle.scenario.specs.Groups.{Passes, StopsFirst};
+ghost use Rattle.scenario.specs.Refusals.{Accepts, IsAnswer, Judges, Refuses, is_memory, refusal_of};
 ghost use Rattle.scenario.specs.Faults.{Finds};
 
 use crate::drawn::LinkOutage;
 use crate::error::ScenarioError;
-use crate::finding::{Finding, Refused, accepted, out_of_memory};
+use crate::finding::Refused;
+use crate::found::finding_of;
 use crate::keys::{check_keys, tables_of};
 use crate::numbers::{Top, TopNumbers, read_numbers};
 use crate::outages::read_outages;
@@ -47,31 +47,10 @@ pub fn read_scenario(alloc: Global, bytes: &[u8]) -> Result<Scenario, ScenarioEr
 /// or `Memory`, which comes where memory was refused, at any point.
 #[tactic(auto, unfolding(crate::specs::Drawn::with_outages))]
 pub fn read_table(alloc: Global, table: &Table) -> Result<Scenario, ScenarioError>
-    ensures ok { OnOk result (Passes table_rules (Some (table_view table.now))) }
+    ensures judged { Judges (refusal_of (table_view table.now)) result }
     ensures value { IfOk result (λ s. s ≡ record_of (table_view table.now)) }
-    ensures err { IfErr result (StopsFirst table_rules (Some (table_view table.now))) }
 {
-    read_noting(alloc, table, &[], &mut None)
-}
-
-/// Reads a scenario from its file's table and outages that were drawn besides: answers what [`read_table`] answers of
-/// the table to which they are added at `outage`, behind the file's own (`specs/Drawn.antt`), and makes no table of
-/// them.
-///
-/// # Errors
-///
-/// Those of [`read_table`] for that table. So where outages are drawn and the file isn't of version 2 it is
-/// `UnknownKey`, and a drawn outage that is out of range is refused as its table would be, by `OutageLine`.
-pub fn read_with_outages(
-    alloc: Global,
-    table: &Table,
-    drawn: &[LinkOutage],
-) -> Result<Scenario, ScenarioError>
-    ensures ok { OnOk result (Passes table_rules (Some (with_outages drawn.now (table_view table.now)))) }
-    ensures value { IfOk result (λ s. s ≡ record_of (with_outages drawn.now (table_view table.now))) }
-    ensures err { IfErr result (StopsFirst table_rules (Some (with_outages drawn.now (table_view table.now)))) }
-{
-    read_noting(alloc, table, drawn, &mut None)
+    read_with_outages(alloc, table, &[])
 }
 
 /// What a scenario has, by its parts.
@@ -102,32 +81,31 @@ fn lacks_key(drawn: &[LinkOutage], table: &Table) -> bool
     !drawn.is_empty() && !is_second(table)
 }
 
-/// Reads a scenario from its file's table and drawn outages. Where it is refused, notes what is found in the file, and
-/// where.
-fn read_noting<'a>(
+/// Reads a scenario from its file's table and outages that were drawn besides: answers what [`read_table`] answers of
+/// the table to which they are added at `outage`, behind the file's own (`specs/Drawn.antt`), and makes no table of
+/// them.
+///
+/// # Errors
+///
+/// Those of [`read_table`] for that table. So where outages are drawn and the file isn't of version 2 it is
+/// `UnknownKey`, and a drawn outage that is out of range is refused as its table would be, by `OutageLine`.
+pub fn read_with_outages(
     alloc: Global,
-    table: &'a Table,
+    table: &Table,
     drawn: &[LinkOutage],
-    found: &mut Option<Finding<'a>>,
 ) -> Result<Scenario, ScenarioError>
-    ensures ok { OnOk result (Passes table_rules (Some (with_outages drawn.now (table_view table.now)))) }
+    ensures judged { Judges (refusal_of (with_outages drawn.now (table_view table.now))) result }
     ensures value { IfOk result (λ s. s ≡ record_of (with_outages drawn.now (table_view table.now))) }
-    ensures err { IfErr result (StopsFirst table_rules (Some (with_outages drawn.now (table_view table.now)))) }
-    ensures finds { IfErr result (Finds (table_view table.now) found.new) }
 {
     if lacks_key(drawn, table) {
-        *found = None;
         return Err(ScenarioError::UnknownKey);
     }
-    let tables = match tables_of(alloc, table) {
-        Ok(tables) => tables,
-        Err(_) => return Err(out_of_memory(found)),
-    };
-    accepted!(check_keys(table, &tables, found));
-    let numbers = accepted!(read_numbers(table, found));
+    let tables = tables_of(alloc, table)?;
+    check_keys(table, &tables)?;
+    let numbers = read_numbers(table)?;
     let top = Top { table, numbers };
-    let parts = accepted!(read_parts(alloc, &top, &tables, found));
-    let outages = accepted!(read_outages(alloc, &top, &tables.outages, drawn, found));
+    let parts = read_parts(alloc, &top, &tables)?;
+    let outages = read_outages(alloc, &top, &tables.outages, drawn)?;
     Ok(Scenario::of(fields_of(numbers, parts, outages)))
 }
 
@@ -138,16 +116,20 @@ fn read_noting<'a>(
 ///
 /// The refusal that [`read_table`] answers, with what breaks its rule: what is named stands there
 /// (`specs/Faults.antt`).
-#[tactic(auto, unfolding(crate::specs::Drawn::with_outages))]
 pub fn read_with_place(alloc: Global, table: &Table) -> Result<Scenario, Refused<'_>>
-    ensures ok { OnOk result (Passes table_rules (Some (table_view table.now))) }
+    ensures ok { OnOk result (refusal_of (table_view table.now) ≡ None) }
     ensures value { IfOk result (λ s. s ≡ record_of (table_view table.now)) }
-    ensures err { IfErr result (λ r. StopsFirst table_rules (Some (table_view table.now)) r.error) }
+    ensures err { IfErr result (λ r. IsAnswer (refusal_of (table_view table.now)) r.error) }
     ensures finds { IfErr result (λ r. Finds (table_view table.now) r.finding r.error) }
 {
-    let mut finding = None;
-    match read_noting(alloc, table, &[], &mut finding) {
+    match read_table(alloc, table) {
         Ok(scenario) => Ok(scenario),
-        Err(error) => Err(Refused { error, finding }),
+        Err(error) => match finding_of(alloc, table, &error) {
+            Ok(finding) => Err(Refused { error, finding }),
+            Err(_) => Err(Refused {
+                error: ScenarioError::Memory,
+                finding: None,
+            }),
+        },
     }
 }

@@ -6,22 +6,12 @@ use Rattle.toml.specs.Parse.{parse_document}
 use Rattle.scenario_record.specs.Record.{Record}
 use Rattle.scenario.specs.Drawn.{with_outages}
 use Rattle.scenario.specs.Text.{record_of, processes_of}
-use Rattle.scenario.specs.Refusals.{Rule, rule_at, rules, table_rules, Accepts}
-use Rattle.scenario.specs.Groups.{Passes}
+use Rattle.scenario.specs.Refusals.{Accepts}
 use Rattle.network.specs.Laid.{laid_links}
 use Rattle.study.specs.Sources.{SourcesRecord}
 use Rattle.study.specs.Laid.{horizon_of, seed_of, lay_links, IsLaidBy, file_over}
 use Rattle.study.proofs.OneNetwork.{one_drawn, one_links}
 use Rattle.study.specs.Runs.{RunSources, IsRunTable, StandsFor, IsScenarioOf, IsTextOf, IsRunText}
-
-passes : (rs : List Rule) (d : Option Members) → ((k : ℕ) → (rule_at rs k).applies d ≡ false) → Passes rs d
-passes [] d none = tt
-passes (r ∷ rs) d none = (none 0, passes rs d (λ k. none (suc k)))
-
--- no rule applies to the table of an accepted text
-accepted_passes : (t : Members) → ((k : ℕ) → (rule_at rules k).applies (Some t) ≡ false) → Passes table_rules (Some t)
-unfolding rules
-accepted_passes t none = passes table_rules (Some t) (λ k. none (suc k))
 
 -- a text that reads back as a table
 pub text_of : (t : Members) (text : List ℕ) → (members_depth t ≤ 80 → parse_document text ≡ Some t) → IsTextOf t text
@@ -33,7 +23,7 @@ text_of t text back = record {
     same : (t : Members) (s : Record) (accepts : Accepts text s) → accepts.table ≡ t → StandsFor t s
     same t s accepts e =
         subst (λ u. StandsFor u s) e
-        (record { accepted = accepted_passes accepts.table accepts.no_rule; record_is = accepts.stands_for })
+        (record { unrefused = accepts.unrefused; record_is = accepts.stands_for })
 
 pub run_text : (r : RunSources) (t : Members) (text : List ℕ) → IsRunTable r t
     → (members_depth t ≤ 80 → parse_document text ≡ Some t) → IsRunText r text

@@ -1,11 +1,10 @@
 -- The table and the scenario of a run, by its files.
-use Rattle.std.specs.Prelude.{◌≡◌, ◌≤◌, ℕ, List, Bool, false, Some, Result, Ok, Err}
+use Rattle.std.specs.Prelude.{◌≡◌, ◌≤◌, ℕ, List, Bool, false, Some, None, Result, Ok, Err}
 use Rattle.toml.specs.Data.{Members, members_depth, members_have_valid_dates}
 use Rattle.toml.specs.Parse.{parse_document}
 use Rattle.scenario_record.specs.Record.{Record}
 use Rattle.scenario.specs.Text.{record_of}
-use Rattle.scenario.specs.Refusals.{Accepts, IsFirst, table_rules, is_memory as is_scenario_memory}
-use Rattle.scenario.specs.Groups.{Passes}
+use Rattle.scenario.specs.Refusals.{Accepts, refusal_of, is_memory as is_scenario_memory}
 use Rattle.scenario.specs.declared.error.ScenarioError.{ScenarioError}
 use Rattle.study.specs.Sources.{SourcesRecord}
 use Rattle.study.specs.Laid.{IsLaid, IsUnlaid}
@@ -32,9 +31,9 @@ HasNoTable (Ok s) f = IsUnlaid s f
 
 -- ---- the scenario of a run
 
--- no rule of tables applies to the table, and the scenario is the one that it stands for
+-- the table isn't refused, and the scenario is the one that it stands for
 pub record StandsFor (t : Members) (s : Record) : Type 0 where
-  pub accepted : Passes table_rules (Some t)
+  pub unrefused : refusal_of t ≡ None
   pub record_is : s ≡ record_of t
 
 pub record IsScenarioOf (r : RunSources) (s : Record) : Type 0 where
@@ -42,11 +41,11 @@ pub record IsScenarioOf (r : RunSources) (s : Record) : Type 0 where
   pub is_table : IsRunTable r table
   pub stands_for : StandsFor table s
 
--- of the rules of tables this is the first that applies to the run's table
+-- the refusal is that of the run's table
 pub record IsRefusedBy (r : RunSources) (e : ScenarioError) : Type 0 where
   pub table : Members
   pub is_table : IsRunTable r table
-  pub is_first : IsFirst table_rules (Some table) e
+  pub applies : refusal_of table ≡ Some e
 
 -- why the run has no scenario: it has no table, or its table is refused
 abbrev pub IsRefusedFor : RunSources → ReadError → Type 0

@@ -169,6 +169,7 @@ impl Grid {
         ensures seeds { self.now.over ≡ [] → HaveOwnSeeds (runs self.now) }
         ensures even { AreDealtEvenly self.now }
     {
+        // What a grid promises of its fields is known once one is read.
         let _seeds = self.seeds;
     }
 }

@@ -3,8 +3,6 @@ use Rattle.std.proofs.Common.{◌≡◌, ◌⊎◌, ◌==◌, arith, ◌&&◌, i
 use Rattle.std.proofs.Common.{Bor, Option, None, Some, is_some, option_map, MatchOption}
 use Rattle.std.proofs.lemmas.Bool.{ne_eqb}
 use Rattle.std.specs.List.{AllZip}
-use Rattle.scenario.specs.Groups.{Decided, Passes}
-use Rattle.scenario.specs.Refusals.{Rule, rule_at, rules, table_rules}
 use Rattle.scenario_record.specs.Record.{Record}
 use Rattle.toml.specs.Data.{Members}
 use Rattle.study.specs.Laid.{IsLaid, IsLaidBy, is_run}
@@ -16,7 +14,7 @@ use Rattle.study_commands.specs.Fault.{IsOfWordsFor}
 use Rattle.study_commands.specs.File.{AreFiles, AreSet, AreSources, IsOwnScenario, IsScenario, IsTable, MayBeTable, is_alone}
 use Rattle.study_commands.specs.File.{network_path, no_axes, set_words}
 use Rattle.study_commands.specs.Refusal.{AreNoSources, IsNoScenario, IsOfFile, IsOfFiles, IsOfOwnFile, IsOfSources}
-use Rattle.study_commands.specs.Refusal.{IsRefusedFile}
+use Rattle.study_commands.specs.Refusal.{Decided, IsRefusedFile}
 use Rattle.study_commands.specs.WordRefusals.{SaysNoSources}
 use Rattle.study_commands.specs.Inside.Setting.{CannotSet, StandsForNone}
 use Rattle.study_commands.specs.declared.fault.Fault.{Fault}
@@ -30,14 +28,6 @@ none_laid t false = refl
 
 alone_laid : (t : Members) → IsLaid (record { scenario = t; network = None }) t
 alone_laid t = none_laid t (is_run t)
-
-passes : (rs : List Rule) (d : Option Members) → ((k : ℕ) → (rule_at rs k).applies d ≡ false) → Passes rs d
-passes [] d none = tt
-passes (r ∷ rs) d none = (none 0, passes rs d (λ k. none (suc k)))
-
-accepted_passes : (t : Members) → ((k : ℕ) → (rule_at rules k).applies (Some t) ≡ false) → Passes table_rules (Some t)
-unfolding rules
-accepted_passes t none = passes table_rules (Some t) (λ k. none (suc k))
 
 -- where a scenario's file alone is named, there are no words of other files and keys
 alone_words : (network : Option (Bor (List ℕ))) (words : List (Bor (List ℕ)))
@@ -74,7 +64,7 @@ module _ (input : Option (List ℕ)) (texts : SourceTexts) where
           table = t;
           is_table = alone_laid t;
           stands_for = record {
-            accepted = accepted_passes t own.accepted.no_rule;
+            unrefused = own.accepted.unrefused;
             record_is = own.accepted.stands_for;
           };
         };

@@ -1,5 +1,5 @@
 -- Why files are refused, and how that is told.
-use Rattle.std.specs.Prelude.{◌≡◌, ◌≢◌, ◌<◌, ◌⊎◌, ℕ, List, ◌++◌, length, false, Option, None, Some, IfSome, Ok, Err, String, codes, string_bytes}
+use Rattle.std.specs.Prelude.{◌≡◌, ◌≢◌, ◌<◌, ◌⊎◌, ℕ, List, ◌++◌, length, false, Option, None, Some, IfSome, Ok, Err, Bool, true, String, codes, string_bytes}
 use Rattle.std.specs.declared.alloc.Global.{Global}
 use Rattle.diagnosis.specs.Diagnosis.{RefusesFor}
 use Rattle.diagnosis.specs.Text.{refused_text}
@@ -9,7 +9,6 @@ use Rattle.study_commands.specs.File.{AreBytes, AreFiles, AreSources, is_alone, 
 use Rattle.study_commands.specs.WordRefusals.{SaysNoSources}
 use Rattle.study_commands.specs.declared.fault.Fault.{Fault}
 use Rattle.study_commands.specs.declared.fault.Fault.TheVariants.{Memory, Refused, Words, WordsMemory}
-use Rattle.scenario.specs.Groups.{Decided}
 use Rattle.scenario.specs.Refusals.{IsDocumentOf}
 use Rattle.std.specs.List.{AllZip}
 use Rattle.study.specs.Grid.{GridRecord}
@@ -26,6 +25,11 @@ use Rattle.shell.specs.Input.{input_path, most_bytes}
 -- the line, where there was memory for one
 abbrev pub Says : Option (String Global) → List ℕ → Type 0
 Says line text = IfSome line (λ l. string_bytes l ≡ text)
+
+-- one of two facts, as a test decides
+abbrev pub Decided : Bool → Type 0 → Type 0 → Type 0
+Decided true A B = A
+Decided false A B = B
 
 -- a file can't be read, or what it has breaks a rule of scenario files
 pub data FileRefusal : Type 0 where

@@ -5,7 +5,7 @@ use Rattle.diagnosis.proofs.answer.refused_table.Goals as goal
 pub returns-in_default : goal.returns-in_default
 returns-in_default c = record {
   other = search rules;
-  first = c.requires.first (search rules);
+  applies = c.requires.applies (search rules);
   its = nothing;
   is_reason = tt;
   told = search rules;
@@ -14,7 +14,7 @@ returns-in_default c = record {
 pub returns : goal.returns
 returns c = record {
   other = search rules;
-  first = c.requires.first (search rules);
+  applies = c.requires.applies (search rules);
   its = found c.in-Some.finding c.in_ok-meant.meant;
   is_reason = (rw c.in-Some.is at c.requires.finds, c.in_ok-meant.ensures);
   told = search rules;

@@ -3,6 +3,7 @@ use Rattle.std.proofs.lemmas.List.{append-nil}
 use Rattle.scenario.specs.Text.{each_pairs_outages}
 use Rattle.scenario.specs.Drawn.{outage_table}
 use Rattle.scenario.specs.Rules.{is_bad_outage}
+use Rattle.scenario.proofs.Firsts.{applies}
 use Rattle.scenario.proofs.DrawnTables.{drawn_more, bad_among, good_more}
 use Rattle.scenario.proofs.outages.add_drawn.Goals as goal
 
@@ -24,6 +25,6 @@ loop-outage-preserved c =
           ∙ ap (λ ts. each_pairs_outages ts n) (append_assoc tables done (outage_table o ∷ []) ∙ ap (λ ts. tables ++ ts) (sym more));
     }
 
-pub returns-in_default-clause-err : goal.returns-in_default-clause-err
-returns-in_default-clause-err c = λ other.
-    (refl, bad_among c.args.drawn.now c.loop-outage.outage-index c.outage-item.result c.loop-outage-test.true c.outage-item.is (is_bad_outage c.args.n) (sym c.in_default.ensures.test))
+pub returns-in_default-clause-judged : goal.returns-in_default-clause-judged
+returns-in_default-clause-judged c = λ other.
+    applies _ _ (bad_among c.args.drawn.now c.loop-outage.outage-index c.outage-item.result c.loop-outage-test.true c.outage-item.is (is_bad_outage c.args.n) (sym c.in_default.ensures.test))

@@ -3,28 +3,21 @@ use Rattle.std.proofs.lemmas.List.{take_all, length-map}
 use Rattle.toml.specs.View.{table_view}
 use Rattle.scenario.specs.Rules.{is_bad_outage}
 use Rattle.scenario.specs.Parts.{outages_in, tables_in}
-use Rattle.scenario.proofs.Elements.{IsAt, numbered_table}
+use Rattle.scenario.proofs.Elements.{IsAt}
 use Rattle.scenario.proofs.Slots.{bad_one, none_more, one_more}
+use Rattle.scenario.proofs.Firsts.{applies, passes}
 use Rattle.scenario.proofs.Cuts.{pairs_length}
 use Rattle.scenario.proofs.outages.add_tables.Goals as goal
 
 pub loop-i-init : goal.loop-i-init
 loop-i-init c = record { clean = refl; lists = c.requires.none }
 
-pub returns-in-Err-clause-err : goal.returns-in-Err-clause-err
-returns-in-Err-clause-err c = λ other.
+pub returns-in_default-clause-judged : goal.returns-in_default-clause-judged
+returns-in_default-clause-judged c = λ other.
     let spot : IsAt c.args.tables.now c.loop-i.i c.index-tables-i.result = record { low = c.loop-i-test.true; is = c.index-tables-i.is } in
     let n = c.args.top.now.numbers.processes in
-    let bad : is_bad_outage n (table_view c.index-tables-i.result.now) ≡ true = search (rules, c.in-Err.ensures.test) in
-    (c.refused_at.ensures.error, bad_one (is_bad_outage n) c.args.tables.now c.loop-i.i c.index-tables-i.result spot bad)
-
-pub returns-in-Err-clause-finds : goal.returns-in-Err-clause-finds
-returns-in-Err-clause-finds c =
-    let spot : IsAt c.args.tables.now c.loop-i.i c.index-tables-i.result = record { low = c.loop-i-test.true; is = c.index-tables-i.is } in
-    let file = table_view c.args.top.now.table.now in
-    c.refused_at.ensures.finds file (table_view c.index-tables-i.result.now)
-    (rw c.place-place.ensures (numbered_table c.args.tables.now file (codes "outage") c.loop-i.i c.index-tables-i.result c.requires.tables spot))
-    (rw (c.place-place.ensures, ← c.requires.numbers.processes) c.in-Err.ensures.fault)
+    let bad : is_bad_outage n (table_view c.index-tables-i.result.now) ≡ true = search (rules, c.read_outage.ensures.test) in
+    applies _ _ (bad_one (is_bad_outage n) c.args.tables.now c.loop-i.i c.index-tables-i.result spot bad)
 
 pub add-requires-clause-all : goal.add-requires-clause-all
 add-requires-clause-all c =
@@ -34,17 +27,17 @@ pub loop-i-preserved : goal.loop-i-preserved
 loop-i-preserved c =
     let spot : IsAt c.args.tables.now c.loop-i.i c.index-tables-i.result = record { low = c.loop-i-test.true; is = c.index-tables-i.is } in
     let n = c.args.top.now.numbers.processes in
-    let read = c.in-Ok.ensures in
+    let read = c.in-Some.ensures in
     record {
       clean = none_more (is_bad_outage n) c.args.tables.now c.loop-i.i c.index-tables-i.result spot c.loop-i.invariant.clean (sym read.test);
       lists = rw (one_more c.args.tables.now c.loop-i.i c.index-tables-i.result spot)
-          (c.in_default.ensures.lists (tables_in (take c.loop-i.i c.args.tables.now)) (table_view c.index-tables-i.result.now) read.pair read.outage c.loop-i.invariant.lists);
+          (c.in_ok-add.ensures.lists (tables_in (take c.loop-i.i c.args.tables.now)) (table_view c.index-tables-i.result.now) read.pair read.outage c.loop-i.invariant.lists);
     }
 
-pub returns-clause-ok : goal.returns-clause-ok
-returns-clause-ok c =
+pub returns-clause-judged : goal.returns-clause-judged
+returns-clause-judged c =
     let all : take c.loop-i.i c.args.tables.now ≡ c.args.tables.now = take_all c.loop-i.i c.args.tables.now (omega arith) in
-    rw all at c.loop-i.invariant.clean
+    passes _ _ (rw all at c.loop-i.invariant.clean)
 
 pub returns-clause-lists : goal.returns-clause-lists
 returns-clause-lists c =

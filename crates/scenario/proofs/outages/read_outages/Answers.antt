@@ -19,10 +19,10 @@ returns-then-is_empty-2-clause-value c =
 pub add_drawn-requires-clause-all : goal.add_drawn-requires-clause-all
 add_drawn-requires-clause-all c =
     sym (length-map c.add_tables.new.lists.items (λ v. v.items))
-    ∙ pairs_length c.args.top.now.numbers.processes (outages_in c.add_tables.new.lists.items) (tables_in c.args.tables.now) c.in-Ok-add_tables.ensures.lists
+    ∙ pairs_length c.args.top.now.numbers.processes (outages_in c.add_tables.new.lists.items) (tables_in c.args.tables.now) c.in_ok-add_tables.ensures.lists
 
-pub returns-in-Ok-ready-clause-value : goal.returns-in-Ok-ready-clause-value
-returns-in-Ok-ready-clause-value c =
+pub returns-clause-value : goal.returns-clause-value
+returns-clause-value c =
     let n = c.args.top.now.numbers.processes in
     let tables = tables_in c.args.tables.now in
     let drawn = map outage_table c.args.drawn.now in
@@ -31,5 +31,5 @@ returns-in-Ok-ready-clause-value c =
       | else-is_empty-via-else-is_empty w ↦ let some : 1 ≤ length c.args.tables.now = search rules in omega arith
     ] in
     let some : 1 ≤ length (tables ++ drawn) = simp (length-append, length-map) sides in
-    c.in-Ok-ready.ensures
-    ∙ (c.in_default.ensures.lists tables c.in-Ok-add_tables.ensures.lists ∙ rw (← c.requires.tables) (pairs_all n (tables ++ drawn) some))
+    c.in_ok-links.ensures
+    ∙ (c.in_ok-add_drawn.ensures.lists tables c.in_ok-add_tables.ensures.lists ∙ rw (← c.requires.tables) (pairs_all n (tables ++ drawn) some))

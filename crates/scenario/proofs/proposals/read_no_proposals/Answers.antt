@@ -8,6 +8,3 @@ pub returns-clause-value : goal.returns-clause-value
 returns-clause-value c =
     let none : has_key (codes "proposals") (table_view c.args.top.now) ≡ false = search rules in
     rw (c.new.ensures.items, no_key (codes "proposals") (table_view c.args.top.now) none)
-
-pub returns-then-has-clause-finds : goal.returns-then-has-clause-finds
-returns-then-has-clause-finds c = λ idle. c.refused.ensures.finds (table_view c.args.top.now) (idle, search rules)

@@ -19,7 +19,7 @@ returns-in-Accepted-clause-text g c =
       record {
         table = t;
         is_table = c.in_ok-table.ensures.table;
-        stands_for = record { accepted = its.passes; record_is = refl };
+        stands_for = record { unrefused = its.unrefused; record_is = refl };
       },
       record {
         entries = a.estimate.entries;
@@ -40,7 +40,7 @@ returns-in-Accepted-clause-told g c =
       record {
         table = t;
         is_table = c.in_ok-table.ensures.table;
-        stands_for = record { accepted = its.passes; record_is = refl };
+        stands_for = record { unrefused = its.unrefused; record_is = refl };
       },
       rw c.in_ok-scenario-in-Accepted.ensures at c.in_ok-tell_of-in-Accepted.ensures.told,
     )
@@ -53,5 +53,5 @@ returns-clause-why g c =
     record {
       reason = error.Scenario r.refusal;
       other = its.other;
-      refused = record { table = t; is_table = c.in_ok-table.ensures.table; is_first = its.first };
+      refused = record { table = t; is_table = c.in_ok-table.ensures.table; applies = its.applies };
     }

@@ -1,4 +1,4 @@
-use Rattle.std.proofs.Common.{◌≡◌, ◌∙◌, ap, sym, take, arith}
+use Rattle.std.proofs.Common.{◌≡◌, ◌∙◌, ap, sym, take, arith, is_some, true}
 use Rattle.std.proofs.lemmas.List.{take_all}
 use Rattle.toml.specs.View.{table_view}
 use Rattle.scenario.specs.Parts.{fault_of}
@@ -7,20 +7,21 @@ use Rattle.scenario.proofs.Elements.{IsAt, numbered_table}
 use Rattle.scenario.proofs.Slots.{bad_one, none_more}
 use Rattle.scenario.proofs.keys.KeyFault.among.Goals as goal
 
-pub at-requires : goal.at-requires
-at-requires c =
+pub at-found-requires : goal.at-found-requires
+at-found-requires c =
     let spot : IsAt c.args.tables.now c.loop-i.i c.index-tables-i.result = record { low = c.loop-i-test.true; is = c.index-tables-i.is } in
     sym (ap (λ p. table_of p (table_view c.args.top.now)) c.place.ensures ∙ numbered_table c.args.tables.now (table_view c.args.top.now) (array_key c.args.array) c.loop-i.i c.index-tables-i.result c.requires spot)
 
-pub returns-then-at-clause-test : goal.returns-then-at-clause-test
-returns-then-at-clause-test c =
+pub returns-then-is_some-clause-test : goal.returns-then-is_some-clause-test
+returns-then-is_some-clause-test c =
     let spot : IsAt c.args.tables.now c.loop-i.i c.index-tables-i.result = record { low = c.loop-i-test.true; is = c.index-tables-i.is } in
-    sym (bad_one (fault_of c.args.self (fields_of_array c.args.array)) c.args.tables.now c.loop-i.i c.index-tables-i.result spot (sym (rw c.place.ensures at c.at.ensures.test) ∙ c.if-at.true))
+    let here : is_some c.at-found.result ≡ true = sym c.is_some.ensures ∙ c.if-is_some.true in
+    here ∙ sym (bad_one (fault_of c.args.self (fields_of_array c.args.array)) c.args.tables.now c.loop-i.i c.index-tables-i.result spot (sym (rw c.place.ensures at c.at-found.ensures.test) ∙ here))
 
 pub loop-i-preserved : goal.loop-i-preserved
 loop-i-preserved c =
     let spot : IsAt c.args.tables.now c.loop-i.i c.index-tables-i.result = record { low = c.loop-i-test.true; is = c.index-tables-i.is } in
-    none_more (fault_of c.args.self (fields_of_array c.args.array)) c.args.tables.now c.loop-i.i c.index-tables-i.result spot c.loop-i.invariant (sym (rw c.place.ensures at c.at.ensures.test) ∙ c.if-at.false)
+    none_more (fault_of c.args.self (fields_of_array c.args.array)) c.args.tables.now c.loop-i.i c.index-tables-i.result spot c.loop-i.invariant (sym (rw c.place.ensures at c.at-found.ensures.test) ∙ (sym c.is_some.ensures ∙ c.if-is_some.false))
 
 pub returns-clause-test : goal.returns-clause-test
 returns-clause-test c =

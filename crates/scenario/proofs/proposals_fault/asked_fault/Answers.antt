@@ -1,7 +1,7 @@
 use Rattle.std.proofs.Common.{◌≡◌, ◌∙◌, length, sym, rules}
 use Rattle.toml.specs.View.{array_view, table_view}
 use Rattle.scenario.proofs.Items.{count_view}
-use Rattle.scenario.proofs.proposals.asked_fault.Goals as goal
+use Rattle.scenario.proofs.proposals_fault.asked_fault.Goals as goal
 
 pub returns-then-not-has : goal.returns-then-not-has
 returns-then-not-has c = λ asks same. (asks, search rules, same)

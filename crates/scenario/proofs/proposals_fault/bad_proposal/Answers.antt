@@ -2,7 +2,7 @@ use Rattle.std.proofs.Common.{◌∙◌, Some, ap, rules, sym}
 use Rattle.toml.specs.View.{items_view, view}
 use Rattle.scenario.proofs.Items.{item_view}
 use Rattle.scenario.proofs.Findings.{integer_is}
-use Rattle.scenario.proofs.proposals.bad_proposal.Goals as goal
+use Rattle.scenario.proofs.proposals_fault.bad_proposal.Goals as goal
 
 pub returns-then-not-lies_within : goal.returns-then-not-lies_within
 returns-then-not-lies_within c = λ file asks there. (

@@ -1,0 +1,14 @@
+use Rattle.std.proofs.Common.{refl}
+use Rattle.toml.specs.View.{table_view}
+use Rattle.scenario.specs.Faults.{IsFoundBy}
+use Rattle.scenario.specs.declared.place.Place.TheVariants as place
+use Rattle.scenario.proofs.Findings.{value_fault}
+use Rattle.scenario.proofs.found.at_top.Goals as goal
+
+pub returns : goal.returns
+unfolding IsFoundBy
+returns c = record {
+  table = table_view c.args.top.now;
+  there = refl;
+  is = value_fault c.args.error.now (table_view c.args.top.now) place.Top (table_view c.args.top.now) c.in_ok-fault.fault c.in_ok-fault.ensures;
+}
