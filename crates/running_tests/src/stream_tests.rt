@@ -38,13 +38,7 @@ fn words_of<R: Abort>(rt: &R, alloc: Global, seed: u64, from: Pid) -> SenderWord
 
 /// Letters 1 to 12 of a link, each sent at the tick of its number and asked for in their turn: their delays, and 0 for
 /// a lost one.
-fn delays<R: Abort>(
-    rt: &R,
-    alloc: Global,
-    scenario: &Scenario,
-    from: u16,
-    to: u16,
-) -> [u32; 12] {
+fn delays<R: Abort>(rt: &R, alloc: Global, scenario: &Scenario, from: u16, to: u16) -> [u32; 12] {
     let streams = Streams::new(scenario);
     let last = scenario.processes();
     assert!(rt; from != to && from <= last && to <= last);
