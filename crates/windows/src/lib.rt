@@ -38,10 +38,10 @@
 
 mod agenda;
 mod berth;
+mod chore;
 mod error;
 mod gate;
 mod gather;
-mod last;
 mod laws;
 mod outbox;
 mod plan;

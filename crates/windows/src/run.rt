@@ -10,8 +10,8 @@ ghost use Rattle.windows.specs.Plan.{IsPlanFor};
 ghost use Rattle.windows.specs.Refusals.{IsRefusal};
 ghost use Rattle.windows.specs.Sink.{IsRefusalOfSink, TookTrace, TookFront, TookClosed, writes_of};
 
+use crate::chore::Chore;
 use crate::gate::Gate;
-use crate::last::Last;
 use crate::plan::Plan;
 use crate::sink::Sink;
 use crate::stage::Stage;
@@ -20,8 +20,10 @@ use process_api::{Entry, Process, RunError, Trace};
 use scenario_record::Scenario;
 use std::alloc::Global;
 use std::marker::Sync;
+use std::mem::replace;
 use std::sync::Wait;
 use std::thread::Threads;
+use trace_merge::merge;
 
 /// Parts with fewer entries are handed on as soon as their window is closed. Merging them takes a few microseconds, which
 /// isn't worth that the sink waits for the next window.
@@ -36,26 +38,32 @@ fn are_few(parts: &[Vec<Entry>]) -> bool {
     entries < FEW_ENTRIES
 }
 
-/// Hands on the parts that wait, merged, if there are any.
+/// Merges the parts, and hands them on, if there are any.
 ///
 /// # Errors
 ///
-/// `Memory` or `Write` where the sink refused them, and `Memory` where memory was refused before.
-fn hand_on<K: Sink>(alloc: Global, sink: &mut K, last: Last) -> Result<(), RunError>
+/// `Memory` or `Write` where the sink refused them, and `Memory` where there was none to merge them.
+fn hand_on<K: Sink>(
+    alloc: Global,
+    sink: &mut K,
+    parts: Vec<Vec<Entry>>,
+) -> Result<(), RunError>
+    requires parts { AreParts parts.items }
     requires failures { K.failed sink.old < 2 ^ 64 - 1 }
-    ensures took { OnOk result (TookAllBut K.took last [] sink.old sink.new) }
-    ensures front { OnErr result (TookFrontOf K.took_front last sink.old sink.new) }
+    ensures took { OnOk result (TookAllBut K.took parts.items [] sink.old sink.new) }
+    ensures front { OnErr result (TookFrontOf K.took_front parts.items sink.old sink.new) }
     ensures errors { IfErr result IsRefusalOfSink }
     ensures count { K.failed sink.new ≡ K.failed sink.old + writes_of result }
 {
-    match last.into_entries(alloc)? {
-        Some(merged) => sink.part(merged),
-        None => Ok(()),
+    if parts.is_empty() {
+        return Ok(());
     }
+    let merged = merge(alloc, parts)?;
+    sink.part(merged)
 }
 
 /// The parts of a window that was closed wait until the workers of the next one run, unless they are few: these are
-/// handed on.
+/// handed on. Answers those that wait.
 ///
 /// # Errors
 ///
@@ -64,20 +72,43 @@ fn keep_or_hand_on<K: Sink>(
     alloc: Global,
     sink: &mut K,
     parts: Vec<Vec<Entry>>,
-) -> Result<Last, RunError>
+) -> Result<Vec<Vec<Entry>>, RunError>
     requires parts { AreParts parts.items }
     requires failures { K.failed sink.old < 2 ^ 64 - 1 }
-    ensures waiting { IfOk result (λ last. AreParts last) }
-    ensures took { IfOk result (λ last. TookAllBut K.took parts.items last sink.old sink.new) }
+    ensures waiting { IfOk result (λ left. AreParts left.items) }
+    ensures took { IfOk result (λ left. TookAllBut K.took parts.items left.items sink.old sink.new) }
     ensures front { OnErr result (TookFrontOf K.took_front parts.items sink.old sink.new) }
     ensures errors { IfErr result IsRefusalOfSink }
     ensures count { K.failed sink.new ≡ K.failed sink.old + writes_of result }
 {
     if !are_few(&parts) {
-        return Ok(Last::new(parts));
+        return Ok(parts);
     }
-    hand_on(alloc, sink, Last::new(parts))?;
-    Ok(Last::new(Vec::new(alloc)))
+    hand_on(alloc, sink, parts)?;
+    Ok(Vec::new(alloc))
+}
+
+/// The starter hands these parts to this sink beside the workers of the next window.
+#[derive(Drop)]
+struct Handing<'k, K> {
+    parts: Vec<Vec<Entry>>,
+    sink: &'k mut K,
+    told: Result<(), RunError>,
+}
+
+impl<K: Sink> Chore for Handing<'_, K> {
+    ghost use Rattle.std.specs.Prelude.{◌≡◌, ◌<◌, ◌-◌, ◌^◌};
+    ghost use Rattle.windows.specs.Inside.Last.{AreParts, HandedOn};
+
+    ghost waits = { λ h. AreParts h.parts.items × (K.failed h.sink.now < 2 ^ 64 - 1) };
+
+    ghost done = { λ old new. (new.sink.ghost_name ≡ old.sink.ghost_name)
+        × HandedOn K.took K.took_front K.failed old.parts.items new.parts.items old.sink.now new.sink.now new.told };
+
+    fn work(&mut self, alloc: Global) {
+        let parts = replace(&mut self.parts, Vec::new(alloc));
+        self.told = hand_on(alloc, self.sink, parts);
+    }
 }
 
 /// Runs machines by windows of the plan's length, each shared by the plan's workers, up to the horizon. There is one
@@ -119,13 +150,17 @@ pub fn run_windows_into<M: Process, G: Gate, K: Sink, R: Threads + Wait + Sync>(
     let _window = plan.window();
     let _horizon = scenario.horizon();
     let mut stage = Stage::open(alloc, scenario, machines)?;
-    let mut last = Last::new(Vec::new(alloc));
+    let mut parts = Vec::new(alloc);
     while !stage.finished() {
-        let ran = run_parts(rt, alloc, &mut stage, plan, gate, &mut last);
-        hand_on(alloc, sink, last)?;
-        last = keep_or_hand_on(alloc, sink, ran?)?;
+        let told = Ok(());
+        let mut handing = Handing { parts, sink, told };
+        let ran = run_parts(rt, alloc, &mut stage, plan, gate, &mut handing);
+        let Handing { parts: left, told, .. } = handing;
+        told?;
+        hand_on(alloc, sink, left)?;
+        parts = keep_or_hand_on(alloc, sink, ran?)?;
     }
-    hand_on(alloc, sink, last)
+    hand_on(alloc, sink, parts)
 }
 
 /// The same, where the whole trace is kept, and answered.
