@@ -114,8 +114,8 @@ impl<K: Sink> Chore for Handing<'_, K> {
 /// Runs machines by windows of the plan's length, each shared by the plan's workers, up to the horizon. There is one
 /// machine for each process, of process 1 first, and each opens as the scenario says; the plan's window is no longer
 /// than the scenario's lookahead. When a window is closed, its part of the trace goes to the sink: a part with few
-/// entries at once, and another one when the next window was run, since the starter merges it while its workers run.
-/// The sink takes the trace of the single event list, under every schedule of the threads.
+/// entries at once, and another one while the workers of the next window run. The sink takes the trace of the single
+/// event list, under every schedule of the threads.
 ///
 /// # Errors
 ///
