@@ -67,13 +67,13 @@ returns-in_err-told-clause-count g c =
     omega (arith, beside.count, ap writes_of same, c.loop-told.invariant.1)
 
 pub hand_on-requires-clause-parts : goal.hand_on-requires-clause-parts
-hand_on-requires-clause-parts g c κs within =
+hand_on-requires-clause-parts g c =
     let now = c.run_parts-ran.new.chore in
     let beside = told_beside g.K.Sink.took g.K.Sink.took_front g.K.Sink.failed _ now c.run_parts-ran.ensures.chore refl c.loop-told.invariant.0.waiting in
     beside.waiting
 
 pub hand_on-requires-clause-failures : goal.hand_on-requires-clause-failures
-hand_on-requires-clause-failures g c κs within =
+hand_on-requires-clause-failures g c =
     let now = c.run_parts-ran.new.chore in
     let beside = told_beside g.K.Sink.took g.K.Sink.took_front g.K.Sink.failed _ now c.run_parts-ran.ensures.chore refl c.loop-told.invariant.0.waiting in
     let fine : writes_of now.told ≡ 0 = ap writes_of c.in_ok-told.was in
