@@ -1,4 +1,7 @@
 //! What the starter does while the workers of a window run.
+ghost use Rattle.std.specs.Prelude.{◌≡◌};
+ghost use Rattle.std.specs.Borrow.{GName};
+
 use std::alloc::Global;
 
 /// What the starter does beside the workers of a window.
@@ -9,10 +12,14 @@ pub(crate) trait Chore {
     /// From one moment to another it was done.
     ghost done: { Self → Self → Type 0 };
 
+    /// The borrow by which it reaches what it works on.
+    ghost place: { Self → GName };
+
     /// Does it.
     fn work(&mut self, alloc: Global)
         requires { waits self.old }
-        ensures { done self.old self.new };
+        ensures done { done self.old self.new }
+        ensures place { place self.new ≡ place self.old };
 }
 
 /// There is nothing to do.
@@ -20,6 +27,8 @@ impl Chore for () {
     ghost waits = { λ _. Unit {0} };
 
     ghost done = { λ _ _. Unit {0} };
+
+    ghost place = { λ _. 0 };
 
     fn work(&mut self, _alloc: Global) {}
 }

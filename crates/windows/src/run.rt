@@ -1,14 +1,15 @@
 //! A run by windows.
-ghost use Rattle.std.specs.Prelude.{◌≡◌, ◌≤◌, ◌<◌, ◌+◌, ◌-◌, ◌^◌, ◌⊎◌, List, [], length, map, IfErr, IfOk, OnOk, OnErr, IsErrOf};
+ghost use Rattle.std.specs.Prelude.{◌≡◌, ◌≤◌, ◌<◌, ◌+◌, ◌-◌, ◌^◌, ◌⊎◌, ◌++◌, List, [], length, map, IfErr, IfOk, Ok, OnOk, OnErr, IsErrOf};
 ghost use Rattle.process_api.specs.EntryRecord.{EntryRecord};
 ghost use Rattle.process_api.specs.Numbers.{numbers_to};
 ghost use Rattle.scenario_record.specs.Record.{opening_mind};
 ghost use Rattle.trace_laws.specs.ScenarioSetting.{setting_of};
 ghost use Rattle.trace_laws.specs.World.{IsTrace};
-ghost use Rattle.windows.specs.Inside.Last.{AreParts, TookAllBut, TookFrontOf};
+ghost use Rattle.windows.specs.Inside.Last.{AreParts, HandedOn, IsMerged, TookAllBut, TookFrontOf};
 ghost use Rattle.windows.specs.Plan.{IsPlanFor};
 ghost use Rattle.windows.specs.Refusals.{IsRefusal};
 ghost use Rattle.windows.specs.Sink.{IsRefusalOfSink, TookTrace, TookFront, TookClosed, writes_of};
+ghost use Rattle.windows.specs.Stage.{IsStage, IsStageAfter, IsWindowRun};
 
 use crate::chore::Chore;
 use crate::gate::Gate;
@@ -102,13 +103,53 @@ impl<K: Sink> Chore for Handing<'_, K> {
 
     ghost waits = { λ h. AreParts h.parts.items × (K.failed h.sink.now < 2 ^ 64 - 1) };
 
-    ghost done = { λ old new. (new.sink.ghost_name ≡ old.sink.ghost_name)
-        × HandedOn K.took K.took_front K.failed old.parts.items new.parts.items old.sink.now new.sink.now new.told };
+    ghost done = { λ old new.
+        HandedOn K.took K.took_front K.failed old.parts.items new.parts.items old.sink.now new.sink.now new.told };
+
+    ghost place = { λ h. h.sink.ghost_name };
 
     fn work(&mut self, alloc: Global) {
         let parts = replace(&mut self.parts, Vec::new(alloc));
         self.told = hand_on(alloc, self.sink, parts);
     }
+}
+
+/// Runs the next window of a stage, as [`run_parts`] does. Meanwhile the starter hands on the parts that wait. Where the
+/// window was refused before a worker began, they still wait, and nothing is told of them.
+///
+/// # Errors
+///
+/// As [`run_parts`].
+fn run_and_hand_on<M: Process, G: Gate, K: Sink, R: Threads + Wait + Sync>(
+    rt: &R,
+    alloc: Global,
+    stage: &mut Stage<'_, M>,
+    plan: &Plan,
+    gate: &G,
+    handing: &mut Handing<'_, K>,
+) -> Result<Vec<Vec<Entry>>, RunError>
+    requires stage { IsStage M.mind stage.old }
+    requires plan { IsPlanFor stage.old.scenario.now plan.now }
+    requires open { stage.old.start < stage.old.scenario.now.horizon }
+    requires waiting { AreParts handing.old.parts.items }
+    requires failures { K.failed handing.old.sink.now < 2 ^ 64 - 1 }
+    requires told { handing.old.told ≡ Ok tt }
+
+    ensures sink { handing.new.sink.ghost_name ≡ handing.old.sink.ghost_name }
+    ensures handed { HandedOn K.took K.took_front K.failed handing.old.parts.items handing.new.parts.items
+        handing.old.sink.now handing.new.sink.now handing.new.told }
+    ensures scenario { OnOk result (stage.new.scenario.now ≡ stage.old.scenario.now) }
+    ensures parts { IfOk result (λ parts. AreParts parts.items) }
+    ensures stage { IfOk result (λ parts. (merged : List EntryRecord) → IsMerged parts.items merged
+        → (trace : List EntryRecord)
+        → IsStageAfter M.mind trace stage.old → IsStageAfter M.mind (trace ++ merged) stage.new) }
+    ensures run { IfOk result (λ parts. (merged : List EntryRecord) → IsMerged parts.items merged
+        → IsWindowRun M.mind plan.now.window stage.old stage.new merged) }
+    ensures errors { IfErr result IsRefusal }
+    ensures limit { IsErrOf result RunError.Limit → (whole : List EntryRecord)
+        → IsTrace (setting_of stage.old.scenario.now) whole → stage.old.scenario.now.limit < length whole }
+{
+    run_parts(rt, alloc, stage, plan, gate, handing)
 }
 
 /// Runs machines by windows of the plan's length, each shared by the plan's workers, up to the horizon. There is one
@@ -154,8 +195,8 @@ pub fn run_windows_into<M: Process, G: Gate, K: Sink, R: Threads + Wait + Sync>(
     while !stage.finished() {
         let told = Ok(());
         let mut handing = Handing { parts, sink, told };
-        let ran = run_parts(rt, alloc, &mut stage, plan, gate, &mut handing);
-        let Handing { parts: left, told, .. } = handing;
+        let ran = run_and_hand_on(rt, alloc, &mut stage, plan, gate, &mut handing);
+        let Handing { parts: left, sink: _sink, told } = handing;
         told?;
         hand_on(alloc, sink, left)?;
         parts = keep_or_hand_on(alloc, sink, ran?)?;

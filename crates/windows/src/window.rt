@@ -49,6 +49,7 @@ fn in_threads<M: Process, G: Gate, C: Chore, R: Threads + Wait + Sync>(
     requires chore { C.waits chore.old }
     ensures works { AreAnswers M.mind shared.now starts.items result }
     ensures chore { C.done chore.old chore.new }
+    ensures place { C.place chore.new ≡ C.place chore.old }
 {
     // A proof knows what a closure leaves behind a reference only if the closure answers that reference.
     let (works, _chore) = thread::scope(
@@ -60,6 +61,7 @@ fn in_threads<M: Process, G: Gate, C: Chore, R: Threads + Wait + Sync>(
             ensures works { AreAnswers M.mind shared.entry.now starts.items result.0 }
             ensures same { result.1.ghost_name ≡ chore.entry.ghost_name }
             ensures chore { C.done chore.entry.now result.1.now }
+            ensures place { C.place result.1.now ≡ C.place chore.entry.now }
         {
             let works = start_workers(scope, rt, shared, starts, chore);
             (works, chore)
@@ -116,6 +118,7 @@ fn run_dealt<M: Process, G: Gate, C: Chore, R: Threads + Wait + Sync>(
     ensures run { IfOk result (λ r.
         HadWindow M.mind shared.now.window.now shared.now.mailboxes.now (dealt_to starts.items) r.0.items r.1.items) }
     ensures chore { C.done chore.old chore.new }
+    ensures place { C.place chore.new ≡ C.place chore.old }
     ensures errors { IfErr result IsRefusal }
     ensures limit { IsErrOf result RunError.Limit
         → IsOneTooLong M.mind shared.now.window.now (dealt_to starts.items) }
@@ -148,6 +151,7 @@ fn run_berths_of<M: Process, G: Gate, C: Chore, R: Threads + Wait + Sync>(
     ensures run { IfOk result (λ r.
         HadWindow M.mind window.now mailboxes.old.mailboxes berths.items r.0.items r.1.items) }
     ensures chore { (chore.new ≡ chore.old) ⊎ C.done chore.old chore.new }
+    ensures place { C.place chore.new ≡ C.place chore.old }
     ensures errors { IfErr result IsRefusal }
     ensures limit { IsErrOf result RunError.Limit → IsOneTooLong M.mind window.now berths.items }
 {
@@ -210,6 +214,7 @@ fn run_all<M: Process, G: Gate, C: Chore, R: Threads + Wait + Sync>(
     ensures outcome { IfOk result (λ r.
         IsOutcomeBy M.mind window.now.streams window.now.end berths.items r.berths.items r.slips.items) }
     ensures chore { (chore.new ≡ chore.old) ⊎ C.done chore.old chore.new }
+    ensures place { C.place chore.new ≡ C.place chore.old }
     ensures errors { IfErr result IsRefusal }
     ensures limit { IsErrOf result RunError.Limit → IsOneTooLong M.mind window.now berths.items }
 {
@@ -253,6 +258,7 @@ pub(crate) fn run_parts<M: Process, G: Gate, C: Chore, R: Threads + Wait + Sync>
         (end_of (setting_of stage.old.scenario.now) plan.now.window stage.old.start) plan.now.workers
         stage.old.berths.items stage.new.workers) }
     ensures chore { (chore.new ≡ chore.old) ⊎ C.done chore.old chore.new }
+    ensures place { C.place chore.new ≡ C.place chore.old }
     ensures errors { IfErr result IsRefusal }
     ensures limit { IsErrOf result RunError.Limit → (whole : List EntryRecord)
         → IsTrace (setting_of stage.old.scenario.now) whole → stage.old.scenario.now.limit < length whole }

@@ -247,6 +247,7 @@ pub(crate) fn start_workers<
     requires chore { C.waits chore.old }
     ensures works { AreAnswers M.mind shared.now starts.items result }
     ensures chore { C.done chore.old chore.new }
+    ensures place { C.place chore.new ≡ C.place chore.old }
 {
     let Some(start) = starts.pop() else {
         chore.work(shared.alloc);

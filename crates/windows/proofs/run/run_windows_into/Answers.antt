@@ -1,6 +1,5 @@
 use Rattle.windows.proofs.Words.{rules, ◌≡◌, ◌⊎◌, ◌+◌, ℕ, [], ◌∙◌, refl, inl, inr, true, false, sym, ap, subst, List, ◌<◌, length, arith, eqb-true, eqb-false, Result, Ok, Err, OnOk, OnErr, IfErr, RunError, Mind, EntryRecord, Record, Stage, setting_of, IsTrace, AreParts, TookAllBut, TookFrontOf, IsRefusalOfSink, writes_of}
 use Rattle.windows.specs.Inside.Last.{HandedOn}
-use Rattle.windows.specs.declared.run.Handing.{Handing}
 use Rattle.windows.proofs.Cut.{not_of_sink}
 use Rattle.windows.proofs.Handed.{on_err}
 use Rattle.windows.proofs.Waiting.{begins, closed_so_far, few_told, front_of, front_so_far, handed, merged_of, no_parts, no_write, on_err_by, on_ok, ran, stage_is, took_nothing, whole_told, IsUnderway}
@@ -8,15 +7,6 @@ use Rattle.windows.proofs.run.run_windows_into.Goals as goal
 
 ok_on : {A : Type 0} (r : Result A RunError) {x : A} (P : Type 0) → r ≡ Ok x → OnOk r P → P
 ok_on r P is h = subst (λ q. OnOk q P) is h
-
-module _ {K : Type 0} (took took_front : K → List EntryRecord → K → Type 0) (failed : K → ℕ) (h h' : Handing K) where
-  -- what the starter did beside the workers, or did not
-  told_beside : (h' ≡ h) ⊎ ((h'.sink.ghost_name ≡ h.sink.ghost_name) × HandedOn took took_front failed h.parts.items h'.parts.items h.sink.now h'.sink.now h'.told) → h.told ≡ Ok tt → AreParts h.parts.items
-      → HandedOn took took_front failed h.parts.items h'.parts.items h.sink.now h'.sink.now h'.told
-  told_beside (inr did) fine are = did.1
-  told_beside (inl same) fine are =
-      subst (λ (x : Handing K). HandedOn took took_front failed h.parts.items x.parts.items h.sink.now x.sink.now x.told) (sym same)
-      (subst (λ t. HandedOn took took_front failed h.parts.items h.parts.items h.sink.now h.sink.now t) (sym fine) (record { waiting = are; took_all = took_nothing took h.parts.items h.sink.now; front = tt; errors = tt; count = omega arith }))
 
 pub returns-in_err-stage-clause-front : goal.returns-in_err-stage-clause-front
 returns-in_err-stage-clause-front g c =
@@ -26,137 +16,122 @@ pub loop-told-init : goal.loop-told-init
 loop-told-init g c =
     (begins g.K.Sink.took c.args.sink.now c.new-parts.result.items c.new-parts.ensures.items c.in_ok-stage.ensures.stage c.in_ok-stage.ensures.scenario, refl)
 
-pub run_parts-ran-requires-clause-stage : goal.run_parts-ran-requires-clause-stage
-run_parts-ran-requires-clause-stage g c κs within = stage_is c.loop-told.invariant.0
+pub run_and_hand_on-ran-requires-clause-stage : goal.run_and_hand_on-ran-requires-clause-stage
+run_and_hand_on-ran-requires-clause-stage g c κs within = stage_is c.loop-told.invariant.0
 
-pub run_parts-ran-requires-clause-open : goal.run_parts-ran-requires-clause-open
-run_parts-ran-requires-clause-open g c κs within =
+pub run_and_hand_on-ran-requires-clause-open : goal.run_and_hand_on-ran-requires-clause-open
+run_and_hand_on-ran-requires-clause-open g c κs within =
     let more : c.finished.result ≡ false = search rules in
     omega (arith, (stage_is c.loop-told.invariant.0).1.to_horizon, eqb-false _ _ (sym c.finished.ensures ∙ more))
 
-pub run_parts-ran-requires-clause-chore : goal.run_parts-ran-requires-clause-chore
-run_parts-ran-requires-clause-chore g c κs within =
-    (c.loop-told.invariant.0.waiting, omega (arith, c.loop-told.invariant.1, c.requires.failures))
+pub run_and_hand_on-ran-requires-clause-waiting : goal.run_and_hand_on-ran-requires-clause-waiting
+run_and_hand_on-ran-requires-clause-waiting g c κs within = c.loop-told.invariant.0.waiting
+
+pub run_and_hand_on-ran-requires-clause-failures : goal.run_and_hand_on-ran-requires-clause-failures
+run_and_hand_on-ran-requires-clause-failures g c κs within = omega (arith, c.loop-told.invariant.1, c.requires.failures)
 
 pub returns-in_err-told-clause-front : goal.returns-in_err-told-clause-front
 returns-in_err-told-clause-front g c =
-    let now = c.run_parts-ran.new.chore in
-    let beside = told_beside g.K.Sink.took g.K.Sink.took_front g.K.Sink.failed _ now c.run_parts-ran.ensures.chore refl c.loop-told.invariant.0.waiting in
-    let same : c.from_residual-in_err-told.result ≡ now.told = search rules in
-    on_err_by c.from_residual-in_err-told.result _ _ (front_of c.loop-told.invariant.0 c.horizon-horizon.ensures.ranges g.K.Sink.took_front now.sink.now) (subst (λ r. OnErr r (TookFrontOf g.K.Sink.took_front c.loop-told.parts.items c.loop-told.sink now.sink.now)) (sym same) beside.front)
+    let now = c.run_and_hand_on-ran.new.handing in
+    let same : c.sink-1.given ≡ now.sink.now = search (rules, c.run_and_hand_on-ran.ensures.sink) in
+    let beside = subst (λ s. HandedOn g.K.Sink.took g.K.Sink.took_front g.K.Sink.failed c.loop-told.parts.items now.parts.items c.loop-told.sink s now.told) (sym same) c.run_and_hand_on-ran.ensures.handed in
+    let refused = subst (λ r. OnErr r (TookFrontOf g.K.Sink.took_front c.loop-told.parts.items c.loop-told.sink c.sink-1.given)) c.in_err-told.was beside.front in
+    on_err c.from_residual-in_err-told.result _ (front_of c.loop-told.invariant.0 c.horizon-horizon.ensures.ranges g.K.Sink.took_front c.sink-1.given refused)
 
 pub returns-in_err-told-clause-closed : goal.returns-in_err-told-clause-closed
 returns-in_err-told-clause-closed g c is =
-    let now = c.run_parts-ran.new.chore in
-    let beside = told_beside g.K.Sink.took g.K.Sink.took_front g.K.Sink.failed _ now c.run_parts-ran.ensures.chore refl c.loop-told.invariant.0.waiting in
+    let now = c.run_and_hand_on-ran.new.handing in
+    let beside = c.run_and_hand_on-ran.ensures.handed in
     let same : c.from_residual-in_err-told.result ≡ now.told = search rules in
     absurd (not_of_sink c.from_residual-in_err-told.result (subst (λ r. IfErr r IsRefusalOfSink) (sym same) beside.errors) is)
 
 pub returns-in_err-told-clause-limit : goal.returns-in_err-told-clause-limit
 returns-in_err-told-clause-limit g c is =
-    let now = c.run_parts-ran.new.chore in
-    let beside = told_beside g.K.Sink.took g.K.Sink.took_front g.K.Sink.failed _ now c.run_parts-ran.ensures.chore refl c.loop-told.invariant.0.waiting in
+    let now = c.run_and_hand_on-ran.new.handing in
+    let beside = c.run_and_hand_on-ran.ensures.handed in
     let same : c.from_residual-in_err-told.result ≡ now.told = search rules in
     absurd (not_of_sink c.from_residual-in_err-told.result (subst (λ r. IfErr r IsRefusalOfSink) (sym same) beside.errors) (inl is))
 
-pub returns-in_err-told-clause-count : goal.returns-in_err-told-clause-count
-returns-in_err-told-clause-count g c =
-    let now = c.run_parts-ran.new.chore in
-    let beside = told_beside g.K.Sink.took g.K.Sink.took_front g.K.Sink.failed _ now c.run_parts-ran.ensures.chore refl c.loop-told.invariant.0.waiting in
-    let same : c.from_residual-in_err-told.result ≡ now.told = search rules in
-    omega (arith, beside.count, ap writes_of same, c.loop-told.invariant.1)
-
 pub hand_on-requires-clause-parts : goal.hand_on-requires-clause-parts
 hand_on-requires-clause-parts g c =
-    let now = c.run_parts-ran.new.chore in
-    let beside = told_beside g.K.Sink.took g.K.Sink.took_front g.K.Sink.failed _ now c.run_parts-ran.ensures.chore refl c.loop-told.invariant.0.waiting in
+    let now = c.run_and_hand_on-ran.new.handing in
+    let beside = c.run_and_hand_on-ran.ensures.handed in
     beside.waiting
 
 pub hand_on-requires-clause-failures : goal.hand_on-requires-clause-failures
 hand_on-requires-clause-failures g c =
-    let now = c.run_parts-ran.new.chore in
-    let beside = told_beside g.K.Sink.took g.K.Sink.took_front g.K.Sink.failed _ now c.run_parts-ran.ensures.chore refl c.loop-told.invariant.0.waiting in
+    let now = c.run_and_hand_on-ran.new.handing in
+    let same : c.sink-1.given ≡ now.sink.now = search (rules, c.run_and_hand_on-ran.ensures.sink) in
+    let beside = subst (λ s. HandedOn g.K.Sink.took g.K.Sink.took_front g.K.Sink.failed c.loop-told.parts.items now.parts.items c.loop-told.sink s now.told) (sym same) c.run_and_hand_on-ran.ensures.handed in
     let fine : writes_of now.told ≡ 0 = ap writes_of c.in_ok-told.was in
     omega (arith, beside.count, fine, c.loop-told.invariant.1, c.requires.failures)
 
 pub returns-in_err-hand_on-clause-front : goal.returns-in_err-hand_on-clause-front
 returns-in_err-hand_on-clause-front g c =
-    let now = c.run_parts-ran.new.chore in
-    let beside = told_beside g.K.Sink.took g.K.Sink.took_front g.K.Sink.failed _ now c.run_parts-ran.ensures.chore refl c.loop-told.invariant.0.waiting in
-    let was = handed c.loop-told.invariant.0 now.sink.now now.parts.items beside.waiting (ok_on now.told _ c.in_ok-told.was beside.took_all) in
+    let now = c.run_and_hand_on-ran.new.handing in
+    let same : c.sink-1.given ≡ now.sink.now = search (rules, c.run_and_hand_on-ran.ensures.sink) in
+    let beside = subst (λ s. HandedOn g.K.Sink.took g.K.Sink.took_front g.K.Sink.failed c.loop-told.parts.items now.parts.items c.loop-told.sink s now.told) (sym same) c.run_and_hand_on-ran.ensures.handed in
+    let was = handed c.loop-told.invariant.0 c.sink-1.given now.parts.items beside.waiting (ok_on now.told _ c.in_ok-told.was beside.took_all) in
     on_err c.from_residual-in_err-hand_on.result _ (front_of was c.horizon-horizon.ensures.ranges g.K.Sink.took_front c.hand_on.new.sink c.in_err-hand_on.ensures.front)
 
 pub returns-in_err-hand_on-clause-closed : goal.returns-in_err-hand_on-clause-closed
 returns-in_err-hand_on-clause-closed g c is =
     absurd (not_of_sink c.from_residual-in_err-hand_on.result (search rules) is)
 
-pub returns-in_err-hand_on-clause-count : goal.returns-in_err-hand_on-clause-count
-returns-in_err-hand_on-clause-count g c =
-    let now = c.run_parts-ran.new.chore in
-    let beside = told_beside g.K.Sink.took g.K.Sink.took_front g.K.Sink.failed _ now c.run_parts-ran.ensures.chore refl c.loop-told.invariant.0.waiting in
-    let fine : writes_of now.told ≡ 0 = ap writes_of c.in_ok-told.was in
-    let same : c.from_residual-in_err-hand_on.result ≡ c.hand_on.result = search rules in
-    omega (arith, beside.count, fine, c.hand_on.ensures.count, ap writes_of same, c.loop-told.invariant.1)
-
 pub keep_or_hand_on-requires-clause-failures : goal.keep_or_hand_on-requires-clause-failures
-keep_or_hand_on-requires-clause-failures g c κs within =
-    let now = c.run_parts-ran.new.chore in
-    let beside = told_beside g.K.Sink.took g.K.Sink.took_front g.K.Sink.failed _ now c.run_parts-ran.ensures.chore refl c.loop-told.invariant.0.waiting in
+keep_or_hand_on-requires-clause-failures g c =
+    let now = c.run_and_hand_on-ran.new.handing in
+    let same : c.sink-1.given ≡ now.sink.now = search (rules, c.run_and_hand_on-ran.ensures.sink) in
+    let beside = subst (λ s. HandedOn g.K.Sink.took g.K.Sink.took_front g.K.Sink.failed c.loop-told.parts.items now.parts.items c.loop-told.sink s now.told) (sym same) c.run_and_hand_on-ran.ensures.handed in
     let fine : writes_of now.told ≡ 0 = ap writes_of c.in_ok-told.was in
     let good : writes_of c.hand_on.result ≡ 0 = ap writes_of c.in_ok-hand_on.was in
     omega (arith, beside.count, fine, c.hand_on.ensures.count, good, c.loop-told.invariant.1, c.requires.failures)
 
 pub returns-in_err-ran-clause-front : goal.returns-in_err-ran-clause-front
 returns-in_err-ran-clause-front g c =
-    let now = c.run_parts-ran.new.chore in
-    let beside = told_beside g.K.Sink.took g.K.Sink.took_front g.K.Sink.failed _ now c.run_parts-ran.ensures.chore refl c.loop-told.invariant.0.waiting in
-    let was = handed c.loop-told.invariant.0 now.sink.now now.parts.items beside.waiting (ok_on now.told _ c.in_ok-told.was beside.took_all) in
+    let now = c.run_and_hand_on-ran.new.handing in
+    let same : c.sink-1.given ≡ now.sink.now = search (rules, c.run_and_hand_on-ran.ensures.sink) in
+    let beside = subst (λ s. HandedOn g.K.Sink.took g.K.Sink.took_front g.K.Sink.failed c.loop-told.parts.items now.parts.items c.loop-told.sink s now.told) (sym same) c.run_and_hand_on-ran.ensures.handed in
+    let was = handed c.loop-told.invariant.0 c.sink-1.given now.parts.items beside.waiting (ok_on now.told _ c.in_ok-told.was beside.took_all) in
     let u = handed was c.hand_on.new.sink [] no_parts c.in_ok-hand_on.ensures.took in
     on_err c.from_residual-in_err-ran.result _ (front_so_far u c.horizon-horizon.ensures.ranges g.K.Sink.took_front c.hand_on.new.sink refl)
 
 pub returns-in_err-ran-clause-closed : goal.returns-in_err-ran-clause-closed
 returns-in_err-ran-clause-closed g c is =
-    let now = c.run_parts-ran.new.chore in
-    let beside = told_beside g.K.Sink.took g.K.Sink.took_front g.K.Sink.failed _ now c.run_parts-ran.ensures.chore refl c.loop-told.invariant.0.waiting in
-    let was = handed c.loop-told.invariant.0 now.sink.now now.parts.items beside.waiting (ok_on now.told _ c.in_ok-told.was beside.took_all) in
+    let now = c.run_and_hand_on-ran.new.handing in
+    let same : c.sink-1.given ≡ now.sink.now = search (rules, c.run_and_hand_on-ran.ensures.sink) in
+    let beside = subst (λ s. HandedOn g.K.Sink.took g.K.Sink.took_front g.K.Sink.failed c.loop-told.parts.items now.parts.items c.loop-told.sink s now.told) (sym same) c.run_and_hand_on-ran.ensures.handed in
+    let was = handed c.loop-told.invariant.0 c.sink-1.given now.parts.items beside.waiting (ok_on now.told _ c.in_ok-told.was beside.took_all) in
     let u = handed was c.hand_on.new.sink [] no_parts c.in_ok-hand_on.ensures.took in
     closed_so_far u c.horizon-horizon.ensures.ranges
 
 pub returns-in_err-ran-clause-count : goal.returns-in_err-ran-clause-count
 returns-in_err-ran-clause-count g c =
-    let now = c.run_parts-ran.new.chore in
-    let beside = told_beside g.K.Sink.took g.K.Sink.took_front g.K.Sink.failed _ now c.run_parts-ran.ensures.chore refl c.loop-told.invariant.0.waiting in
+    let now = c.run_and_hand_on-ran.new.handing in
+    let same : c.sink-1.given ≡ now.sink.now = search (rules, c.run_and_hand_on-ran.ensures.sink) in
+    let beside = subst (λ s. HandedOn g.K.Sink.took g.K.Sink.took_front g.K.Sink.failed c.loop-told.parts.items now.parts.items c.loop-told.sink s now.told) (sym same) c.run_and_hand_on-ran.ensures.handed in
     let fine : writes_of now.told ≡ 0 = ap writes_of c.in_ok-told.was in
     let good : writes_of c.hand_on.result ≡ 0 = ap writes_of c.in_ok-hand_on.was in
     omega (arith, beside.count, fine, c.hand_on.ensures.count, good, no_write c.from_residual-in_err-ran.result (search rules), c.loop-told.invariant.1)
 
 pub returns-in_err-ran-clause-limit : goal.returns-in_err-ran-clause-limit
 returns-in_err-ran-clause-limit g c is =
-    subst (λ (s : Record). (whole : List EntryRecord) → IsTrace (setting_of s) whole → s.limit < length whole) c.loop-told.invariant.0.scenario (c.run_parts-ran.ensures.limit (search rules))
+    subst (λ (s : Record). (whole : List EntryRecord) → IsTrace (setting_of s) whole → s.limit < length whole) c.loop-told.invariant.0.scenario (c.run_and_hand_on-ran.ensures.limit (search rules))
 
 pub returns-in_err-parts-clause-front : goal.returns-in_err-parts-clause-front
 returns-in_err-parts-clause-front g c =
-    let now = c.run_parts-ran.new.chore in
-    let beside = told_beside g.K.Sink.took g.K.Sink.took_front g.K.Sink.failed _ now c.run_parts-ran.ensures.chore refl c.loop-told.invariant.0.waiting in
-    let was = handed c.loop-told.invariant.0 now.sink.now now.parts.items beside.waiting (ok_on now.told _ c.in_ok-told.was beside.took_all) in
+    let now = c.run_and_hand_on-ran.new.handing in
+    let same : c.sink-1.given ≡ now.sink.now = search (rules, c.run_and_hand_on-ran.ensures.sink) in
+    let beside = subst (λ s. HandedOn g.K.Sink.took g.K.Sink.took_front g.K.Sink.failed c.loop-told.parts.items now.parts.items c.loop-told.sink s now.told) (sym same) c.run_and_hand_on-ran.ensures.handed in
+    let was = handed c.loop-told.invariant.0 c.sink-1.given now.parts.items beside.waiting (ok_on now.told _ c.in_ok-told.was beside.took_all) in
     let u = handed was c.hand_on.new.sink [] no_parts c.in_ok-hand_on.ensures.took in
     let more = c.in_ok-ran.ensures in
-    let next = ran u c.run_parts-ran.new.stage c.in_ok-ran.field-0.items more.parts more.stage more.scenario in
+    let next = ran u c.run_and_hand_on-ran.new.stage c.in_ok-ran.field-0.items more.parts more.stage more.scenario in
     on_err c.from_residual-in_err-parts.result _ (front_of next c.horizon-horizon.ensures.ranges g.K.Sink.took_front c.keep_or_hand_on.new.sink c.in_err-parts.ensures.front)
 
 pub returns-in_err-parts-clause-closed : goal.returns-in_err-parts-clause-closed
 returns-in_err-parts-clause-closed g c is =
     absurd (not_of_sink c.from_residual-in_err-parts.result (search rules) is)
-
-pub returns-in_err-parts-clause-count : goal.returns-in_err-parts-clause-count
-returns-in_err-parts-clause-count g c =
-    let now = c.run_parts-ran.new.chore in
-    let beside = told_beside g.K.Sink.took g.K.Sink.took_front g.K.Sink.failed _ now c.run_parts-ran.ensures.chore refl c.loop-told.invariant.0.waiting in
-    let fine : writes_of now.told ≡ 0 = ap writes_of c.in_ok-told.was in
-    let good : writes_of c.hand_on.result ≡ 0 = ap writes_of c.in_ok-hand_on.was in
-    let same : c.from_residual-in_err-parts.result ≡ _ = c.from_residual-in_err-parts.ensures.0 in
-    let refused : writes_of c.keep_or_hand_on.result ≡ _ = ap writes_of c.in_err-parts.was in
-    omega (arith, beside.count, fine, c.hand_on.ensures.count, good, c.keep_or_hand_on.ensures.count, ap writes_of same, refused, c.loop-told.invariant.1)
 
 pub loop-told-smaller : goal.loop-told-smaller
 loop-told-smaller g c =
@@ -168,12 +143,13 @@ loop-told-smaller g c =
 
 pub loop-told-preserved : goal.loop-told-preserved
 loop-told-preserved g c =
-    let now = c.run_parts-ran.new.chore in
-    let beside = told_beside g.K.Sink.took g.K.Sink.took_front g.K.Sink.failed _ now c.run_parts-ran.ensures.chore refl c.loop-told.invariant.0.waiting in
-    let was = handed c.loop-told.invariant.0 now.sink.now now.parts.items beside.waiting (ok_on now.told _ c.in_ok-told.was beside.took_all) in
+    let now = c.run_and_hand_on-ran.new.handing in
+    let same : c.sink-1.given ≡ now.sink.now = search (rules, c.run_and_hand_on-ran.ensures.sink) in
+    let beside = subst (λ s. HandedOn g.K.Sink.took g.K.Sink.took_front g.K.Sink.failed c.loop-told.parts.items now.parts.items c.loop-told.sink s now.told) (sym same) c.run_and_hand_on-ran.ensures.handed in
+    let was = handed c.loop-told.invariant.0 c.sink-1.given now.parts.items beside.waiting (ok_on now.told _ c.in_ok-told.was beside.took_all) in
     let u = handed was c.hand_on.new.sink [] no_parts c.in_ok-hand_on.ensures.took in
     let more = c.in_ok-ran.ensures in
-    let next = ran u c.run_parts-ran.new.stage c.in_ok-ran.field-0.items more.parts more.stage more.scenario in
+    let next = ran u c.run_and_hand_on-ran.new.stage c.in_ok-ran.field-0.items more.parts more.stage more.scenario in
     let fine : writes_of now.told ≡ 0 = ap writes_of c.in_ok-told.was in
     let good : writes_of c.hand_on.result ≡ 0 = ap writes_of c.in_ok-hand_on.was in
     let kept : writes_of c.keep_or_hand_on.result ≡ 0 = ap writes_of c.in_ok-parts.was in (
