@@ -89,38 +89,44 @@ fn keep_or_hand_on<K: Sink>(
     Ok(Vec::new(alloc))
 }
 
-/// The starter hands these parts to this sink beside the workers of the next window.
+/// Parts that wait to be handed on, and what the sink answered to those that were.
 #[derive(Drop)]
-struct Handing<'k, K> {
+struct Left {
     parts: Vec<Vec<Entry>>,
-    sink: &'k mut K,
     told: Result<(), RunError>,
+}
+
+/// The starter hands what is left to this sink beside the workers of the next window.
+#[derive(Drop)]
+struct Handing<'k, K: Sink> {
+    left: Left,
+    sink: &'k mut K,
 }
 
 impl<K: Sink> Chore for Handing<'_, K> {
     ghost use Rattle.std.specs.Prelude.{◌≡◌, ◌<◌, ◌-◌, ◌^◌};
     ghost use Rattle.windows.specs.Inside.Last.{AreParts, HandedOn};
 
-    ghost waits = { λ h. AreParts h.parts.items × (K.failed h.sink.now < 2 ^ 64 - 1) };
+    ghost waits = { λ h. AreParts h.left.parts.items × (K.failed h.sink.now < 2 ^ 64 - 1) };
 
-    ghost done = { λ old new.
-        HandedOn K.took K.took_front K.failed old.parts.items new.parts.items old.sink.now new.sink.now new.told };
+    ghost done = { λ old new. HandedOn K.took K.took_front K.failed old.left.parts.items new.left.parts.items
+        old.sink.now new.sink.now new.left.told };
 
     ghost place = { λ h. h.sink.ghost_name };
 
     fn work(&mut self, alloc: Global) {
-        let parts = replace(&mut self.parts, Vec::new(alloc));
-        self.told = hand_on(alloc, self.sink, parts);
+        let parts = replace(&mut self.left.parts, Vec::new(alloc));
+        self.left.told = hand_on(alloc, self.sink, parts);
     }
 }
 
 /// Runs the next window of a stage, as [`run_parts`] does. Meanwhile the starter hands on the parts that wait. Where the
-/// window was refused before a worker began, they still wait, and nothing is told of them.
+/// window was refused before a worker began, they still wait.
 ///
 /// # Errors
 ///
 /// As [`run_parts`].
-fn run_and_hand_on<M: Process, G: Gate, K: Sink, R: Threads + Wait + Sync>(
+fn run_handing<M: Process, G: Gate, K: Sink, R: Threads + Wait + Sync>(
     rt: &R,
     alloc: Global,
     stage: &mut Stage<'_, M>,
@@ -131,13 +137,13 @@ fn run_and_hand_on<M: Process, G: Gate, K: Sink, R: Threads + Wait + Sync>(
     requires stage { IsStage M.mind stage.old }
     requires plan { IsPlanFor stage.old.scenario.now plan.now }
     requires open { stage.old.start < stage.old.scenario.now.horizon }
-    requires waiting { AreParts handing.old.parts.items }
+    requires waiting { AreParts handing.old.left.parts.items }
     requires failures { K.failed handing.old.sink.now < 2 ^ 64 - 1 }
-    requires told { handing.old.told ≡ Ok tt }
+    requires told { handing.old.left.told ≡ Ok tt }
 
     ensures sink { handing.new.sink.ghost_name ≡ handing.old.sink.ghost_name }
-    ensures handed { HandedOn K.took K.took_front K.failed handing.old.parts.items handing.new.parts.items
-        handing.old.sink.now handing.new.sink.now handing.new.told }
+    ensures handed { HandedOn K.took K.took_front K.failed handing.old.left.parts.items handing.new.left.parts.items
+        handing.old.sink.now handing.new.sink.now handing.new.left.told }
     ensures scenario { OnOk result (stage.new.scenario.now ≡ stage.old.scenario.now) }
     ensures parts { IfOk result (λ parts. AreParts parts.items) }
     ensures stage { IfOk result (λ parts. (merged : List EntryRecord) → IsMerged parts.items merged
@@ -150,6 +156,45 @@ fn run_and_hand_on<M: Process, G: Gate, K: Sink, R: Threads + Wait + Sync>(
         → IsTrace (setting_of stage.old.scenario.now) whole → stage.old.scenario.now.limit < length whole }
 {
     run_parts(rt, alloc, stage, plan, gate, handing)
+}
+
+/// Runs the next window of a stage, as [`run_parts`] does. Meanwhile the starter hands these parts to the sink. Answers
+/// what `run_parts` does, the parts that still wait, since the window was refused before a worker began, and what the
+/// sink answered.
+fn run_and_hand_on<M: Process, G: Gate, K: Sink, R: Threads + Wait + Sync>(
+    rt: &R,
+    alloc: Global,
+    stage: &mut Stage<'_, M>,
+    plan: &Plan,
+    gate: &G,
+    sink: &mut K,
+    parts: Vec<Vec<Entry>>,
+) -> (Result<Vec<Vec<Entry>>, RunError>, Left)
+    requires stage { IsStage M.mind stage.old }
+    requires plan { IsPlanFor stage.old.scenario.now plan.now }
+    requires open { stage.old.start < stage.old.scenario.now.horizon }
+    requires waiting { AreParts parts.items }
+    requires failures { K.failed sink.old < 2 ^ 64 - 1 }
+
+    ensures handed { HandedOn K.took K.took_front K.failed parts.items result.1.parts.items sink.old sink.new
+        result.1.told }
+    ensures scenario { OnOk result.0 (stage.new.scenario.now ≡ stage.old.scenario.now) }
+    ensures parts { IfOk result.0 (λ parts. AreParts parts.items) }
+    ensures stage { IfOk result.0 (λ parts. (merged : List EntryRecord) → IsMerged parts.items merged
+        → (trace : List EntryRecord)
+        → IsStageAfter M.mind trace stage.old → IsStageAfter M.mind (trace ++ merged) stage.new) }
+    ensures run { IfOk result.0 (λ parts. (merged : List EntryRecord) → IsMerged parts.items merged
+        → IsWindowRun M.mind plan.now.window stage.old stage.new merged) }
+    ensures errors { IfErr result.0 IsRefusal }
+    ensures limit { IsErrOf result.0 RunError.Limit → (whole : List EntryRecord)
+        → IsTrace (setting_of stage.old.scenario.now) whole → stage.old.scenario.now.limit < length whole }
+{
+    let told = Ok(());
+    let left = Left { parts, told };
+    let mut handing = Handing { left, sink };
+    let ran = run_handing(rt, alloc, stage, plan, gate, &mut handing);
+    let Handing { left, sink: _sink } = handing;
+    (ran, left)
 }
 
 /// Runs machines by windows of the plan's length, each shared by the plan's workers, up to the horizon. There is one
@@ -193,12 +238,10 @@ pub fn run_windows_into<M: Process, G: Gate, K: Sink, R: Threads + Wait + Sync>(
     let mut stage = Stage::open(alloc, scenario, machines)?;
     let mut parts = Vec::new(alloc);
     while !stage.finished() {
-        let told = Ok(());
-        let mut handing = Handing { parts, sink, told };
-        let ran = run_and_hand_on(rt, alloc, &mut stage, plan, gate, &mut handing);
-        let Handing { parts: left, sink: _sink, told } = handing;
+        let (ran, left) = run_and_hand_on(rt, alloc, &mut stage, plan, gate, sink, parts);
+        let Left { parts: waiting, told } = left;
         told?;
-        hand_on(alloc, sink, left)?;
+        hand_on(alloc, sink, waiting)?;
         parts = keep_or_hand_on(alloc, sink, ran?)?;
     }
     hand_on(alloc, sink, parts)

@@ -2,16 +2,16 @@ use Rattle.windows.proofs.Words.{◌≡◌, ◌⊎◌, ◌+◌, ℕ, inl, inr, s
 use Rattle.windows.specs.Inside.Last.{HandedOn}
 use Rattle.windows.specs.declared.run.Handing.{Handing}
 use Rattle.windows.proofs.Waiting.{took_nothing}
-use Rattle.windows.proofs.run.run_and_hand_on.Goals as goal
+use Rattle.windows.proofs.run.run_handing.Goals as goal
 
 module _ {K : Type 0} (took took_front : K → List EntryRecord → K → Type 0) (failed : K → ℕ) (h h' : Handing K) where
   -- what the starter did beside the workers, or did not
-  told_beside : (h' ≡ h) ⊎ HandedOn took took_front failed h.parts.items h'.parts.items h.sink.now h'.sink.now h'.told → h.told ≡ Ok tt → AreParts h.parts.items
-      → HandedOn took took_front failed h.parts.items h'.parts.items h.sink.now h'.sink.now h'.told
+  told_beside : (h' ≡ h) ⊎ HandedOn took took_front failed h.left.parts.items h'.left.parts.items h.sink.now h'.sink.now h'.left.told → h.left.told ≡ Ok tt → AreParts h.left.parts.items
+      → HandedOn took took_front failed h.left.parts.items h'.left.parts.items h.sink.now h'.sink.now h'.left.told
   told_beside (inr did) fine are = did
   told_beside (inl same) fine are =
-      subst (λ (x : Handing K). HandedOn took took_front failed h.parts.items x.parts.items h.sink.now x.sink.now x.told) (sym same)
-      (subst (λ t. HandedOn took took_front failed h.parts.items h.parts.items h.sink.now h.sink.now t) (sym fine) (record { waiting = are; took_all = took_nothing took h.parts.items h.sink.now; front = tt; errors = tt; count = omega arith }))
+      subst (λ (x : Handing K). HandedOn took took_front failed h.left.parts.items x.left.parts.items h.sink.now x.sink.now x.left.told) (sym same)
+      (subst (λ t. HandedOn took took_front failed h.left.parts.items h.left.parts.items h.sink.now h.sink.now t) (sym fine) (record { waiting = are; took_all = took_nothing took h.left.parts.items h.sink.now; front = tt; errors = tt; count = omega arith }))
 
 pub returns-clause-handed : goal.returns-clause-handed
 returns-clause-handed g c =
