@@ -1,4 +1,4 @@
-use Rattle.windows.proofs.Words.{rules, ◌≡◌, [], ◌∙◌, refl, inl, true, false, sym, ap, subst, List, ◌<◌, length, arith, eqb-true, eqb-false, Result, Ok, Err, OnOk, OnErr, IfErr, RunError, EntryRecord, Record, setting_of, IsTrace, TookFrontOf, IsRefusalOfSink, writes_of}
+use Rattle.windows.proofs.Words.{rules, ◌≡◌, [], ◌∙◌, refl, inl, true, false, sym, ap, subst, List, ◌<◌, length, arith, eqb-true, eqb-false, Result, Ok, Err, OnOk, OnErr, IfErr, RunError, EntryRecord, Record, setting_of, IsTrace, TookFrontOf, IsRefusal, IsRefusalOfSink, writes_of}
 use Rattle.std.proofs.Common.{IsErrAnd}
 use Rattle.windows.proofs.Cut.{not_of_sink}
 use Rattle.windows.proofs.Handed.{on_err}
@@ -96,7 +96,7 @@ pub returns-in_err-ran-clause-count : goal.returns-in_err-ran-clause-count
 returns-in_err-ran-clause-count g c =
     let fine : writes_of c.run_and_hand_on-ran.result.1.told ≡ 0 = ap writes_of c.in_ok-told.was in
     let good : writes_of c.hand_on.result ≡ 0 = ap writes_of c.in_ok-hand_on.was in
-    let refused = passed_on _ c.from_residual-in_err-ran.result _ c.from_residual-in_err-ran.ensures.1 (err_at _ _ _ c.in_err-ran.was c.run_and_hand_on-ran.ensures.errors) in
+    let refused : IfErr c.from_residual-in_err-ran.result IsRefusal = passed_on IsRefusal c.from_residual-in_err-ran.result _ c.from_residual-in_err-ran.ensures.1 (err_at _ _ _ c.in_err-ran.was c.run_and_hand_on-ran.ensures.errors) in
     omega (arith, c.run_and_hand_on-ran.ensures.handed.count, fine, c.hand_on.ensures.count, good, no_write c.from_residual-in_err-ran.result refused, c.loop-alloc.invariant.1)
 
 pub returns-in_err-ran-clause-limit : goal.returns-in_err-ran-clause-limit
