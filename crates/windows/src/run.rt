@@ -44,11 +44,7 @@ fn are_few(parts: &[Vec<Entry>]) -> bool {
 /// # Errors
 ///
 /// `Memory` or `Write` where the sink refused them, and `Memory` where there was none to merge them.
-fn hand_on<K: Sink>(
-    alloc: Global,
-    sink: &mut K,
-    parts: Vec<Vec<Entry>>,
-) -> Result<(), RunError>
+fn hand_on<K: Sink>(alloc: Global, sink: &mut K, parts: Vec<Vec<Entry>>) -> Result<(), RunError>
     requires parts { AreParts parts.items }
     requires failures { K.failed sink.old < 2 ^ 64 - 1 }
     ensures took { OnOk result (TookAllBut K.took parts.items [] sink.old sink.new) }
@@ -239,7 +235,10 @@ pub fn run_windows_into<M: Process, G: Gate, K: Sink, R: Threads + Wait + Sync>(
     let mut parts = Vec::new(alloc);
     while !stage.finished() {
         let (ran, left) = run_and_hand_on(rt, alloc, &mut stage, plan, gate, sink, parts);
-        let Left { parts: waiting, told } = left;
+        let Left {
+            parts: waiting,
+            told,
+        } = left;
         told?;
         hand_on(alloc, sink, waiting)?;
         parts = keep_or_hand_on(alloc, sink, ran?)?;

@@ -228,14 +228,7 @@ fn start_worker<'s, E, M: Process + 's, G: Gate, R: Threads + Wait + Sync>(
 ///
 /// The first that some worker met, or that the start of one met: `Spawn` where a thread was refused, `Memory` where
 /// memory was, and `Limit` only where one of the window's processes has more events below its end than entries fit.
-pub(crate) fn start_workers<
-    's,
-    E,
-    M: Process + 's,
-    G: Gate,
-    C: Chore,
-    R: Threads + Wait + Sync,
->(
+pub(crate) fn start_workers<'s, E, M: Process + 's, G: Gate, C: Chore, R: Threads + Wait + Sync>(
     scope: &'s Scope<'s, E>,
     rt: &'s R,
     shared: &'s Shared<'s, M, G>,
