@@ -1,4 +1,4 @@
-use Rattle.windows.proofs.Words.{◌≡◌, ◌⊎◌, ◌+◌, ℕ, inl, inr, sym, subst, List, arith, Ok, RunError, EntryRecord, AreParts}
+use Rattle.windows.proofs.Words.{◌≡◌, ◌⊎◌, ℕ, inl, inr, sym, subst, List, arith, Ok, EntryRecord, AreParts}
 use Rattle.windows.specs.Inside.Last.{HandedOn}
 use Rattle.windows.specs.declared.run.Handing.{Handing}
 use Rattle.windows.proofs.Waiting.{took_nothing}
