@@ -1,5 +1,5 @@
 -- Parts of a window that wait to be merged and handed on.
-use Rattle.windows.proofs.Words.{◌≡◌, ◌<◌, ◌≤◌, ◌+◌, ◌⊎◌, inl, inr, refl, ℕ, sym, ap, ◌∙◌, subst, List, [], ◌∷◌, ◌++◌, append_assoc, append-nil, length, map, IsTrue, Result, Ok, Err, IfOk, IfErr, IsErrOf, OnErr, arith, Vec, All, IsPermutation, nil_from_length, All-nil, IsPermutation-refl, length_permutation, EntryRecord, Mind, is_rising, RunError, Limit, Memory, Spawn, IsInRange, Record, setting_of, IsTrace, all_of, end_to_end, IsRefusal, TookAll, IsStageAfter, Stage, OnOk, AreParts, IsMerged, TookAllBut, TookFrontOf, TookTrace, TookFront, TookClosed, writes_of}
+use Rattle.windows.proofs.Words.{◌≡◌, ◌≤◌, ◌+◌, inl, inr, refl, ℕ, sym, ap, ◌∙◌, subst, List, [], ◌∷◌, ◌++◌, append_assoc, append-nil, length, map, IsTrue, Result, Ok, Err, IfOk, IfErr, OnErr, arith, Vec, All, IsPermutation, nil_from_length, All-nil, IsPermutation-refl, length_permutation, EntryRecord, Mind, is_rising, RunError, IsInRange, Record, setting_of, IsTrace, all_of, end_to_end, IsRefusal, TookAll, IsStageAfter, Stage, OnOk, AreParts, IsMerged, TookAllBut, TookFrontOf, TookTrace, TookFront, TookClosed, writes_of}
 use Rattle.trace_merge.proofs.Exists.{has_merge}
 use Rattle.windows.proofs.Closing.{stage_trace}
 use Rattle.windows.proofs.Cut.{stage_cut}

@@ -58,7 +58,7 @@ pub use Rattle.window_laws.specs.Window.{AreBerths, BerthRun, IsPosted, IsSameSt
 pub use Rattle.windows.specs.Berth.{IsBerth, all_filed, made_in, most_in_part, with_letters}
 pub use Rattle.windows.specs.Inside.Agenda.{AreFrom, AreLists, AreOne, IsParted, all_ahead, all_in, first_tick, in_box}
 pub use Rattle.windows.specs.Inside.Closing.{AreLettersOf, IsClosedBy, IsOutcomeBy}
-pub use Rattle.windows.specs.Inside.Last.{AreParts, HasMade, IsMerged, TookAllBut, TookFrontOf}
+pub use Rattle.windows.specs.Inside.Last.{AreParts, IsMerged, TookAllBut, TookFrontOf}
 pub use Rattle.windows.specs.Inside.Shared.{AreAnswers, ArePosting, AreReady, HadWindow, IsAnswerTo, IsOneTooLong, IsStart, IsWorkBy, IsWorkIn, KnowOneTooLong}
 pub use Rattle.windows.specs.Inside.Workers.{AllAbove, AreRun, AreRunBy, BringsTogether, HasLong, IsFresh, IsOutcome, IsReady, IsRest, IsSent, IsStay, IsWork, RiseBy, Stay, dealt_to, given_to, is_to, left_in, sent_in, stay, taken_in}
 pub use Rattle.windows.specs.Refusals.{AreThere, IsFirstRefusal, IsRefusal, IsRefusalOfOne}

@@ -1,17 +1,18 @@
 //! A run by windows.
-ghost use Rattle.std.specs.Prelude.{◌≡◌, ◌≤◌, ◌<◌, ◌+◌, ◌-◌, ◌^◌, ◌⊎◌, List, [], length, map, IfErr, IfOk, OnOk, OnErr, IsErrOf};
+ghost use Rattle.std.specs.Prelude.{◌≡◌, ◌≤◌, ◌<◌, ◌+◌, ◌-◌, ◌^◌, ◌⊎◌, ◌++◌, List, [], length, map, IfErr, IfOk, Ok, OnOk, OnErr, IsErrOf};
 ghost use Rattle.process_api.specs.EntryRecord.{EntryRecord};
 ghost use Rattle.process_api.specs.Numbers.{numbers_to};
 ghost use Rattle.scenario_record.specs.Record.{opening_mind};
 ghost use Rattle.trace_laws.specs.ScenarioSetting.{setting_of};
 ghost use Rattle.trace_laws.specs.World.{IsTrace};
-ghost use Rattle.windows.specs.Inside.Last.{AreParts, TookAllBut, TookFrontOf};
+ghost use Rattle.windows.specs.Inside.Last.{AreParts, HandedOn, IsMerged, TookAllBut, TookFrontOf};
 ghost use Rattle.windows.specs.Plan.{IsPlanFor};
 ghost use Rattle.windows.specs.Refusals.{IsRefusal};
 ghost use Rattle.windows.specs.Sink.{IsRefusalOfSink, TookTrace, TookFront, TookClosed, writes_of};
+ghost use Rattle.windows.specs.Stage.{IsStage, IsStageAfter, IsWindowRun};
 
+use crate::chore::Chore;
 use crate::gate::Gate;
-use crate::last::Last;
 use crate::plan::Plan;
 use crate::sink::Sink;
 use crate::stage::Stage;
@@ -20,8 +21,10 @@ use process_api::{Entry, Process, RunError, Trace};
 use scenario_record::Scenario;
 use std::alloc::Global;
 use std::marker::Sync;
+use std::mem::replace;
 use std::sync::Wait;
 use std::thread::Threads;
+use trace_merge::merge;
 
 /// Parts with fewer entries are handed on as soon as their window is closed. Merging them takes a few microseconds, which
 /// isn't worth that the sink waits for the next window.
@@ -36,26 +39,28 @@ fn are_few(parts: &[Vec<Entry>]) -> bool {
     entries < FEW_ENTRIES
 }
 
-/// Hands on the parts that wait, merged, if there are any.
+/// Merges the parts, and hands them on, if there are any.
 ///
 /// # Errors
 ///
-/// `Memory` or `Write` where the sink refused them, and `Memory` where memory was refused before.
-fn hand_on<K: Sink>(alloc: Global, sink: &mut K, last: Last) -> Result<(), RunError>
+/// `Memory` or `Write` where the sink refused them, and `Memory` where there was none to merge them.
+fn hand_on<K: Sink>(alloc: Global, sink: &mut K, parts: Vec<Vec<Entry>>) -> Result<(), RunError>
+    requires parts { AreParts parts.items }
     requires failures { K.failed sink.old < 2 ^ 64 - 1 }
-    ensures took { OnOk result (TookAllBut K.took last [] sink.old sink.new) }
-    ensures front { OnErr result (TookFrontOf K.took_front last sink.old sink.new) }
+    ensures took { OnOk result (TookAllBut K.took parts.items [] sink.old sink.new) }
+    ensures front { OnErr result (TookFrontOf K.took_front parts.items sink.old sink.new) }
     ensures errors { IfErr result IsRefusalOfSink }
     ensures count { K.failed sink.new ≡ K.failed sink.old + writes_of result }
 {
-    match last.into_entries(alloc)? {
-        Some(merged) => sink.part(merged),
-        None => Ok(()),
+    if parts.is_empty() {
+        return Ok(());
     }
+    let merged = merge(alloc, parts)?;
+    sink.part(merged)
 }
 
 /// The parts of a window that was closed wait until the workers of the next one run, unless they are few: these are
-/// handed on.
+/// handed on. Answers those that wait.
 ///
 /// # Errors
 ///
@@ -64,27 +69,135 @@ fn keep_or_hand_on<K: Sink>(
     alloc: Global,
     sink: &mut K,
     parts: Vec<Vec<Entry>>,
-) -> Result<Last, RunError>
+) -> Result<Vec<Vec<Entry>>, RunError>
     requires parts { AreParts parts.items }
     requires failures { K.failed sink.old < 2 ^ 64 - 1 }
-    ensures waiting { IfOk result (λ last. AreParts last) }
-    ensures took { IfOk result (λ last. TookAllBut K.took parts.items last sink.old sink.new) }
+    ensures waiting { IfOk result (λ left. AreParts left.items) }
+    ensures took { IfOk result (λ left. TookAllBut K.took parts.items left.items sink.old sink.new) }
     ensures front { OnErr result (TookFrontOf K.took_front parts.items sink.old sink.new) }
     ensures errors { IfErr result IsRefusalOfSink }
     ensures count { K.failed sink.new ≡ K.failed sink.old + writes_of result }
 {
     if !are_few(&parts) {
-        return Ok(Last::new(parts));
+        return Ok(parts);
     }
-    hand_on(alloc, sink, Last::new(parts))?;
-    Ok(Last::new(Vec::new(alloc)))
+    hand_on(alloc, sink, parts)?;
+    Ok(Vec::new(alloc))
+}
+
+/// Parts that wait to be handed on, and what the sink answered to those that were.
+#[derive(Drop)]
+struct Left {
+    parts: Vec<Vec<Entry>>,
+    told: Result<(), RunError>,
+}
+
+/// The starter hands what is left to this sink beside the workers of the next window.
+#[derive(Drop)]
+struct Handing<'k, K: Sink> {
+    left: Left,
+    sink: &'k mut K,
+}
+
+impl<K: Sink> Chore for Handing<'_, K> {
+    ghost use Rattle.std.specs.Prelude.{◌≡◌, ◌<◌, ◌-◌, ◌^◌};
+    ghost use Rattle.windows.specs.Inside.Last.{AreParts, HandedOn};
+
+    ghost waits = { λ h. AreParts h.left.parts.items × (K.failed h.sink.now < 2 ^ 64 - 1) };
+
+    ghost done = { λ old new. HandedOn K.took K.took_front K.failed old.left.parts.items new.left.parts.items
+        old.sink.now new.sink.now new.left.told };
+
+    ghost place = { λ h. h.sink.ghost_name };
+
+    fn work(&mut self, alloc: Global) {
+        let parts = replace(&mut self.left.parts, Vec::new(alloc));
+        self.left.told = hand_on(alloc, self.sink, parts);
+    }
+}
+
+/// Runs the next window of a stage, as [`run_parts`] does. Meanwhile the starter hands on the parts that wait. Where the
+/// window was refused before a worker began, they still wait.
+///
+/// # Errors
+///
+/// As [`run_parts`].
+fn run_handing<M: Process, G: Gate, K: Sink, R: Threads + Wait + Sync>(
+    rt: &R,
+    alloc: Global,
+    stage: &mut Stage<'_, M>,
+    plan: &Plan,
+    gate: &G,
+    handing: &mut Handing<'_, K>,
+) -> Result<Vec<Vec<Entry>>, RunError>
+    requires stage { IsStage M.mind stage.old }
+    requires plan { IsPlanFor stage.old.scenario.now plan.now }
+    requires open { stage.old.start < stage.old.scenario.now.horizon }
+    requires waiting { AreParts handing.old.left.parts.items }
+    requires failures { K.failed handing.old.sink.now < 2 ^ 64 - 1 }
+    requires told { handing.old.left.told ≡ Ok tt }
+
+    ensures sink { handing.new.sink.ghost_name ≡ handing.old.sink.ghost_name }
+    ensures handed { HandedOn K.took K.took_front K.failed handing.old.left.parts.items handing.new.left.parts.items
+        handing.old.sink.now handing.new.sink.now handing.new.left.told }
+    ensures scenario { OnOk result (stage.new.scenario.now ≡ stage.old.scenario.now) }
+    ensures parts { IfOk result (λ parts. AreParts parts.items) }
+    ensures stage { IfOk result (λ parts. (merged : List EntryRecord) → IsMerged parts.items merged
+        → (trace : List EntryRecord)
+        → IsStageAfter M.mind trace stage.old → IsStageAfter M.mind (trace ++ merged) stage.new) }
+    ensures run { IfOk result (λ parts. (merged : List EntryRecord) → IsMerged parts.items merged
+        → IsWindowRun M.mind plan.now.window stage.old stage.new merged) }
+    ensures errors { IfErr result IsRefusal }
+    ensures limit { IsErrOf result RunError.Limit → (whole : List EntryRecord)
+        → IsTrace (setting_of stage.old.scenario.now) whole → stage.old.scenario.now.limit < length whole }
+{
+    run_parts(rt, alloc, stage, plan, gate, handing)
+}
+
+/// Runs the next window of a stage, as [`run_parts`] does. Meanwhile the starter hands these parts to the sink. Answers
+/// what `run_parts` does, the parts that still wait, since the window was refused before a worker began, and what the
+/// sink answered.
+fn run_and_hand_on<M: Process, G: Gate, K: Sink, R: Threads + Wait + Sync>(
+    rt: &R,
+    alloc: Global,
+    stage: &mut Stage<'_, M>,
+    plan: &Plan,
+    gate: &G,
+    sink: &mut K,
+    parts: Vec<Vec<Entry>>,
+) -> (Result<Vec<Vec<Entry>>, RunError>, Left)
+    requires stage { IsStage M.mind stage.old }
+    requires plan { IsPlanFor stage.old.scenario.now plan.now }
+    requires open { stage.old.start < stage.old.scenario.now.horizon }
+    requires waiting { AreParts parts.items }
+    requires failures { K.failed sink.old < 2 ^ 64 - 1 }
+
+    ensures handed { HandedOn K.took K.took_front K.failed parts.items result.1.parts.items sink.old sink.new
+        result.1.told }
+    ensures scenario { OnOk result.0 (stage.new.scenario.now ≡ stage.old.scenario.now) }
+    ensures parts { IfOk result.0 (λ parts. AreParts parts.items) }
+    ensures stage { IfOk result.0 (λ parts. (merged : List EntryRecord) → IsMerged parts.items merged
+        → (trace : List EntryRecord)
+        → IsStageAfter M.mind trace stage.old → IsStageAfter M.mind (trace ++ merged) stage.new) }
+    ensures run { IfOk result.0 (λ parts. (merged : List EntryRecord) → IsMerged parts.items merged
+        → IsWindowRun M.mind plan.now.window stage.old stage.new merged) }
+    ensures errors { IfErr result.0 IsRefusal }
+    ensures limit { IsErrOf result.0 RunError.Limit → (whole : List EntryRecord)
+        → IsTrace (setting_of stage.old.scenario.now) whole → stage.old.scenario.now.limit < length whole }
+{
+    let told = Ok(());
+    let left = Left { parts, told };
+    let mut handing = Handing { left, sink };
+    let ran = run_handing(rt, alloc, stage, plan, gate, &mut handing);
+    let Handing { left, sink: _sink } = handing;
+    (ran, left)
 }
 
 /// Runs machines by windows of the plan's length, each shared by the plan's workers, up to the horizon. There is one
 /// machine for each process, of process 1 first, and each opens as the scenario says; the plan's window is no longer
 /// than the scenario's lookahead. When a window is closed, its part of the trace goes to the sink: a part with few
-/// entries at once, and another one when the next window was run, since the starter merges it while its workers run.
-/// The sink takes the trace of the single event list, under every schedule of the threads.
+/// entries at once, and another one while the workers of the next window run. The sink takes the trace of the single
+/// event list, under every schedule of the threads.
 ///
 /// # Errors
 ///
@@ -119,13 +232,18 @@ pub fn run_windows_into<M: Process, G: Gate, K: Sink, R: Threads + Wait + Sync>(
     let _window = plan.window();
     let _horizon = scenario.horizon();
     let mut stage = Stage::open(alloc, scenario, machines)?;
-    let mut last = Last::new(Vec::new(alloc));
+    let mut parts = Vec::new(alloc);
     while !stage.finished() {
-        let ran = run_parts(rt, alloc, &mut stage, plan, gate, &mut last);
-        hand_on(alloc, sink, last)?;
-        last = keep_or_hand_on(alloc, sink, ran?)?;
+        let (ran, left) = run_and_hand_on(rt, alloc, &mut stage, plan, gate, sink, parts);
+        let Left {
+            parts: waiting,
+            told,
+        } = left;
+        told?;
+        hand_on(alloc, sink, waiting)?;
+        parts = keep_or_hand_on(alloc, sink, ran?)?;
     }
-    hand_on(alloc, sink, last)
+    hand_on(alloc, sink, parts)
 }
 
 /// The same, where the whole trace is kept, and answered.

@@ -1,5 +1,5 @@
 //! One window: workers share the processes that have something to do in it, and their results are put in order.
-ghost use Rattle.std.specs.Prelude.{◌≡◌, ◌≤◌, ◌<◌, ◌+◌, ◌++◌, ℕ, List, length, map, min, IfOk, IfErr, OnOk, IsErrOf, vec_len, IsPermutation};
+ghost use Rattle.std.specs.Prelude.{◌≡◌, ◌≤◌, ◌<◌, ◌+◌, ◌++◌, ◌⊎◌, ℕ, List, length, map, min, IfOk, IfErr, OnOk, IsErrOf, vec_len, IsPermutation};
 ghost use Rattle.std.specs.List.{All};
 ghost use Rattle.std.specs.Thread.{IsSync};
 ghost use Rattle.process_api.specs.EntryRecord.{EntryRecord};
@@ -19,9 +19,9 @@ ghost use Rattle.windows.specs.Stage.{IsCountOfWorkers, IsStage, IsStageAfter, I
 ghost use Rattle.windows.specs.Inside.Workers.{RiseBy, dealt_to, given_to};
 
 use crate::berth::Berth;
+use crate::chore::Chore;
 use crate::gate::Gate;
 use crate::gather::{gather, part, run_rest, starts_of};
-use crate::last::Last;
 use crate::plan::Plan;
 use crate::shared::{Crew, Shared, Window};
 use crate::stage::{Ran, Stage};
@@ -37,29 +37,37 @@ use std::thread::Threads;
 use streams::Streams;
 use trace_merge::merge;
 
-/// Starts the workers in a scope of their own, in which each is joined. Meanwhile the parts of the window before are
-/// merged.
-fn in_threads<M: Process, G: Gate, R: Threads + Wait + Sync>(
+/// Starts the workers in a scope of their own, in which each is joined. Meanwhile the starter does its chore.
+fn in_threads<M: Process, G: Gate, C: Chore, R: Threads + Wait + Sync>(
     rt: &R,
     shared: &Shared<'_, M, G>,
     starts: Vec<Start<M>>,
-    last: Last,
-) -> (Result<Vec<Work<M>>, RunError>, Last)
+    chore: &mut C,
+) -> Result<Vec<Work<M>>, RunError>
     requires starts { All (IsStart M.mind shared.now) starts.items }
     requires few { vec_len starts ≤ most_workers }
-    ensures works { AreAnswers M.mind shared.now starts.items result.0 }
-    ensures last { result.1 ≡ last }
+    requires chore { C.waits chore.old }
+    ensures works { AreAnswers M.mind shared.now starts.items result }
+    ensures chore { C.done chore.old chore.new }
+    ensures place { C.place chore.new ≡ C.place chore.old }
 {
-    thread::scope(
+    // A proof knows what a closure leaves behind a reference only if the closure answers that reference.
+    let (works, _chore) = thread::scope(
         thread::scope_env(),
         rt,
-        |scope| -> (Result<Vec<Work<M>>, RunError>, Last)
+        |scope| -> (Result<Vec<Work<M>>, RunError>, &mut C)
             requires { IsSync R.row × IsSync G.row × All (IsStart M.mind shared.now) starts.items
-                × (vec_len starts ≤ most_workers) }
+                × (vec_len starts ≤ most_workers) × C.waits chore.now }
             ensures works { AreAnswers M.mind shared.entry.now starts.items result.0 }
-            ensures last { result.1 ≡ last }
-        { start_workers(scope, rt, shared, starts, last) },
-    )
+            ensures same { result.1.ghost_name ≡ chore.entry.ghost_name }
+            ensures chore { C.done chore.entry.now result.1.now }
+            ensures place { C.place result.1.now ≡ C.place chore.entry.now }
+        {
+            let works = start_workers(scope, rt, shared, starts, chore);
+            (works, chore)
+        },
+    );
+    works
 }
 
 /// What the workers did, with what no worker took, which the starter runs by a slip of its own. Answers the berths that
@@ -90,13 +98,13 @@ fn bring_together<M: Process, G: Gate, R: Wait>(
 }
 
 /// The workers that begin so take the berths that were dealt, and the starter, by a slip of its own, what is left. The
-/// parts of the window before are merged meanwhile. Answers the berths that were run, and all slips.
-fn run_dealt<M: Process, G: Gate, R: Threads + Wait + Sync>(
+/// starter does its chore meanwhile. Answers the berths that were run, and all slips.
+fn run_dealt<M: Process, G: Gate, C: Chore, R: Threads + Wait + Sync>(
     rt: &R,
     shared: &Shared<'_, M, G>,
     starts: Vec<Start<M>>,
     slip: Slip,
-    last: &mut Last,
+    chore: &mut C,
 ) -> Result<(Vec<Berth<M>>, Vec<Slip>), RunError>
     requires deques { shared.now.fronts.now.items ≡ deques_of (map (λ b. b.hand.own) starts.items) }
     requires slip { slip ≡ unused shared.now.mailboxes.now }
@@ -104,36 +112,37 @@ fn run_dealt<M: Process, G: Gate, R: Threads + Wait + Sync>(
     requires fresh { All (IsFreshIn shared.now) starts.items }
     requires known { All (λ s. s.hand.known ≡ dealt_to starts.items) starts.items }
     requires few { vec_len starts ≤ most_workers }
+    requires chore { C.waits chore.old }
 
     ensures slips { IfOk result (λ r. vec_len r.1 ≡ vec_len starts + 1) }
     ensures run { IfOk result (λ r.
         HadWindow M.mind shared.now.window.now shared.now.mailboxes.now (dealt_to starts.items) r.0.items r.1.items) }
-    ensures last { last.new ≡ last.old }
+    ensures chore { C.done chore.old chore.new }
+    ensures place { C.place chore.new ≡ C.place chore.old }
     ensures errors { IfErr result IsRefusal }
     ensures limit { IsErrOf result RunError.Limit
         → IsOneTooLong M.mind shared.now.window.now (dealt_to starts.items) }
 {
-    let parts = replace(last, Last::new(Vec::new(shared.alloc)));
-    let (works, merged) = in_threads(rt, shared, starts, parts);
-    *last = merged;
+    let works = in_threads(rt, shared, starts, chore);
     bring_together(rt, shared, works?, slip)
 }
 
 /// Runs the processes with an event below the window's end, by at most so many workers. Answers all berths, in some
 /// order, and the slips: one for each worker, and the starter's.
-fn run_berths_of<M: Process, G: Gate, R: Threads + Wait + Sync>(
+fn run_berths_of<M: Process, G: Gate, C: Chore, R: Threads + Wait + Sync>(
     rt: &R,
     crew: &Crew<'_, G>,
     mailboxes: &mut Mailboxes,
     window: &Window<'_>,
     berths: Vec<Berth<M>>,
-    last: &mut Last,
+    chore: &mut C,
 ) -> Result<(Vec<Berth<M>>, Vec<Slip>), RunError>
     requires some { 0 < crew.now.workers }
     requires few { crew.now.workers ≤ most_workers }
     requires slips { mailboxes.old.slips ≡ 0 }
     requires boxes { length mailboxes.old.mailboxes ≡ window.now.streams.processes }
     requires ready { AreReady M.mind window.now berths.items }
+    requires chore { C.waits chore.old }
 
     ensures mailboxes { OnOk result (mailboxes.new.mailboxes ≡ mailboxes.old.mailboxes) }
     ensures slips { IfOk result (λ r. vec_len r.1 ≡ mailboxes.new.slips) }
@@ -141,7 +150,8 @@ fn run_berths_of<M: Process, G: Gate, R: Threads + Wait + Sync>(
         × IsCountOfWorkers window.now.end crew.now.workers berths.items started × (vec_len r.1 ≡ started + 1)) }
     ensures run { IfOk result (λ r.
         HadWindow M.mind window.now mailboxes.old.mailboxes berths.items r.0.items r.1.items) }
-    ensures last { last.new ≡ last.old }
+    ensures chore { (chore.new ≡ chore.old) ⊎ C.done chore.old chore.new }
+    ensures place { C.place chore.new ≡ C.place chore.old }
     ensures errors { IfErr result IsRefusal }
     ensures limit { IsErrOf result RunError.Limit → IsOneTooLong M.mind window.now berths.items }
 {
@@ -158,7 +168,7 @@ fn run_berths_of<M: Process, G: Gate, R: Threads + Wait + Sync>(
         fronts: &fronts,
         mailboxes: mailboxes.shared(),
     };
-    let (mut done, slips) = run_dealt(rt, &shared, starts, slip, last)?;
+    let (mut done, slips) = run_dealt(rt, &shared, starts, slip, chore)?;
     done.append(&mut idle)?;
     Ok((done, slips))
 }
@@ -180,13 +190,13 @@ fn mailboxes_for(
 
 /// Runs one window of all processes. Answers their berths, of process 1 first, and the mailboxes with all slips, by
 /// which the letters of the window were posted.
-fn run_all<M: Process, G: Gate, R: Threads + Wait + Sync>(
+fn run_all<M: Process, G: Gate, C: Chore, R: Threads + Wait + Sync>(
     rt: &R,
     crew: &Crew<'_, G>,
     mut mailboxes: Mailboxes,
     window: &Window<'_>,
     berths: Vec<Berth<M>>,
-    last: &mut Last,
+    chore: &mut C,
 ) -> Result<Ran<M>, RunError>
     requires some { 0 < crew.now.workers }
     requires few { crew.now.workers ≤ most_workers }
@@ -194,6 +204,7 @@ fn run_all<M: Process, G: Gate, R: Threads + Wait + Sync>(
     requires slips { mailboxes.slips ≡ 0 }
     requires ready { AreReady M.mind window.now berths.items }
     requires rising { RiseBy (λ b. own_of M.mind b.seat) berths.items }
+    requires chore { C.waits chore.old }
 
     ensures boxes { IfOk result (λ r. length r.mailboxes.mailboxes ≡ window.now.streams.processes) }
     ensures all { IfOk result (λ r. vec_len r.slips ≡ r.mailboxes.slips) }
@@ -202,11 +213,12 @@ fn run_all<M: Process, G: Gate, R: Threads + Wait + Sync>(
     ensures slips { IfOk result (λ r. All (IsSlipOf r.mailboxes.mailboxes) r.slips.items) }
     ensures outcome { IfOk result (λ r.
         IsOutcomeBy M.mind window.now.streams window.now.end berths.items r.berths.items r.slips.items) }
-    ensures last { last.new ≡ last.old }
+    ensures chore { (chore.new ≡ chore.old) ⊎ C.done chore.old chore.new }
+    ensures place { C.place chore.new ≡ C.place chore.old }
     ensures errors { IfErr result IsRefusal }
     ensures limit { IsErrOf result RunError.Limit → IsOneTooLong M.mind window.now berths.items }
 {
-    let (mut done, slips) = run_berths_of(rt, crew, &mut mailboxes, window, berths, last)?;
+    let (mut done, slips) = run_berths_of(rt, crew, &mut mailboxes, window, berths, chore)?;
     done.sort_unstable_by_key(|berth| berth.pid().number());
     Ok(Ran {
         berths: done,
@@ -216,23 +228,24 @@ fn run_all<M: Process, G: Gate, R: Threads + Wait + Sync>(
     })
 }
 
-/// Runs the next window of a stage, as [`run_window`] does, but answers its parts, which aren't merged yet. Those of the
-/// window before are merged meanwhile.
+/// Runs the next window of a stage, as [`run_window`] does, but answers its parts, which aren't merged yet. The starter
+/// does its chore meanwhile, unless the window was refused before a worker began.
 ///
 /// # Errors
 ///
 /// As [`run_window`].
-pub(crate) fn run_parts<M: Process, G: Gate, R: Threads + Wait + Sync>(
+pub(crate) fn run_parts<M: Process, G: Gate, C: Chore, R: Threads + Wait + Sync>(
     rt: &R,
     alloc: Global,
     stage: &mut Stage<'_, M>,
     plan: &Plan,
     gate: &G,
-    last: &mut Last,
+    chore: &mut C,
 ) -> Result<Vec<Vec<Entry>>, RunError>
     requires stage { IsStage M.mind stage.old }
     requires plan { IsPlanFor stage.old.scenario.now plan.now }
     requires open { stage.old.start < stage.old.scenario.now.horizon }
+    requires chore { C.waits chore.old }
 
     ensures scenario { OnOk result (stage.new.scenario.now ≡ stage.old.scenario.now) }
     ensures parts { IfOk result (λ parts. AreParts parts.items) }
@@ -244,7 +257,8 @@ pub(crate) fn run_parts<M: Process, G: Gate, R: Threads + Wait + Sync>(
     ensures workers { IfOk result (λ _. IsCountOfWorkers
         (end_of (setting_of stage.old.scenario.now) plan.now.window stage.old.start) plan.now.workers
         stage.old.berths.items stage.new.workers) }
-    ensures last { last.new ≡ last.old }
+    ensures chore { (chore.new ≡ chore.old) ⊎ C.done chore.old chore.new }
+    ensures place { C.place chore.new ≡ C.place chore.old }
     ensures errors { IfErr result IsRefusal }
     ensures limit { IsErrOf result RunError.Limit → (whole : List EntryRecord)
         → IsTrace (setting_of stage.old.scenario.now) whole → stage.old.scenario.now.limit < length whole }
@@ -263,7 +277,7 @@ pub(crate) fn run_parts<M: Process, G: Gate, R: Threads + Wait + Sync>(
         gate,
         workers,
     };
-    let ran = run_all(rt, &crew, mailboxes, &window, berths, last)?;
+    let ran = run_all(rt, &crew, mailboxes, &window, berths, chore)?;
     stage.close(rt, alloc, ran, left)
 }
 
@@ -300,7 +314,6 @@ pub fn run_window<M: Process, G: Gate, R: Threads + Wait + Sync>(
     ensures limit { IsErrOf result RunError.Limit → (whole : List EntryRecord)
         → IsTrace (setting_of stage.old.scenario.now) whole → stage.old.scenario.now.limit < length whole }
 {
-    let mut none = Last::new(Vec::new(alloc));
-    let parts = run_parts(rt, alloc, stage, plan, gate, &mut none)?;
+    let parts = run_parts(rt, alloc, stage, plan, gate, &mut ())?;
     merge(alloc, parts)
 }

@@ -12,8 +12,8 @@ ghost use Rattle.windows.specs.Inside.Shared.{ArePosting, IsStart, IsAnswerTo, A
 ghost use Rattle.windows.specs.Inside.Workers.{IsReady};
 
 use crate::berth::{Berth, run_into};
+use crate::chore::Chore;
 use crate::gate::Gate;
-use crate::last::Last;
 use crate::shared::Shared;
 use deques::Hand;
 use mailboxes::{Slip, Tray};
@@ -222,36 +222,40 @@ fn start_worker<'s, E, M: Process + 's, G: Gate, R: Threads + Wait + Sync>(
 }
 
 /// Starts a worker for each beginning, and joins them. The workers have the numbers from 1 to that of the beginnings.
-/// While they run, the parts of the window before are merged. Where a thread is refused, those that were started are
-/// joined first.
+/// While they run, the starter does its chore. Where a thread is refused, those that were started are joined first.
 ///
 /// # Errors
 ///
 /// The first that some worker met, or that the start of one met: `Spawn` where a thread was refused, `Memory` where
 /// memory was, and `Limit` only where one of the window's processes has more events below its end than entries fit.
-pub(crate) fn start_workers<'s, E, M: Process + 's, G: Gate, R: Threads + Wait + Sync>(
+pub(crate) fn start_workers<'s, E, M: Process + 's, G: Gate, C: Chore, R: Threads + Wait + Sync>(
     scope: &'s Scope<'s, E>,
     rt: &'s R,
     shared: &'s Shared<'s, M, G>,
     mut starts: Vec<Start<M>>,
-    mut last: Last,
-) -> (Result<Vec<Work<M>>, RunError>, Last)
+    chore: &mut C,
+) -> Result<Vec<Work<M>>, RunError>
     requires starts { All (IsStart M.mind shared.now) starts.items }
     requires few { vec_len starts ≤ most_workers }
-    ensures works { AreAnswers M.mind shared.now starts.items result.0 }
-    ensures last { result.1 ≡ last }
+    requires chore { C.waits chore.old }
+    ensures works { AreAnswers M.mind shared.now starts.items result }
+    ensures chore { C.done chore.old chore.new }
+    ensures place { C.place chore.new ≡ C.place chore.old }
 {
     let Some(start) = starts.pop() else {
-        last.merge(shared.alloc);
-        return (Ok(Vec::new(shared.alloc)), last);
+        chore.work(shared.alloc);
+        return Ok(Vec::new(shared.alloc));
     };
     let worker = starts.len() as u16 + 1;
     match start_worker(scope, rt, shared, worker, start) {
         Ok(child) => {
-            let (rest, last) = start_workers(scope, rt, shared, starts, last);
+            let rest = start_workers(scope, rt, shared, starts, chore);
             let mine = child.join(rt);
-            (all_works(rest, mine), last)
+            all_works(rest, mine)
         }
-        Err(refusal) => (Err(refusal), last),
+        Err(refusal) => {
+            chore.work(shared.alloc);
+            Err(refusal)
+        }
     }
 }

@@ -1,23 +1,12 @@
 -- A window's close: its letters, in whatever order each list has them, and its parts, which are merged later.
-use Rattle.std.specs.Prelude.{◌≡◌, ℕ, ◌≤◌, ◌<◌, ◌++◌, List, length, map, IsTrue, Result, IfOk, IfErr, IsErrOf, OnOk}
-use Rattle.std.specs.Global.{Vec}
-use Rattle.std.specs.List.{All}
+use Rattle.std.specs.Prelude.{◌≡◌, ℕ, ◌≤◌, List, length}
 use Rattle.std.specs.List.Sorted.{IsPermutation}
 use Rattle.process_api.specs.EntryRecord.{EntryRecord}
 use Rattle.process_api.specs.Mind.{Mind}
-use Rattle.process_api.specs.Order.{is_rising}
 use Rattle.process_api.specs.declared.message.Letter.{Letter}
-use Rattle.process_api.specs.declared.run_error.RunError.{RunError}
-use Rattle.process_api.specs.declared.run_error.RunError.TheVariants.{Limit}
 use Rattle.scenario_record.specs.Record.{Record}
 use Rattle.mailboxes.specs.Mailboxes.{SlipView, list_of, posted_to}
-use Rattle.trace_laws.specs.ScenarioSetting.{setting_of}
-use Rattle.trace_laws.specs.World.{IsTrace}
-use Rattle.trace_merge.specs.Parts.{all_of, AreDisjoint}
-use Rattle.window_laws.specs.Machine.{end_of}
-use Rattle.windows.specs.Refusals.{IsRefusal}
-use Rattle.windows.specs.Inside.Last.{AreParts, IsMerged}
-use Rattle.windows.specs.Stage.{IsClosed, IsCountOfWorkers, IsStageAfter, IsWindowRun}
+use Rattle.windows.specs.Stage.{IsClosed}
 use Rattle.windows.specs.Inside.Workers.{IsOutcome}
 use Rattle.windows.specs.declared.berth.Berth.{Berth}
 use Rattle.windows.specs.declared.stage.Stage.{Stage}

@@ -1,5 +1,5 @@
 -- The parts of a closed window, which are merged later.
-use Rattle.std.specs.Prelude.{◌≡◌, ◌⊎◌, List, [], ◌++◌, map, IsTrue}
+use Rattle.std.specs.Prelude.{◌≡◌, ◌⊎◌, ◌+◌, ℕ, List, ◌++◌, map, IsTrue, Result, OnOk, OnErr, IfErr}
 use Rattle.std.specs.Global.{Vec}
 use Rattle.std.specs.List.{All}
 use Rattle.std.specs.List.Sorted.{IsPermutation}
@@ -7,9 +7,8 @@ use Rattle.process_api.specs.EntryRecord.{EntryRecord}
 use Rattle.process_api.specs.Order.{is_rising}
 use Rattle.trace_merge.specs.Parts.{all_of, AreDisjoint}
 use Rattle.window_laws.specs.Theorems.{end_to_end}
-use Rattle.windows.specs.Sink.{TookAll}
-use Rattle.windows.specs.declared.last.Progress.{Progress}
-use Rattle.windows.specs.declared.last.Progress.TheVariants.{Apart, Merged, Refused}
+use Rattle.windows.specs.Sink.{TookAll, IsRefusalOfSink, writes_of}
+use Rattle.process_api.specs.declared.run_error.RunError.{RunError}
 
 -- each part rises, and no key is in two
 pub record AreParts (parts : List (Vec EntryRecord)) : Type 0 where
@@ -20,12 +19,6 @@ pub record AreParts (parts : List (Vec EntryRecord)) : Type 0 where
 pub record IsMerged (parts : List (Vec EntryRecord)) (merged : List EntryRecord) : Type 0 where
   pub rising : IsTrue (is_rising merged)
   pub same : IsPermutation (all_of (map (λ part. part.items) parts)) merged
-
--- these parts are apart yet, or merged, or gone
-abbrev pub HasMade : List (Vec EntryRecord) → Progress → Type 0
-HasMade parts (Apart now) = (now.items ≡ parts) × AreParts parts
-HasMade parts (Merged merged) = IsMerged parts merged.items
-HasMade parts Refused = Unit {0}
 
 module _ {K : Type 0} (took : K → List EntryRecord → K → Type 0) where
   -- the sink took, part by part, what these parts make and the others don't
@@ -38,3 +31,12 @@ module _ {K : Type 0} (took : K → List EntryRecord → K → Type 0) where
   abbrev pub TookFrontOf : (parts : List (Vec EntryRecord)) → (old new : K) → Type 0
   TookFrontOf parts old new =
       (new ≡ old) ⊎ ((merged : List EntryRecord) × IsMerged parts merged × took old merged new)
+
+-- The sink was handed the parts that waited, and answered so; the others still wait
+pub record HandedOn {K : Type 0} (took took_front : K → List EntryRecord → K → Type 0) (failed : K → ℕ)
+    (parts others : List (Vec EntryRecord)) (old new : K) (told : Result (Unit {0}) RunError) : Type 0 where
+  pub waiting : AreParts others
+  pub took_all : OnOk told (TookAllBut took parts others old new)
+  pub front : OnErr told (TookFrontOf took_front parts old new)
+  pub errors : IfErr told IsRefusalOfSink
+  pub count : failed new ≡ failed old + writes_of told

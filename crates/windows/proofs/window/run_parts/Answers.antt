@@ -79,7 +79,8 @@ returns g c =
       workers = IfOk-weaker c.close.result _ _
           (λ v count. subst (IsCountOfWorkers _ _ old.berths.items) (sym count) (of_same (λ w e bs. IsCountOfWorkers e w bs ran.workers) _ _ _ _ _ _ c.workers-workers.ensures.value end same c.in_ok-ran.ensures.workers))
           c.close.ensures.workers;
-      last = c.in_ok-ran.ensures.last;
+      chore = c.in_ok-ran.ensures.chore;
+      place = c.in_ok-ran.ensures.place;
       errors = one_refused c.close.result c.close.ensures.errors;
       limit = λ is. limit_by mind old c.processes-processes.ensures.ranges c.requires.stage.0 c.requires.stage.1 c.args.plan.now.window c.requires.plan _ _ by left sum (c.close.ensures.limit is);
     }

@@ -16,6 +16,6 @@ returns-in-Ok-clause-works g t c =
     let shared = subst (λ r. IfOk r (λ h. h.promise.shared.value ≡ c.args.shared.now)) c.in-Ok.is c.start_worker.ensures.shared in
     let start = subst (λ r. IfOk r (λ h. h.promise.start.value ≡ c.in-Some.start)) c.in-Ok.is c.start_worker.ensures.start in
     answers_more g.M.Process.mind c.args.shared.now c.args.starts.items c.pop.new.self.items c.in-Some.start
-    (popped c.args.starts.items c.pop.new.self.items c.pop.result c.in-Some.start c.pop.ensures.items c.in-Some.is) c.start_workers-rest.result.0 c.join-mine.result c.start_workers-rest.ensures.works
+    (popped c.args.starts.items c.pop.new.self.items c.pop.result c.in-Some.start c.pop.ensures.items c.in-Some.is) c.start_workers-rest.result c.join-mine.result c.start_workers-rest.ensures.works
     (answer_at g.M.Process.mind child.promise.shared.value c.args.shared.now child.promise.start.value c.in-Some.start c.join-mine.result shared start c.join-mine.ensures)
     c.all_works.result c.all_works.ensures.ok c.all_works.ensures.err
