@@ -116,8 +116,13 @@ fn parts_in_order(rt: HostRuntime) {
 }
 
 /// How many entries each window of 2 ticks has where 256 processes send to all at each tick, and how many inputs the
-/// machines have taken as its part is handed on: those of the next window too, as the part isn't small.
-const LARGE_PARTS: [(usize, u64); 3] = [(512, 131_840), (131_328, 262_912), (131_072, 262_912)];
+/// machines have taken at least and at most as its part is handed on. As the part isn't small, that is done beside the
+/// next window, if there is one: all inputs of its own window were taken, and some of the next one's.
+const LARGE_PARTS: [(usize, u64, u64); 3] = [
+    (512, 512, 131_840),
+    (131_328, 131_840, 262_912),
+    (131_072, 262_912, 262_912),
+];
 
 #[test]
 fn large_parts_wait(rt: HostRuntime) {
@@ -137,5 +142,10 @@ fn large_parts_wait(rt: HostRuntime) {
     };
     let done = run_windows_into(&rt, alloc, &scenario, machines, &plan, &OpenGate, &mut sink);
     assert!(rt; done.is_ok());
-    assert!(rt; sink.handed.as_slice() == &LARGE_PARTS[..]);
+    assert!(rt; sink.handed.len() == 3);
+    for place in 0..3usize {
+        let (entries, least, most) = LARGE_PARTS[place];
+        let (came, inputs) = sink.handed[place];
+        assert!(rt; came == entries && least <= inputs && inputs <= most);
+    }
 }
