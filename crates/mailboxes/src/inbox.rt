@@ -4,6 +4,7 @@ ghost use Rattle.std.specs.List.Sorted.{IsPermutation};
 ghost use Rattle.mailboxes.specs.Mailbox.{soonest_in};
 
 use crate::mailbox::{Home, Mailbox};
+use crate::takes::Takes;
 use std::alloc::AllocError;
 use std::marker::Model;
 use std::sync::Wait;
@@ -41,10 +42,7 @@ impl Inbox {
 
     /// Moves the letters into a list that is empty, in some order. The error is that memory was refused. The letters
     /// may be gone then.
-    pub fn empty<R: Wait>(self, rt: &R, letters: &mut Vec<Parcel>) -> Result<Inbox, AllocError>
-        requires { letters.old.items ≡ [] }
-        ensures empty { IfOk result (λ i. i ≡ []) }
-        ensures letters { OnOk result (IsPermutation self letters.new.items) }
+    pub fn empty<R: Wait, T: Takes>(self, rt: &R, letters: &mut T) -> Result<Inbox, AllocError>
     {
         let Inbox { mailbox, home } = self;
         let home = mailbox.empty(rt, home, letters)?;

@@ -31,6 +31,7 @@ mod rule;
 mod shared;
 mod slip;
 mod soonest;
+mod takes;
 mod tray;
 
 pub use inbox::Inbox;
@@ -38,4 +39,5 @@ pub use mailboxes::Mailboxes;
 pub use shared::SharedMailboxes;
 pub use slip::Slip;
 pub use soonest::earlier;
+pub use takes::Takes;
 pub use tray::Tray;

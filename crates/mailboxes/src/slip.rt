@@ -2,7 +2,7 @@
 ghost use Rattle.std.specs.Prelude.{◌≡◌, [], length, replicate, IfOk};
 
 use crate::mailbox::Ticket;
-use crate::tray::{Tray, empty_lists};
+use crate::tray::Tray;
 use std::alloc::AllocError;
 use std::marker::Model;
 
@@ -31,11 +31,22 @@ impl Model for Slip {
 impl Slip {
     /// An empty tray, for letters that are posted by the slip with [`crate::SharedMailboxes::post_all`]. The error is
     /// that memory was refused.
-    pub fn tray(&self) -> Result<Tray, AllocError>
-        ensures fits { length self.now.posted ≡ length self.now.mailboxes }
-        ensures empty { IfOk result (λ tray. tray ≡ replicate (length self.now.mailboxes) []) }
+    pub fn tray(&mut self) -> Result<Tray, AllocError>
     {
-        let lists = empty_lists(*self.tickets.allocator(), self.tickets.len())?;
+        let alloc = *self.tickets.allocator();
+        let mut lists = Vec::with_capacity(alloc, self.tickets.len())?;
+        for at in 0..self.tickets.len() {
+            lists.push_reserved(std::mem::replace(&mut self.tickets[at].room, Vec::new(alloc)));
+        }
         Ok(Tray { lists })
+    }
+
+    pub fn keep(&mut self, tray: Tray) {
+        let Tray { lists } = tray;
+        let mut at = 0;
+        for list in lists {
+            self.tickets[at].room = list;
+            at += 1;
+        }
     }
 }

@@ -21,9 +21,16 @@ pub struct Key {
 
 impl Key {
     /// Whether this key comes before the other.
+    #[inline(always)]
     pub fn is_before(&self, other: &Key) -> bool
         ensures { result ≡ is_before self.now other.now }
     {
-        self < other
+        let mine = (u64::from(self.tick) << 32)
+            | (u64::from(self.receiver.number()) << 16)
+            | u64::from(self.sender.number());
+        let others = (u64::from(other.tick) << 32)
+            | (u64::from(other.receiver.number()) << 16)
+            | u64::from(other.sender.number());
+        mine < others || (mine == others && self.number < other.number)
     }
 }

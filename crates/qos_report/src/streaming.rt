@@ -10,7 +10,7 @@ ghost use Rattle.reporting.specs.Writing.{Wrote, WrotePart};
 ghost use Rattle.windows.specs.Plan.{IsPlanFor};
 ghost use Rattle.windows.specs.Sink.{IsRefusalOfSink, writes_of};
 
-use process_api::{Entry, Process, RunError, follow_all};
+use process_api::{Entry, Follower, Process, RunError, follow_all};
 use reporting::{HEADER, Outlet, Running, TraceText, write_text};
 use scenario_record::Scenario;
 use std::alloc::Global;
@@ -80,12 +80,14 @@ impl<'a, O: Outlet> Sink for Streaming<'a, O> {
     ghost failed = { λ s. O.failed s.outlet.now };
 
     fn part(&mut self, entries: Vec<Entry>) -> Result<(), RunError> {
-        follow_all(&mut self.running, &entries)?;
         if self.is_traced {
-            write_rows(self.alloc, &entries, self.outlet)
-        } else {
-            Ok(())
+            follow_all(&mut self.running, &entries)?;
+            return write_rows(self.alloc, &entries, self.outlet);
         }
+        for entry in entries {
+            self.running.follow(&entry)?;
+        }
+        Ok(())
     }
 
     fn failures(&self) -> u64 {

@@ -75,6 +75,11 @@ impl Parcel {
         event
     }
 
+    #[inline(always)]
+    pub fn take(&mut self) -> Parcel {
+        Parcel { event: self.event.take() }
+    }
+
     /// The letter.
     pub fn into_letter(self) -> Letter
         ensures { result ≡ self }

@@ -1,69 +1,43 @@
 //! The pending events of a process in a window.
-ghost use Rattle.std.specs.Prelude.{◌≡◌, ◌<◌, ◌++◌, ◌∷◌, [], ℕ, List, map, MatchOption, IfOk, OnOk, OnErr, IsPermutation, true};
-ghost use Rattle.std.specs.FinMap as events;
-ghost use Rattle.trace_laws.specs.Step.{Event as EventPair};
-ghost use Rattle.trace_laws.specs.World.{IsLeast, NoneBelow, joined};
-ghost use Rattle.pending_events.specs.Pending.{IsEmpty, IsLeastTick};
-ghost use Rattle.trace_laws.specs.Taken.{event_of};
-ghost use Rattle.mailboxes.specs.Mailbox.{soonest_in};
-ghost use Rattle.windows.specs.Inside.Agenda.{all_in, all_ahead, in_box, AreLists, AreOne, IsParted};
-ghost use Rattle.windows.specs.Stage.{start_event};
 
-use mailboxes::{Inbox, earlier};
+use mailboxes::{Inbox, Takes, earlier};
 use pending_events::Row;
 use process_api::{Key, Pid, StepInput};
 use std::alloc::{AllocError, Global};
-use std::marker::Model;
 use std::mem::replace;
 use std::sync::Wait;
 use trace_laws::{Event, Parcel};
 
-/// Events in a row and in lists.
+const SHELVES: usize = 8;
+
 #[derive(Drop)]
-pub(crate) struct Lists {
-    // the events below the end, in order
-    row: Row,
-    end: u32,
-    // the events at the end or later
-    later: Vec<Event>,
-    // the least tick of `later`, if there is one
-    next: Option<u32>,
-    // kept for their memory: what they hold means nothing
-    due: Vec<Event>,
-    rest: Vec<Event>,
+pub(crate) struct Shelf {
+    events: Vec<Event>,
+    least: u32,
+    most: u32,
 }
 
-/// The pending events of a process. Contracts see the finite set of them.
-///
-/// Those below the end of the window that is run lie in a row, put in order when a worker begins with the process. All
-/// others wait in a list, as they came. The letters of a window are in their mailbox, which the starter hands over as it
-/// is; the worker that runs the process next empties it, and parts those of its window from the others.
+#[derive(Drop)]
+pub(crate) struct Lists {
+    row: Row,
+    end: u32,
+    width: u32,
+    shelves: Vec<Shelf>,
+    due: Vec<Event>,
+}
+
 #[derive(Drop)]
 pub(crate) struct Agenda {
+    inner: Box<Inner>,
+}
+
+#[derive(Drop)]
+struct Inner {
     lists: Lists,
-    // the letters that came after the row was filled
     inbox: Option<Inbox>,
 }
 
-impl Model for Agenda {
-    ghost use Rattle.std.specs.FinMap as events;
-    ghost use Rattle.process_api.specs.contracts.message.StepInput as step_input;
-    ghost use Rattle.trace_laws.specs.Codes.{key_code};
-    ghost use Rattle.trace_laws.specs.Step.{Events};
-    ghost use Rattle.windows.specs.Inside.Agenda.{AreLists, AreOne, all_ahead, in_box};
-
-    ghost Value = { Events };
-
-    ghost coded = { events.code key_code step_input.the_row.coded };
-
-    ghost view = { λ a. all_ahead a.lists a.inbox };
-
-    ghost invariant = { λ a. AreLists a.lists × AreOne (in_box a.inbox) };
-}
-
-/// The least tick of the letters of an inbox, if there are any.
 fn soonest_of(inbox: &Option<Inbox>) -> Option<u32>
-    ensures { result ≡ soonest_in (in_box inbox.now) }
 {
     match inbox {
         Some(inbox) => inbox.soonest(),
@@ -71,252 +45,174 @@ fn soonest_of(inbox: &Option<Inbox>) -> Option<u32>
     }
 }
 
-/// The letters of an inbox, in some order, and the inbox, which is empty then.
-fn open<R: Wait>(
-    rt: &R,
-    alloc: Global,
-    inbox: Option<Inbox>,
-) -> Result<(Vec<Parcel>, Option<Inbox>), AllocError>
-    ensures letters { IfOk result (λ r. IsPermutation (in_box inbox) r.0.items) }
-    ensures empty { IfOk result (λ r. in_box r.1 ≡ []) }
-{
-    let mut letters = Vec::new(alloc);
-    let Some(inbox) = inbox else {
-        return Ok((letters, None));
-    };
-    let inbox = inbox.empty(rt, &mut letters)?;
-    Ok((letters, Some(inbox)))
-}
-
-/// Appends a list to another, or takes its place where that is empty.
-fn append<T: Drop>(list: &mut Vec<T>, mut more: Vec<T>) -> Result<(), AllocError>
-    ensures ok { OnOk result (list.new.items ≡ list.old.items ++ more.items) }
-    ensures err { OnErr result (list.new.items ≡ list.old.items) }
-{
-    if list.is_empty() {
-        *list = more;
-        return Ok(());
-    }
-    list.append(&mut more)
-}
-
-/// Events below a tick, and others.
-#[derive(Drop)]
-struct Parted {
-    end: u32,
-    due: Vec<Event>,
-    later: Vec<Event>,
-    // the least tick of the later ones
-    next: Option<u32>,
-}
-
-impl Parted {
-    /// No events, in the memory of these lists.
-    fn new(end: u32, mut due: Vec<Event>, mut later: Vec<Event>) -> Parted
-        ensures { IsParted end [] result }
-    {
-        due.clear();
-        later.clear();
-        Parted {
-            end,
-            due,
-            later,
-            next: None,
-        }
+impl Shelf {
+    fn new(alloc: Global) -> Shelf {
+        Shelf { events: Vec::new(alloc), least: u32::MAX, most: 0 }
     }
 
-    /// One more event.
-    fn file(&mut self, event: Event) -> Result<(), AllocError>
-        ensures { OnOk result ((end : ℕ) (es : List EventPair)
-            → IsParted end es self.old → IsParted end (es ++ event ∷ []) self.new) }
-    {
+    #[inline(always)]
+    fn put(&mut self, event: Event) -> Result<(), AllocError> {
         let tick = event.key().tick;
-        if tick < self.end {
+        self.least = self.least.min(tick);
+        self.most = self.most.max(tick);
+        self.events.push(event)?;
+        Ok(())
+    }
+}
+
+impl Lists {
+    #[inline(always)]
+    fn file_later(&mut self, event: Event) -> Result<(), AllocError> {
+        let tick = event.key().tick;
+        let place = if (tick - self.end) / self.width < 7 { tick as usize / self.width as usize % SHELVES } else { SHELVES };
+        self.shelves[place].put(event)
+    }
+
+    #[inline(always)]
+    fn file(&mut self, event: Event) -> Result<(), AllocError> {
+        if event.key().tick < self.end {
             self.due.push(event)?;
+            Ok(())
         } else {
-            self.next = earlier(self.next, Some(tick));
-            self.later.push(event)?;
+            self.file_later(event)
         }
-        Ok(())
     }
 
-    /// Further events, in their order. Their list keeps its memory.
-    fn file_events(&mut self, events: &mut Vec<Event>) -> Result<(), AllocError>
-        ensures { OnOk result ((end : ℕ) (es : List EventPair)
-            → IsParted end es self.old → IsParted end (es ++ events.old.items) self.new) }
-    {
-        let mut place = 0;
-        while place < events.len() {
-            self.file(events[place].take())?;
-            place += 1;
+    fn open_shelf(&mut self, place: usize) -> Result<(), AllocError> {
+        let alloc = *self.due.allocator();
+        let Shelf { mut events, most, .. } = replace(&mut self.shelves[place], Shelf::new(alloc));
+        if most < self.end && self.due.is_empty() {
+            let spare = replace(&mut self.due, events);
+            self.shelves[place].events = spare;
+            return Ok(());
         }
-        Ok(())
-    }
-
-    /// The same of letters.
-    fn file_letters(&mut self, letters: Vec<Parcel>) -> Result<(), AllocError>
-        ensures { OnOk result ((end : ℕ) (es : List EventPair)
-            → IsParted end es self.old → IsParted end (es ++ map event_of letters.items) self.new) }
-    {
-        for letter in letters {
-            self.file(letter.into_event())?;
+        for at in 0..events.len() {
+            self.file(events[at].take())?;
+        }
+        if self.shelves[place].events.is_empty() {
+            events.clear();
+            self.shelves[place].events = events;
         }
         Ok(())
     }
 }
 
-/// No event.
-fn no_events(alloc: Global) -> Lists
-    ensures lists { AreLists result }
-    ensures none { all_in result ≡ events.empty }
+impl Takes for Lists {
+    fn room(&mut self, _count: usize) -> Result<(), AllocError> {
+        Ok(())
+    }
+    #[inline(always)]
+    fn take(&mut self, letter: Parcel) -> Result<(), AllocError> {
+        self.file(letter.into_event())
+    }
+}
+
+fn no_events(alloc: Global, width: u32) -> Result<Lists, AllocError>
 {
-    Lists {
+    let mut shelves = Vec::with_capacity(alloc, SHELVES + 1)?;
+    for _ in 0..SHELVES + 1 {
+        shelves.push(Shelf::new(alloc))?;
+    }
+    Ok(Lists {
         row: Row::new(alloc),
         end: 0,
-        later: Vec::new(alloc),
-        next: None,
+        width,
+        shelves,
         due: Vec::new(alloc),
-        rest: Vec::new(alloc),
-    }
-}
-
-/// The events of a row, which is empty then, and others after them.
-fn take_events(row: &mut Row, later: Vec<Event>) -> Result<Vec<Event>, AllocError>
-    ensures { IfOk result (λ v. joined events.empty v.items ≡ joined row.old later.items) }
-{
-    let mut events = row.take_all()?;
-    append(&mut events, later)?;
-    Ok(events)
-}
-
-/// These letters join, and the events below a tick are put in order.
-fn part(end: u32, lists: Lists, letters: Vec<Parcel>) -> Result<Lists, AllocError>
-    ensures lists { IfOk result AreLists }
-    ensures same { IfOk result (λ new. all_in new ≡ joined (all_in lists) (map event_of letters.items)) }
-    ensures parted { IfOk result (λ new. new.end ≡ end) }
-{
-    let mut row = lists.row;
-    let mut events = take_events(&mut row, lists.later)?;
-    let mut parted = Parted::new(end, lists.due, lists.rest);
-    parted.file_events(&mut events)?;
-    parted.file_letters(letters)?;
-    row.fill(&mut parted.due)?;
-    Ok(Lists {
-        row,
-        end,
-        later: parted.later,
-        next: parted.next,
-        due: parted.due,
-        rest: events,
     })
 }
 
-/// Whether the inbox is empty, and the events below a tick are in order.
-#[tactic(auto, using(crate::proofs::Agendas::no_letter))]
 fn is_settled(lists: &Lists, inbox: &Option<Inbox>, end: u32) -> bool
-    ensures { result ≡ true → (lists.now.end ≡ end) × (in_box inbox.now ≡ []) }
 {
     lists.end == end && soonest_of(inbox).is_none()
 }
 
-/// Empties the inbox, and puts the events below a tick in order, where they aren't. Where memory is refused all are
-/// gone.
-#[tactic(auto, using(crate::proofs::Agendas::joined_moved))]
 fn settle<R: Wait>(
     rt: &R,
     lists: &mut Lists,
     inbox: &mut Option<Inbox>,
     end: u32,
 ) -> Result<(), AllocError>
-    requires { AreLists lists.old × AreOne (in_box inbox.old) }
-    ensures lists { AreLists lists.new × AreOne (in_box inbox.new) }
-    ensures same { OnOk result (all_in lists.new ≡ all_ahead lists.old inbox.old) }
-    ensures settled { OnOk result ((lists.new.end ≡ end) × (in_box inbox.new ≡ [])) }
 {
     if is_settled(lists, inbox, end) {
         return Ok(());
     }
-    let alloc = *lists.later.allocator();
-    let (letters, emptied) = open(rt, alloc, inbox.take())?;
-    *lists = part(end, replace(lists, no_events(alloc)), letters)?;
-    *inbox = emptied;
-    Ok(())
+    lists.end = end;
+    let left = lists.row.take_all()?;
+    for event in left {
+        lists.file(event)?;
+    }
+    for place in 0..lists.shelves.len() {
+        if lists.shelves[place].least < end {
+            lists.open_shelf(place)?;
+        }
+    }
+    if let Some(full) = inbox.take() {
+        *inbox = Some(full.empty(rt, lists)?);
+    }
+    lists.row.fill(&mut lists.due)
 }
 
-/// One more event. Where memory is refused nothing changes.
 fn join(lists: &mut Lists, event: Event) -> Result<(), AllocError>
-    requires { AreLists lists.old }
-    ensures lists { AreLists lists.new }
-    ensures joined { OnOk result (all_in lists.new ≡ events.insert (all_in lists.old) event.0 event.1) }
 {
     let tick = event.key().tick;
     if tick < lists.end {
         lists.row.join(event)?;
         return Ok(());
     }
-    lists.later.push(event)?;
-    lists.next = earlier(lists.next, Some(tick));
-    Ok(())
+    lists.file_later(event)
 }
 
 impl Agenda {
-    /// The start of a process, alone.
-    pub(crate) fn new(alloc: Global, p: Pid) -> Result<Agenda, AllocError>
-        ensures { IfOk result (λ a. a ≡ start_event p) }
+    pub(crate) fn new(alloc: Global, p: Pid, width: u32) -> Result<Agenda, AllocError>
     {
-        let mut lists = no_events(alloc);
+        let mut lists = no_events(alloc, width)?;
         join(&mut lists, Event::start(p))?;
-        Ok(Agenda { lists, inbox: None })
+        Ok(Agenda { inner: Box::new(alloc, Inner { lists, inbox: None })? })
     }
 
-    /// Letters come for the process. Answers the inbox from before, which is empty, if there was one. Where memory is
-    /// refused all may be gone.
     pub(crate) fn deliver<R: Wait>(
         &mut self,
         rt: &R,
         inbox: Inbox,
     ) -> Result<Option<Inbox>, AllocError>
-        requires { AreOne inbox }
-        ensures joined { OnOk result (self.new ≡ joined self.old (map event_of inbox)) }
-        ensures empty { IfOk result (λ before. in_box before ≡ []) }
     {
-        let last = self.lists.end;
-        settle(rt, &mut self.lists, &mut self.inbox, last)?;
-        Ok(replace(&mut self.inbox, Some(inbox)))
+        let inner = &mut *self.inner;
+        let last = inner.lists.end;
+        settle(rt, &mut inner.lists, &mut inner.inbox, last)?;
+        Ok(replace(&mut inner.inbox, Some(inbox)))
     }
 
-    /// One more event. Where memory is refused all may be gone.
     pub(crate) fn join<R: Wait>(&mut self, rt: &R, event: Event) -> Result<(), AllocError>
-        ensures { OnOk result (self.new ≡ events.insert self.old event.0 event.1) }
     {
-        let end = self.lists.end;
-        settle(rt, &mut self.lists, &mut self.inbox, end)?;
-        join(&mut self.lists, event)
+        let inner = &mut *self.inner;
+        let end = inner.lists.end;
+        settle(rt, &mut inner.lists, &mut inner.inbox, end)?;
+        join(&mut inner.lists, event)
     }
 
-    /// The tick of the least event, if there is one.
     pub(crate) fn least_tick(&self) -> Option<u32>
-        ensures { MatchOption result (IsEmpty self.now) (λ tick. IsLeastTick self.now tick) }
     {
-        let lists = &self.lists;
+        let lists = &self.inner.lists;
+        let mut least = u32::MAX;
+        for shelf in &lists.shelves {
+            least = least.min(shelf.least);
+        }
+        let next = if least == u32::MAX { None } else { Some(least) };
         earlier(
-            earlier(lists.row.least_tick(), lists.next),
-            soonest_of(&self.inbox),
+            earlier(lists.row.least_tick(), next),
+            soonest_of(&self.inner.inbox),
         )
     }
 
-    /// Takes the least event, where it is below a tick. Where memory is refused all may be gone.
     pub(crate) fn take_below<R: Wait>(
         &mut self,
         rt: &R,
         end: u32,
     ) -> Result<Option<(Key, StepInput)>, AllocError>
-        ensures least { IfOk result (λ r.
-            MatchOption r (NoneBelow end self.old) (λ e. IsLeast self.old e.0 e.1 × (e.0.tick < end))) }
-        ensures removed { IfOk result (λ r.
-            MatchOption r (self.new ≡ self.old) (λ e. self.new ≡ events.remove self.old e.0)) }
     {
-        settle(rt, &mut self.lists, &mut self.inbox, end)?;
-        Ok(self.lists.row.take_least())
+        let inner = &mut *self.inner;
+        settle(rt, &mut inner.lists, &mut inner.inbox, end)?;
+        Ok(inner.lists.row.take_least())
     }
 }

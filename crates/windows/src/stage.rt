@@ -65,7 +65,7 @@ fn berths_of<M: Process>(
 {
     let mut berths = Vec::new(alloc);
     for machine in machines {
-        let pending = Agenda::new(alloc, machine.pid())?;
+        let pending = Agenda::new(alloc, machine.pid(), scenario.lookahead())?;
         berths.push(Berth::new(alloc, scenario, machine, pending)?)?;
     }
     Ok(berths)
