@@ -13,6 +13,10 @@ pub row_more : {A : Type 0} (f : A → List Letter) (xs : List A) (i : ℕ) (old
 row_more f xs i old new was lt zs more =
     map-set f xs i new ∙ ap (λ l. set (map f xs) i l) (more ∙ ap (λ l. l ++ zs) (ap f was ∙ sym (get_or-map f xs i old [] lt)))
 
+-- one ticket is changed to the same
+pub set_same : (tickets : List TicketView) (i : ℕ) (old new : TicketView) → old ≡ get_or tickets i old → new ≡ old → set tickets i new ≡ tickets
+set_same tickets i old new was same = ap (λ t. set tickets i t) (same ∙ was) ∙ set-get_or tickets i old
+
 -- one ticket is changed to another of the same mailbox
 pub whose_same : (tickets : List TicketView) (i : ℕ) (old new : TicketView) → old ≡ get_or tickets i old → i < length tickets
     → new.mailbox ≡ old.mailbox → map whose (set tickets i new) ≡ map whose tickets

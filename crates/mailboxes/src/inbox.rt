@@ -1,13 +1,13 @@
 //! What a receiver gets when a window is closed: its mailbox, with its letters.
 ghost use Rattle.std.specs.Prelude.{◌≡◌, [], IfOk, OnOk};
-ghost use Rattle.std.specs.List.Sorted.{IsPermutation};
+ghost use Rattle.mailboxes.specs.Collected.{HasCollected};
 ghost use Rattle.mailboxes.specs.Mailbox.{soonest_in};
 
+use crate::collects::Collects;
 use crate::mailbox::{Home, Mailbox};
 use std::alloc::AllocError;
 use std::marker::Model;
 use std::sync::Wait;
-use trace_laws::Parcel;
 
 /// A mailbox to which nobody can post, with its letters. Contracts see these.
 #[derive(Drop)]
@@ -39,15 +39,13 @@ impl Inbox {
         self.home.soonest()
     }
 
-    /// Moves the letters into a list that is empty, in some order. The error is that memory was refused. The letters
-    /// may be gone then.
-    pub fn empty<R: Wait>(self, rt: &R, letters: &mut Vec<Parcel>) -> Result<Inbox, AllocError>
-        requires { letters.old.items ≡ [] }
+    /// Gives all letters away, in some order. The error is that memory was refused. The letters may be gone then.
+    pub fn empty<R: Wait, T: Collects>(self, rt: &R, to: &mut T) -> Result<Inbox, AllocError>
         ensures empty { IfOk result (λ i. i ≡ []) }
-        ensures letters { OnOk result (IsPermutation self letters.new.items) }
+        ensures letters { OnOk result (HasCollected T.collected self to.old to.new) }
     {
         let Inbox { mailbox, home } = self;
-        let home = mailbox.empty(rt, home, letters)?;
+        let home = mailbox.empty(rt, home, to)?;
         Ok(Inbox { mailbox, home })
     }
 }

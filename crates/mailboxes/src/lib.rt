@@ -17,13 +17,15 @@
 //! What threads share by reference is [`SharedMailboxes`]; [`Mailboxes`] has it, and beside it the owner's passes, by
 //! which slips are made and taken back. They aren't shared: one thread has each of them at a time.
 //! [`Mailboxes::into_inboxes`] gives each mailbox, with its letters and its owner's pass, to its receiver as an
-//! [`Inbox`], which any thread may empty later. What is in it is known without that, as every slip is back.
+//! [`Inbox`], which any thread may empty later, into whatever [`Collects`] its letters. What is in it is known without
+//! that, as every slip is back.
 //! [`Mailboxes::of_inboxes`] makes mailboxes of emptied ones, to be used again.
 //!
 //! Letters lie in the mailboxes as a [`trace_laws::Parcel`] each. A worker that posts many lays them into a [`Tray`]
 //! first, by receiver. It posts those of one receiver one after the other, so that threads seldom wait for one another.
 #![tactic(auto)]
 
+mod collects;
 mod inbox;
 mod mailbox;
 mod mailboxes;
@@ -33,6 +35,7 @@ mod slip;
 mod soonest;
 mod tray;
 
+pub use collects::Collects;
 pub use inbox::Inbox;
 pub use mailboxes::Mailboxes;
 pub use shared::SharedMailboxes;

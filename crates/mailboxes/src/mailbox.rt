@@ -1,16 +1,20 @@
 //! The mailbox of one receiver: its queue, which threads share; the tickets by which they post; and the owner's pass.
-ghost use Rattle.std.specs.Prelude.{◌≡◌, ◌≢◌, ◌<◌, ◌+◌, [], ◌∷◌, ◌++◌, None, IfOk, IfErr, OnOk, OnErr};
+ghost use Rattle.std.specs.Prelude.{◌≡◌, ◌≢◌, ◌<◌, ◌+◌, List, [], ◌∷◌, ◌++◌, None, IfOk, IfErr, OnOk, OnErr};
 ghost use Rattle.std.specs.List.Sorted.{IsPermutation};
 ghost use Rattle.crossbeam_queue.specs.SegTies.{IsSegPassOf};
 ghost use Rattle.ledger.specs.Ledger.{account, has_taken};
+ghost use Rattle.process_api.specs.declared.message.Letter.{Letter};
+ghost use Rattle.mailboxes.specs.Collected.{HasCollected};
 ghost use Rattle.mailboxes.specs.Mailbox.{ticket_of, home_of, one_out, one_back, soonest_in};
 
+use crate::collects::Collects;
 use crate::rule::{EachOnce, Pop, Push};
 use crate::soonest::earlier;
 use crossbeam_queue::{RuledSegQueue, SegPass};
 use ledger::{Account, Settling, Ticketing};
 use std::alloc::{AllocError, Global};
 use std::marker::Model;
+use std::mem::replace;
 use std::sync::Wait;
 use trace_laws::Parcel;
 
@@ -44,6 +48,8 @@ pub(crate) struct Ticket {
     pass: Pass,
     // the least tick of what was posted, if anything was
     soonest: Option<u32>,
+    // kept for its memory: what it holds means nothing
+    room: Vec<Parcel>,
 }
 
 impl Model for Ticket {
@@ -71,6 +77,8 @@ pub(crate) struct Home {
     pass: Pass,
     // the least tick of what was posted by tickets that came back, if anything was
     soonest: Option<u32>,
+    // kept for the tickets
+    rooms: Vec<Vec<Parcel>>,
 }
 
 impl Model for Home {
@@ -92,6 +100,26 @@ impl Model for Home {
         × (h.soonest ≡ soonest_in h.pass.me.view.client.put) };
 }
 
+impl Ticket {
+    /// An empty list, in the memory that was kept.
+    pub(crate) fn list(&mut self) -> Vec<Parcel>
+        ensures ticket { self.new ≡ self.old }
+        ensures list { result.items ≡ [] }
+    {
+        let none = Vec::new(*self.room.allocator());
+        let mut list = replace(&mut self.room, none);
+        list.clear();
+        list
+    }
+
+    /// Keeps the memory of a list.
+    pub(crate) fn keep(&mut self, list: Vec<Parcel>)
+        ensures { self.new ≡ self.old }
+    {
+        self.room = list;
+    }
+}
+
 impl Home {
     /// The least tick of what was posted by tickets that came back, if anything was.
     pub(crate) fn soonest(&self) -> Option<u32>
@@ -107,8 +135,12 @@ impl Mailbox {
         ensures { IfOk result (λ made. made.1 ≡ home_of made.0 0 []) }
     {
         let (queue, pass) = Queue::with_rule(alloc)?;
-        let soonest = None;
-        Ok((Mailbox { queue }, Home { pass, soonest }))
+        let home = Home {
+            pass,
+            soonest: None,
+            rooms: Vec::new(alloc),
+        };
+        Ok((Mailbox { queue }, home))
     }
 
     /// One more ticket to post by.
@@ -117,9 +149,14 @@ impl Mailbox {
         ensures home { home.new ≡ one_out home.old }
         ensures ticket { result ≡ ticket_of home.old.mailbox [] }
     {
+        let none = Vec::new(*home.rooms.allocator());
+        let room = home.rooms.pop().unwrap_or(none);
         let pass = self.queue.another::<Ticketing>(&mut home.pass);
-        let soonest = None;
-        Ticket { pass, soonest }
+        Ticket {
+            pass,
+            soonest: None,
+            room,
+        }
     }
 
     /// Posts a letter. Where memory is refused it comes back, and nothing changes.
@@ -163,63 +200,72 @@ impl Mailbox {
         Ok(())
     }
 
-    /// Takes a ticket back.
+    /// Takes a ticket back. Its list is dropped where memory is refused.
     pub(crate) fn take_back(&self, home: &mut Home, ticket: Ticket)
         requires home { home.old.mailbox ≡ self.now }
         requires ticket { ticket.mailbox ≡ self.now }
         requires out { 0 < home.old.out }
         ensures { home.new ≡ one_back home.old ticket.posted }
     {
-        let Ticket { pass, soonest } = ticket;
+        let Ticket {
+            pass,
+            soonest,
+            room,
+        } = ticket;
         self.queue.absorb::<Ticketing>(&mut home.pass, pass);
         home.soonest = earlier(home.soonest, soonest);
+        let _kept = home.rooms.push(room);
     }
 
-    /// Moves the letters into a list, in some order, once every ticket is back. The mailbox is as it was at first then.
-    pub(crate) fn empty<R: Wait>(
+    /// Gives the letters away, in some order, once every ticket is back. The mailbox is as it was at first then.
+    pub(crate) fn empty<R: Wait, T: Collects>(
         &self,
         rt: &R,
         home: Home,
-        letters: &mut Vec<Parcel>,
+        to: &mut T,
     ) -> Result<Home, AllocError>
         requires home { home.mailbox ≡ self.now }
         requires out { home.out ≡ 0 }
-        requires letters { letters.old.items ≡ [] }
         ensures home { IfOk result (λ h. h ≡ home_of home.mailbox 0 []) }
-        ensures letters { OnOk result (IsPermutation home.back letters.new.items) }
+        ensures letters { OnOk result (HasCollected T.collected home.back to.old to.new) }
     {
-        let Home { mut pass, .. } = home;
-        drain(rt, &self.queue, &mut pass, letters)?;
+        let Home {
+            mut pass,
+            rooms,
+            ..
+        } = home;
+        drain(rt, &self.queue, &mut pass, to)?;
         settle(&self.queue, &mut pass);
         let soonest = None;
-        Ok(Home { pass, soonest })
+        Ok(Home {
+            pass,
+            soonest,
+            rooms,
+        })
     }
 }
 
-// Pops until the queue is empty, by the pass that stands for all. Room is made for all at once; that there is room is
-// seen before each pop.
-fn drain<R: Wait>(
+// Pops until the queue is empty, by the pass that stands for all.
+fn drain<R: Wait, T: Collects>(
     rt: &R,
     queue: &Queue,
     pass: &mut Pass,
-    letters: &mut Vec<Parcel>,
+    to: &mut T,
 ) -> Result<(), AllocError>
     requires pass { IsSegPassOf queue.now pass.old × (pass.old.id ≡ 0) }
     requires all { pass.old.me.view.client.parts ≡ pass.old.me.view.client.made }
     requires some { pass.old.me.view.client.parts ≢ 0 }
     requires none { pass.old.me.view.client.taken ≡ [] }
-    requires letters { letters.old.items ≡ [] }
     ensures pass { IsSegPassOf queue.now pass.new × (pass.new.id ≡ 0) }
     ensures taken { OnOk result (pass.new.me.view.client
-        ≡ has_taken pass.old.me.view.client letters.new.items) }
-    ensures all { OnOk result (IsPermutation pass.old.me.view.client.put letters.new.items) }
+        ≡ has_taken pass.old.me.view.client pass.new.me.view.client.taken) }
+    ensures all { OnOk result (IsPermutation pass.old.me.view.client.put pass.new.me.view.client.taken) }
+    ensures to { OnOk result ((first : T) (so_far : List Letter) → T.collected first to.old so_far
+        → T.collected first to.new (so_far ++ pass.new.me.view.client.taken)) }
 {
-    let count = queue.len_as::<Pop, R>(rt, pass);
-    letters.reserve(count.saturating_add(1))?;
     for _ in rt.forever() {
-        letters.reserve(1)?;
         match queue.pop_as::<Pop, R>(rt, pass) {
-            Some(letter) => letters.push_reserved(letter),
+            Some(letter) => to.collect(letter)?,
             None => break,
         }
     }

@@ -53,7 +53,8 @@ fn letters_from<R: Wait>(rt: &R, alloc: Global, inbox: Inbox) -> Result<Vec<Lett
 {
     let mut parcels = Vec::new(alloc);
     inbox.empty(rt, &mut parcels)?;
-    letters_of(alloc, parcels)
+    let letters = letters_of(alloc, parcels)?;
+    Ok(letters)
 }
 
 // The letters of each inbox.

@@ -1,10 +1,12 @@
 //! Slips: the permit to post.
-ghost use Rattle.std.specs.Prelude.{◌≡◌, [], length, replicate, IfOk};
+ghost use Rattle.std.specs.Prelude.{◌≡◌, [], length, replicate, IfOk, vec_len};
+ghost use Rattle.mailboxes.specs.Mailboxes.{letters_in};
 
 use crate::mailbox::Ticket;
-use crate::tray::{Tray, empty_lists};
+use crate::tray::Tray;
 use std::alloc::AllocError;
 use std::marker::Model;
+use trace_laws::Parcel;
 
 /// The permit to post to some mailboxes. It may go to another thread, and it comes back for the collecting.
 ///
@@ -28,14 +30,50 @@ impl Model for Slip {
     ghost view = { λ s. slip_of (map (λ t. t.mailbox) s.tickets.items) (map (λ t. t.posted) s.tickets.items) };
 }
 
+// An empty list for each ticket, in the memory that it kept.
+#[tactic(auto, using(crate::proofs::Rows::set_same))]
+fn lists_of(tickets: &mut Vec<Ticket>) -> Result<Vec<Vec<Parcel>>, AllocError>
+    ensures tickets { tickets.new.items ≡ tickets.old.items }
+    ensures lists { IfOk result (λ lists. letters_in lists.items ≡ replicate (vec_len tickets.old) []) }
+{
+    let mut lists = Vec::with_capacity(*tickets.allocator(), tickets.len())?;
+    for at in 0..tickets.len() {
+        lists.push_reserved(tickets[at].list());
+    }
+    Ok(lists)
+}
+
+// Each ticket keeps the memory of the list at its place.
+#[tactic(auto, using(crate::proofs::Rows::set_same))]
+fn keep_lists(tickets: &mut Vec<Ticket>, lists: Vec<Vec<Parcel>>)
+    ensures { tickets.new.items ≡ tickets.old.items }
+{
+    let mut at = 0;
+    for list in lists {
+        if at < tickets.len() {
+            tickets[at].keep(list);
+            at += 1;
+        }
+    }
+}
+
 impl Slip {
-    /// An empty tray, for letters that are posted by the slip with [`crate::SharedMailboxes::post_all`]. The error is
-    /// that memory was refused.
-    pub fn tray(&self) -> Result<Tray, AllocError>
-        ensures fits { length self.now.posted ≡ length self.now.mailboxes }
-        ensures empty { IfOk result (λ tray. tray ≡ replicate (length self.now.mailboxes) []) }
+    /// An empty tray, for letters that are posted by the slip with [`crate::SharedMailboxes::post_all`]. Its lists have
+    /// the memory that the slip kept. The error is that memory was refused.
+    pub fn tray(&mut self) -> Result<Tray, AllocError>
+        ensures slip { self.new ≡ self.old }
+        ensures fits { length self.old.posted ≡ length self.old.mailboxes }
+        ensures empty { IfOk result (λ tray. tray ≡ replicate (length self.old.mailboxes) []) }
     {
-        let lists = empty_lists(*self.tickets.allocator(), self.tickets.len())?;
+        let lists = lists_of(&mut self.tickets)?;
         Ok(Tray { lists })
+    }
+
+    /// Keeps the memory of a tray's lists for the next tray.
+    pub fn keep(&mut self, tray: Tray)
+        ensures { self.new ≡ self.old }
+    {
+        let Tray { lists } = tray;
+        keep_lists(&mut self.tickets, lists);
     }
 }

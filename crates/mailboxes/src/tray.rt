@@ -1,9 +1,9 @@
 //! Letters that are posted together.
-ghost use Rattle.std.specs.Prelude.{◌≡◌, ◌≤◌, ◌+◌, [], length, replicate, IfOk, OnOk};
-ghost use Rattle.mailboxes.specs.Mailboxes.{filed, letters_in};
+ghost use Rattle.std.specs.Prelude.{◌≡◌, ◌≤◌, ◌+◌, length, OnOk};
+ghost use Rattle.mailboxes.specs.Mailboxes.{filed};
 
 use process_api::Key;
-use std::alloc::{AllocError, Global};
+use std::alloc::AllocError;
 use std::marker::Model;
 use trace_laws::Parcel;
 
@@ -25,17 +25,6 @@ impl Model for Tray {
     ghost coded = { coded_list (coded_list letter.the_row.coded) };
 
     ghost view = { λ t. letters_in t.lists.items };
-}
-
-/// So many empty lists. The error is that memory was refused.
-pub(crate) fn empty_lists(alloc: Global, count: usize) -> Result<Vec<Vec<Parcel>>, AllocError>
-    ensures { IfOk result (λ lists. letters_in lists.items ≡ replicate count []) }
-{
-    let mut lists = Vec::with_capacity(alloc, count)?;
-    for _ in 0..count {
-        lists.push_reserved(Vec::new(alloc));
-    }
-    Ok(lists)
 }
 
 /// The place of the receiver's list, and of its mailbox.

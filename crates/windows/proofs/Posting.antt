@@ -1,5 +1,5 @@
 -- Letters that wait in a tray, and are posted.
-use Rattle.windows.proofs.Words.{◌≡◌, ℕ, zero, suc, ◌-◌, ap, sym, ◌∙◌, refl, List, [], ◌∷◌, ◌++◌, length, replicate, set, get_or, append_assoc, append-nil, arith, length-replicate, length-set, Letter, MailboxId, SlipView, IsSlipOf, filed, slip_of, with_lists, all_filed, with_letters, ArePosting}
+use Rattle.windows.proofs.Words.{◌≡◌, ℕ, zero, suc, ◌-◌, ap, sym, ◌∙◌, subst, refl, List, [], ◌∷◌, ◌++◌, length, replicate, set, get_or, append_assoc, append-nil, arith, length-replicate, length-set, Letter, MailboxId, SlipView, IsSlipOf, filed, slip_of, with_lists, all_filed, with_letters, ArePosting}
 use Rattle.ledger.specs.Places.{each_with}
 use Rattle.ledger.proofs.Lists.{with-length}
 
@@ -30,9 +30,12 @@ posting_none mailboxes slip tray by_slip posted n empty many = (
 )
 
 module _ (mailboxes : List MailboxId) (slip : SlipView) (tray : List (List Letter)) where
-  -- a tray for the slip
-  pub posting_opens : IsSlipOf mailboxes slip → length slip.posted ≡ length slip.mailboxes → tray ≡ replicate (length slip.mailboxes) [] → ArePosting mailboxes slip tray × (with_lists slip tray ≡ slip)
-  posting_opens by_slip fits empty = posting_none mailboxes slip tray by_slip (fits ∙ ap length by_slip) (length slip.mailboxes) empty (ap length by_slip)
+  -- a tray for the slip, which is the same after that
+  pub posting_opens : IsSlipOf mailboxes slip → length slip.posted ≡ length slip.mailboxes → tray ≡ replicate (length slip.mailboxes) []
+      → (slip' : SlipView) → slip' ≡ slip → ArePosting mailboxes slip' tray × (with_lists slip' tray ≡ slip)
+  posting_opens by_slip fits empty slip' same =
+      subst (λ s. ArePosting mailboxes s tray × (with_lists s tray ≡ slip)) (sym same)
+      (posting_none mailboxes slip tray by_slip (fits ∙ ap length by_slip) (length slip.mailboxes) empty (ap length by_slip))
 
   module _ (is : ArePosting mailboxes slip tray) where
     -- letters came into the tray

@@ -5,3 +5,4 @@ pub mod Shared
 pub mod Last
 pub mod Closing
 pub mod Agenda
+pub mod Filed

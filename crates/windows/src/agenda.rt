@@ -5,11 +5,13 @@ ghost use Rattle.trace_laws.specs.Step.{Event as EventPair};
 ghost use Rattle.trace_laws.specs.World.{IsLeast, NoneBelow, joined};
 ghost use Rattle.pending_events.specs.Pending.{IsEmpty, IsLeastTick};
 ghost use Rattle.trace_laws.specs.Taken.{event_of};
+ghost use Rattle.mailboxes.specs.Collected.{HasCollected};
 ghost use Rattle.mailboxes.specs.Mailbox.{soonest_in};
 ghost use Rattle.windows.specs.Inside.Agenda.{all_in, all_ahead, in_box, AreLists, AreOne, IsParted};
+ghost use Rattle.windows.specs.Inside.Filed.{HasFiled};
 ghost use Rattle.windows.specs.Stage.{start_event};
 
-use mailboxes::{Inbox, earlier};
+use mailboxes::{Collects, Inbox, earlier};
 use pending_events::Row;
 use process_api::{Key, Pid, StepInput};
 use std::alloc::{AllocError, Global};
@@ -78,23 +80,6 @@ fn soonest_of(inbox: &Option<Inbox>) -> Option<u32>
     }
 }
 
-/// The letters of an inbox, in some order, and the inbox, which is empty then.
-fn open<R: Wait>(
-    rt: &R,
-    alloc: Global,
-    inbox: Option<Inbox>,
-) -> Result<(Vec<Parcel>, Option<Inbox>), AllocError>
-    ensures letters { IfOk result (λ r. IsPermutation (in_box inbox) r.0.items) }
-    ensures empty { IfOk result (λ r. in_box r.1 ≡ []) }
-{
-    let mut letters = Vec::new(alloc);
-    let Some(inbox) = inbox else {
-        return Ok((letters, None));
-    };
-    let inbox = inbox.empty(rt, &mut letters)?;
-    Ok((letters, Some(inbox)))
-}
-
 /// Appends a list to another, or takes its place where that is empty.
 fn append<T: Drop>(list: &mut Vec<T>, mut more: Vec<T>) -> Result<(), AllocError>
     ensures ok { OnOk result (list.new.items ≡ list.old.items ++ more.items) }
@@ -160,14 +145,31 @@ impl Parted {
         Ok(())
     }
 
-    /// The same of letters.
-    fn file_letters(&mut self, letters: Vec<Parcel>) -> Result<(), AllocError>
-        ensures { OnOk result ((end : ℕ) (es : List EventPair)
-            → IsParted end es self.old → IsParted end (es ++ map event_of letters.items) self.new) }
+    /// The letters of an inbox, in some order. It is empty then.
+    fn file_inbox<R: Wait>(
+        &mut self,
+        rt: &R,
+        inbox: Option<Inbox>,
+    ) -> Result<Option<Inbox>, AllocError>
+        ensures filed { OnOk result (HasCollected HasFiled (in_box inbox) self.old self.new) }
+        ensures empty { IfOk result (λ i. in_box i ≡ []) }
     {
-        for letter in letters {
-            self.file(letter.into_event())?;
+        match inbox {
+            Some(inbox) => Ok(Some(inbox.empty(rt, self)?)),
+            None => Ok(None),
         }
+    }
+}
+
+/// The letters of a mailbox are parted as they leave it.
+impl Collects for Parted {
+    ghost use Rattle.windows.specs.Inside.Filed.{HasFiled};
+
+    ghost collected = { HasFiled };
+
+    #[inline(always)]
+    fn collect(&mut self, letter: Parcel) -> Result<(), AllocError> {
+        self.file(letter.into_event())?;
         Ok(())
     }
 }
@@ -196,26 +198,34 @@ fn take_events(row: &mut Row, later: Vec<Event>) -> Result<Vec<Event>, AllocErro
     Ok(events)
 }
 
-/// These letters join, and the events below a tick are put in order.
-fn part(end: u32, lists: Lists, letters: Vec<Parcel>) -> Result<Lists, AllocError>
-    ensures lists { IfOk result AreLists }
-    ensures same { IfOk result (λ new. all_in new ≡ joined (all_in lists) (map event_of letters.items)) }
-    ensures parted { IfOk result (λ new. new.end ≡ end) }
+/// The letters of the inbox join, and the events below a tick are put in order. The inbox is empty then.
+fn part<R: Wait>(
+    rt: &R,
+    end: u32,
+    lists: Lists,
+    inbox: Option<Inbox>,
+) -> Result<(Lists, Option<Inbox>), AllocError>
+    requires { AreOne (in_box inbox) }
+    ensures lists { IfOk result (λ new. AreLists new.0) }
+    ensures same { IfOk result (λ new. all_in new.0 ≡ all_ahead lists inbox) }
+    ensures parted { IfOk result (λ new. new.0.end ≡ end) }
+    ensures empty { IfOk result (λ new. in_box new.1 ≡ []) }
 {
     let mut row = lists.row;
     let mut events = take_events(&mut row, lists.later)?;
     let mut parted = Parted::new(end, lists.due, lists.rest);
     parted.file_events(&mut events)?;
-    parted.file_letters(letters)?;
+    let inbox = parted.file_inbox(rt, inbox)?;
     row.fill(&mut parted.due)?;
-    Ok(Lists {
+    let lists = Lists {
         row,
         end,
         later: parted.later,
         next: parted.next,
         due: parted.due,
         rest: events,
-    })
+    };
+    Ok((lists, inbox))
 }
 
 /// Whether the inbox is empty, and the events below a tick are in order.
@@ -228,7 +238,6 @@ fn is_settled(lists: &Lists, inbox: &Option<Inbox>, end: u32) -> bool
 
 /// Empties the inbox, and puts the events below a tick in order, where they aren't. Where memory is refused all are
 /// gone.
-#[tactic(auto, using(crate::proofs::Agendas::joined_moved))]
 fn settle<R: Wait>(
     rt: &R,
     lists: &mut Lists,
@@ -244,8 +253,9 @@ fn settle<R: Wait>(
         return Ok(());
     }
     let alloc = *lists.later.allocator();
-    let (letters, emptied) = open(rt, alloc, inbox.take())?;
-    *lists = part(end, replace(lists, no_events(alloc)), letters)?;
+    let before = replace(lists, no_events(alloc));
+    let (parted, emptied) = part(rt, end, before, inbox.take())?;
+    *lists = parted;
     *inbox = emptied;
     Ok(())
 }

@@ -197,5 +197,6 @@ pub fn run_berth<M: Process, R: Wait>(
     let mut tray = slip.tray()?;
     run_into(rt, berth, end, streams, &mut tray, left)?;
     mailboxes.post_all(rt, slip, &mut tray, 0)?;
+    slip.keep(tray);
     Ok(())
 }

@@ -122,5 +122,6 @@ pub(crate) fn run_rest<M: Process, G: Gate, R: Wait>(
         run_taken(rt, shared, 0, berth, &mut slip, &mut tray, &mut done)?;
     }
     shared.mailboxes.post_all(rt, &mut slip, &mut tray, 0)?;
+    slip.keep(tray);
     Ok((done, slip))
 }

@@ -124,6 +124,7 @@ pub(crate) fn run_berths<M: Process, G: Gate, R: Wait>(
         run_taken(rt, shared, worker, berth, &mut slip, &mut tray, &mut done)?;
     }
     shared.mailboxes.post_all(rt, &mut slip, &mut tray, first)?;
+    slip.keep(tray);
     Ok(Work { hand, slip, done })
 }
 
