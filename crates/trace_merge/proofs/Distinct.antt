@@ -1,22 +1,18 @@
 -- Entries whose keys differ, and that are put in order.
-use Rattle.trace_merge.proofs.Words.{◌≡◌, ◌<◌, ◌∙◌, ℕ, suc, refl, sym, ap, Bool, true, false, IsTrue, List, [], ◌∷◌, ◌++◌, map, length, get_or, arith, is_eq, Ordering, IsPermutation, All, ordering_reverse, All-from_recursion, list_all-from_AllPass, key_cmp, is_less, is_before, is_rising, EntryRecord, keys_total, weaker, and_true, all_of, AreDisjoint}
+use Rattle.trace_merge.proofs.Words.{◌≡◌, ◌<◌, ◌∙◌, ℕ, suc, refl, sym, ap, Bool, true, false, IsTrue, List, [], ◌∷◌, ◌++◌, map, length, get_or, arith, is_eq, Ordering, IsPermutation, All, IsPermutation-trans, ordering_reverse, All-from_recursion, list_all-from_AllPass, key_cmp, is_less, is_before, is_rising, EntryRecord, keys_total, weaker, and_true, all_of, AreDisjoint}
 use Rattle.std.proofs.Common.{◌≢◌, ◌≤◌, is_lt, Equal}
 use Rattle.std.specs.List.{IsDistinct}
-use Rattle.std.specs.Ordering.{eq_by_cmp}
 use Rattle.std.proofs.lemmas.Bool.{false_from_ne_true}
 use Rattle.std.proofs.lemmas.Cmp.{eq_by_cmp_equiv}
-use Rattle.std.proofs.lemmas.List.Elements.{recursion_from_All}
-use Rattle.std.proofs.lemmas.List.Sorted.{ranks_by, sorted_far}
+use Rattle.std.proofs.lemmas.List.Elements.{All-head, All-tail, All-weaker, recursion_from_All}
+use Rattle.std.proofs.lemmas.List.Sorted.{All-permutation, IsPermutation-append, IsPermutation-append_comm, ranks_by, sorted_far}
+use Rattle.std.proofs.lemmas.List.Folds.{list_all-append}
 use Rattle.std.proofs.lemmas.List.Sums.{AllPass-from_list_all}
 use Rattle.std.proofs.lemmas.Map.Keys.{IsDistinct-IsPermutation}
-use Rattle.process_api.proofs.KeyOrder.{exact_keys}
+use Rattle.process_api.proofs.KeyOrder.{before_by_tick, exact_keys}
 use Rattle.process_api.proofs.Lists.{both}
 use Rattle.process_api.proofs.Minds.{both_true}
-use Rattle.trace_merge.specs.Parts.{AreApart, IsInOrder}
-
--- two entries have one key
-abbrev pub same : EntryRecord → EntryRecord → Bool
-same a b = eq_by_cmp key_cmp a.key b.key
+use Rattle.trace_merge.specs.Parts.{AllDiffer, AreApart, IsInOrder, IsMergeOf, same}
 
 tie : (r : Ordering) → is_eq r ≡ true → r ≡ Equal
 tie r h = grind arith
@@ -47,6 +43,9 @@ differ_joined (x ∷ xs) ys r e a =
     let after = recursion_from_All _ xs (AllPass-from_list_all (λ f. is_before x.key f.key) xs rises.0) in
     (both (λ f. same x f ≡ false) xs ys (weaker _ _ (λ f b. before_other _ b) xs after) (weaker _ _ (other_key x) ys a.0), differ_joined xs ys rises.1 e a.1)
 
+kept_apart : (xs ys : List EntryRecord) → IsPermutation xs ys → AllDiffer xs → AllDiffer ys
+kept_apart xs ys perm d = IsDistinct-IsPermutation same (λ a b. (eq_by_cmp_equiv keys_total).symm a.key b.key) xs ys perm d
+
 -- of parts that rise and share no key
 module _ {X : Type 0} (f : X → List EntryRecord) where
   pub all_differ : (ps : List X) → All (λ p. IsTrue (is_rising (f p))) ps → AreDisjoint (map f ps) → IsDistinct same (all_of (map f ps))
@@ -66,9 +65,40 @@ rising_sorted (e ∷ es) far d =
     (All-from_recursion (λ f. same e f ≡ false) es d.0 k f low)))
     (rising_sorted es (λ i j f low high. far (suc i) (suc j) f (omega (arith, low)) (omega (arith, high))) d.1)
 
--- the entries of all parts, in any order and then sorted by their keys, rise
-pub merged_rising : {X : Type 0} (f : X → List EntryRecord) (ps : List X) (sorted : List EntryRecord) → IsPermutation (all_of (map f ps)) sorted → IsInOrder sorted
-    → All (λ p. IsTrue (is_rising (f p))) ps → AreDisjoint (map f ps) → IsTrue (is_rising sorted)
-merged_rising f ps sorted perm s rising apart =
-    rising_sorted sorted (sorted_far less (ranks_by keys_total (λ (e : EntryRecord). e.key)) sorted s)
-    (IsDistinct-IsPermutation same (λ a b. (eq_by_cmp_equiv keys_total).symm a.key b.key) (all_of (map f ps)) sorted perm (all_differ f ps rising apart))
+pub order_rising : (es : List EntryRecord) → IsInOrder es → AllDiffer es → IsTrue (is_rising es)
+order_rising es s d = rising_sorted es (sorted_far less (ranks_by keys_total (λ (e : EntryRecord). e.key)) es s) d
+
+differ_rest : (xs ys : List EntryRecord) → AllDiffer (xs ++ ys) → AllDiffer ys
+unfolding IsDistinct
+differ_rest [] ys d = d
+differ_rest (x ∷ xs) ys d = differ_rest xs ys d.1
+
+-- each of the one list is earlier than each of the other
+abbrev pub Ahead : List EntryRecord → List EntryRecord → Type 0
+Ahead xs ys = All (λ x. All (λ y. x.key.tick < y.key.tick) ys) xs
+
+joined_rising : (xs ys : List EntryRecord) → IsTrue (is_rising xs) → IsTrue (is_rising ys) → Ahead xs ys → IsTrue (is_rising (xs ++ ys))
+joined_rising [] ys r h ahead = h
+joined_rising (x ∷ xs) ys r h ahead =
+    let p : EntryRecord → Bool = λ f. is_before x.key f.key in
+    let Q : EntryRecord → Type 0 = λ e. All (λ y. e.key.tick < y.key.tick) ys in
+    let rises = both_true _ _ r in
+    let later = list_all-from_AllPass p ys (λ k f low. ap is_less (before_by_tick x.key _ (All-head Q x xs ahead k f low))) in
+    and_true _ _ (list_all-append p xs ys ∙ and_true _ _ rises.0 later) (joined_rising xs ys rises.1 h (All-tail Q x xs ahead))
+
+-- Of parts these entries were taken; each of them is earlier than what is left
+module _ (parts left : List (List EntryRecord)) (taken : List EntryRecord) (differ : AllDiffer (all_of parts)) (all_es : IsPermutation (all_of parts) (taken ++ all_of left)) where
+  pub rest_differ : AllDiffer (all_of left)
+  rest_differ = differ_rest taken (all_of left) (kept_apart _ _ all_es differ)
+
+  -- put in order they are a piece
+  pub goes_on : (piece : List EntryRecord) → IsPermutation taken piece → IsInOrder piece → Ahead taken (all_of left) → (rest : List EntryRecord) → IsMergeOf left rest → IsMergeOf parts (piece ++ rest)
+  goes_on piece perm order ahead rest is =
+      let all_same = IsPermutation-trans _ _ _ all_es (IsPermutation-append taken piece (all_of left) rest perm is.same) in
+      let piece_differ = differ_rest rest piece (kept_apart _ _ (IsPermutation-trans _ _ _ all_same (IsPermutation-append_comm piece rest)) differ) in
+      record {
+        rising = joined_rising piece rest (order_rising piece order piece_differ) is.rising
+            (All-permutation (λ x. All (λ y. x.key.tick < y.key.tick) rest) taken piece perm
+            (All-weaker (λ x. All (λ y. x.key.tick < y.key.tick) (all_of left)) (λ x. All (λ y. x.key.tick < y.key.tick) rest) (λ x h. All-permutation (λ y. x.key.tick < y.key.tick) (all_of left) rest is.same h) taken ahead));
+        same = all_same;
+      }

@@ -1,9 +1,9 @@
 -- Parts that rise and share no key can be merged: each entry is put into its place.
-use Rattle.trace_merge.proofs.Words.{◌≡◌, refl, ap, ◌∙◌, sym, Bool, true, false, IsTrue, List, [], ◌∷◌, map, is_eq, Ordering, IsPermutation, arith, All, ordering_reverse, All-from_recursion, IsPermutation-refl, IsPermutation-trans, list_all-from_AllPass, key_cmp, is_less, is_before, is_rising, EntryRecord, keys_total, weaker, and_true, all_of, AreDisjoint}
+use Rattle.trace_merge.proofs.Words.{◌≡◌, refl, ap, ◌∙◌, sym, subst, Bool, true, false, IsTrue, List, [], ◌∷◌, is_eq, Ordering, IsPermutation, arith, ordering_reverse, All-from_recursion, IsPermutation-refl, IsPermutation-trans, list_all-from_AllPass, is_less, is_before, is_rising, EntryRecord, keys_total, weaker, and_true, all_of}
 use Rattle.std.proofs.Common.{Less}
 use Rattle.std.specs.List.{AllByRecursion, IsDistinct}
 use Rattle.std.proofs.lemmas.List.Sorted.{IsPermutation-sym, IsPermutation-cons, IsPermutation-middle}
-use Rattle.trace_merge.proofs.Distinct.{same, all_differ}
+use Rattle.trace_merge.specs.Parts.{AllDiffer, IsMergeOf, same}
 
 abbrev Before : EntryRecord → EntryRecord → Type 0
 Before a b = is_before a.key b.key ≡ true
@@ -73,8 +73,10 @@ unfolding IsDistinct
 in_order_rising [] d = tt
 in_order_rising (e ∷ es) d = put_rising e (in_order es) (in_order_all (λ f. same e f ≡ false) es d.0) (in_order_rising es d.1)
 
-pub has_merge : {X : Type 0} (f : X → List EntryRecord) (ps : List X) → All (λ p. IsTrue (is_rising (f p))) ps → AreDisjoint (map f ps)
-    → (merged : List EntryRecord) × IsTrue (is_rising merged) × IsPermutation (all_of (map f ps)) merged
-has_merge f ps rising apart =
-    let es = all_of (map f ps) in
-    (in_order es, rising_test (in_order es) (in_order_rising es (all_differ f ps rising apart)), in_order_same es)
+pub has_merge : (parts : List (List EntryRecord)) → AllDiffer (all_of parts) → (merged : List EntryRecord) × IsMergeOf parts merged
+has_merge parts d =
+    let es = all_of parts in
+    (in_order es, record { rising = rising_test (in_order es) (in_order_rising es d); same = in_order_same es })
+
+pub nothing_merges : (parts : List (List EntryRecord)) → all_of parts ≡ [] → IsMergeOf parts []
+nothing_merges parts none = record { rising = refl; same = subst (λ es. IsPermutation es []) (sym none) (IsPermutation-refl []) }

@@ -1,8 +1,9 @@
 -- Entries that are moved from parts, tick by tick.
-use Rattle.trace_merge.proofs.Words.{◌≡◌, ◌<◌, ◌-◌, ℕ, suc, sym, ap, ◌∙◌, subst, List, [], ◌∷◌, ◌++◌, map, length, get_or, append_assoc, min, arith, None, Some, MatchOption, IsPermutation, unwrap_or, IsPermutation-trans, EntryRecord, Lane, all_of}
+use Rattle.trace_merge.proofs.Words.{◌≡◌, ◌<◌, ◌≤◌, ◌-◌, All, ℕ, suc, sym, ap, ◌∙◌, subst, List, [], ◌∷◌, ◌++◌, map, length, get_or, append_assoc, min, arith, None, Some, MatchOption, IsPermutation, unwrap_or, IsPermutation-trans, EntryRecord, Lane, all_of}
 use Rattle.std.proofs.Common.{◌^◌, zero, set, Option, Vec, Global}
 use Rattle.std.proofs.lemmas.List.{append-nil}
 use Rattle.std.proofs.lemmas.List.Sorted.{IsPermutation-append_left, IsPermutation-append_right, IsPermutation-append_comm}
+use Rattle.trace_merge.proofs.Distinct.{Ahead}
 use Rattle.process_api.specs.declared.entry.Entry.{Entry}
 
 abbrev Part : Type 0
@@ -54,3 +55,12 @@ later_least tick P (Some t) next l h = omega (arith, l, h)
 pub later_same : (tick : ℕ) (es more : Part) (least : Option ℕ) → MatchOption least (es ≡ []) (λ t. tick < t) → more ≡ [] → MatchOption least (es ++ more ≡ []) (λ t. tick < t)
 later_same tick es more None none h = ap (λ xs. xs ++ more) none ∙ h
 later_same tick es more (Some t) l h = l
+
+-- what was taken up to a tick is earlier than what comes later
+pub taken_ahead : (tick : ℕ) (xs ys : Part) → All (λ e. e.key.tick ≤ tick) xs → All (λ e. tick < e.key.tick) ys → Ahead xs ys
+taken_ahead tick xs ys early late k d low i f within = omega (arith, early k d low, late i f within)
+
+-- and earlier than the next tick
+pub taken_before : (tick : ℕ) (P : Type 0) (next : Option ℕ) (xs : Part) → MatchOption next P (λ t. tick < t) → All (λ e. e.key.tick ≤ tick) xs → MatchOption next P (λ t. All (λ e. e.key.tick < t) xs)
+taken_before tick P None xs none early = none
+taken_before tick P (Some t) xs h early = λ k d low. omega (arith, h, early k d low)

@@ -1,5 +1,5 @@
 -- Words and lemmas of the libraries and of this crate that several proofs use.
-pub use Rattle.std.proofs.Common.{Bool, IsPermutation, IsTrue, List, MatchOption, None, Ordering, Some, [], ap, append_assoc, arith, false, get_or, is_eq, length, map, min, refl, subst, suc, sym, take, true, ℕ, ◌++◌, ◌-◌, ◌<◌, ◌∙◌, ◌∷◌, ◌≡◌}
+pub use Rattle.std.proofs.Common.{◌≤◌, Bool, IsPermutation, IsTrue, List, MatchOption, None, Ordering, Some, [], ap, append_assoc, arith, false, get_or, is_eq, length, map, min, refl, subst, suc, sym, take, true, ℕ, ◌++◌, ◌-◌, ◌<◌, ◌∙◌, ◌∷◌, ◌≡◌}
 pub use Rattle.std.proofs.lemmas.List.Elements.{All-from_recursion}
 pub use Rattle.std.proofs.lemmas.List.Sorted.{IsPermutation-refl, IsPermutation-trans}
 pub use Rattle.std.proofs.lemmas.List.Sums.{list_all-from_AllPass}

@@ -1,9 +1,10 @@
 -- Parts of a trace, and what they hold together.
-use Rattle.std.specs.Prelude.{◌≢◌, List, [], ◌∷◌, ◌++◌}
-use Rattle.std.specs.List.{AllByRecursion}
-use Rattle.std.specs.List.Sorted.{IsSortedByKey}
+use Rattle.std.specs.Prelude.{◌≢◌, Bool, List, [], ◌∷◌, ◌++◌, IsTrue}
+use Rattle.std.specs.List.{AllByRecursion, IsDistinct}
+use Rattle.std.specs.List.Sorted.{IsPermutation, IsSortedByKey}
+use Rattle.std.specs.Ordering.{eq_by_cmp}
 use Rattle.process_api.specs.EntryRecord.{EntryRecord}
-use Rattle.process_api.specs.Order.{key_cmp}
+use Rattle.process_api.specs.Order.{is_rising, key_cmp}
 
 -- the entries of all parts
 abbrev pub all_of : List (List EntryRecord) → List EntryRecord
@@ -19,6 +20,19 @@ abbrev pub AreDisjoint : List (List EntryRecord) → Type 0
 AreDisjoint [] = Unit {0}
 AreDisjoint (part ∷ parts) = AreApart part (all_of parts) × AreDisjoint parts
 
+-- the entries of these parts, in the order of their keys
+pub record IsMergeOf (parts : List (List EntryRecord)) (merged : List EntryRecord) : Type 0 where
+  pub rising : IsTrue (is_rising merged)
+  pub same : IsPermutation (all_of parts) merged
+
 -- no key is less than the one before it
 abbrev pub IsInOrder : List EntryRecord → Type 0
 IsInOrder es = IsSortedByKey (λ e. e.key) key_cmp es
+
+-- two entries have one key
+abbrev pub same : EntryRecord → EntryRecord → Bool
+same a b = eq_by_cmp key_cmp a.key b.key
+
+-- no two have
+abbrev pub AllDiffer : List EntryRecord → Type 0
+AllDiffer es = IsDistinct same es

@@ -1,5 +1,5 @@
 //! Entries that are joined one by one.
-ghost use Rattle.std.specs.Prelude.{◌≡◌, ◌++◌, [], ◌∷◌, true, OnOk, IfErr};
+ghost use Rattle.std.specs.Prelude.{◌≡◌, ◌++◌, [], ◌∷◌, true, OnOk, IfErr, IsPermutation};
 ghost use Rattle.trace_merge.specs.Parts.{IsInOrder};
 
 use process_api::{Entry, RunError};
@@ -31,5 +31,17 @@ impl Joined {
         self.rises = self.rises && goes_on(&self.entries, &entry);
         self.entries.push(entry)?;
         Ok(())
+    }
+
+    /// The entries, in the order of their keys.
+    pub(crate) fn in_order(self) -> Vec<Entry>
+        ensures order { IsInOrder result.items }
+        ensures same { IsPermutation self.entries.items result.items }
+    {
+        let Joined { mut entries, rises } = self;
+        if !rises {
+            entries.sort_unstable_by_key(|entry| entry.key);
+        }
+        entries
     }
 }

@@ -1,6 +1,7 @@
-use Rattle.trace_merge.proofs.Words.{◌≡◌, ◌<◌, ◌++◌, [], Some, map, take, ap, ◌∙◌, sym, subst, arith, min, length, MatchOption, unwrap_or, IsPermutation-trans, all_of}
+use Rattle.trace_merge.proofs.Words.{◌≡◌, ◌<◌, ◌++◌, [], Some, map, take, ap, ◌∙◌, sym, subst, arith, min, length, All, MatchOption, unwrap_or, IsPermutation-trans, all_of}
 use Rattle.std.proofs.Common.{◌+◌, slice_set}
 use Rattle.std.proofs.lemmas.List.{length-set, take_more_set}
+use Rattle.std.proofs.lemmas.List.Elements.{All-append}
 use Rattle.trace_merge.proofs.Gathering.{rest_of, one_moved, all_of-more, later_least, later_same}
 use Rattle.trace_merge.proofs.by_tick.take_tick.Goals.{in-Some, in_default}
 use Rattle.trace_merge.proofs.by_tick.take_tick.Goals as goal
@@ -19,6 +20,8 @@ loop-at-preserved c =
     record {
       same = IsPermutation-trans _ _ _ h.same (one_moved rest_of c.loop-at.merged.entries.items c.take_up_to.new.merged.entries.items lanes at c.index-lanes-at.result new low c.in_ok-next.ensures.same);
       count = length-set lanes at new ∙ h.count;
+      early = λ all. c.in_ok-next.ensures.early (h.early all);
+      late = subst (All (λ e. tick < e.key.tick)) (sym more) (All-append (λ e. tick < e.key.tick) before new.rest.items h.late c.in_ok-next.ensures.late);
       later = subst (λ es. MatchOption c.match-branch-2.least (es ≡ []) (λ t. tick < t)) (sym more) (elim c.match-branch-2.branch [
         | in-Some w ↦
             let n = w.in-Some.next in

@@ -1,0 +1,128 @@
+//! Merging of the parts of a trace, whole or in pieces.
+ghost use Rattle.std.specs.Prelude.{◌≡◌, ◌≤◌, ◌⊎◌, ◌++◌, List, [], length, map, IsTrue, IfOk, IfErr, All, IsPermutation};
+ghost use Rattle.process_api.specs.EntryRecord.{EntryRecord};
+ghost use Rattle.process_api.specs.Order.{is_rising};
+ghost use Rattle.trace_merge.specs.Parts.{all_of, AreDisjoint, IsMergeOf};
+
+use crate::by_tick::{Lane, lanes_of, take_tick};
+use crate::joined::Joined;
+use process_api::{Entry, RunError};
+use std::alloc::Global;
+use std::marker::Model;
+
+/// Parts of a trace that are merged piece by piece: what is left of each.
+///
+/// It goes tick by tick and, in a tick, part by part: where the parts are of one receiver each and come by rising
+/// receiver, the entries of a piece are in order then, which is seen as they are joined, and nothing is left to put in
+/// order.
+#[derive(Drop)]
+pub struct Merging {
+    alloc: Global,
+    lanes: Vec<Lane>,
+    // the tick to go on with, or none where nothing is left
+    at: Option<u32>,
+    // how many entries are left, so that a piece has room for them
+    left: usize,
+}
+
+impl Model for Merging {
+    ghost use Rattle.std.specs.Prelude.{◌≡◌, [], List, map, None};
+    ghost use Rattle.process_api.specs.EntryRecord.{EntryRecord};
+    ghost use Rattle.trace_merge.specs.Parts.{all_of, AllDiffer};
+
+    ghost Value = { List (List EntryRecord) };
+
+    ghost view = { λ m. map (λ lane. lane.rest.items) m.lanes.items };
+
+    ghost invariant = { λ m. AllDiffer (all_of (map (λ lane. lane.rest.items) m.lanes.items))
+        × (m.at ≡ None → all_of (map (λ lane. lane.rest.items) m.lanes.items) ≡ []) };
+}
+
+/// How many entries the parts have.
+fn room_for(parts: &[Vec<Entry>]) -> usize {
+    parts
+        .iter()
+        .fold(0, |room: usize, part| room.saturating_add(part.len()))
+}
+
+impl Merging {
+    /// Begins to merge parts, each with strictly rising keys and no key in two of them.
+    ///
+    /// # Errors
+    ///
+    /// `Memory` where memory was refused; the entries are gone.
+    pub fn new(alloc: Global, parts: Vec<Vec<Entry>>) -> Result<Merging, RunError>
+        requires rising { All (λ part. IsTrue (is_rising part.items)) parts.items }
+        requires disjoint { AreDisjoint (map (λ part. part.items) parts.items) }
+
+        ensures same { IfOk result (λ left. left ≡ map (λ part. part.items) parts.items) }
+        ensures err { IfErr result (λ e. e ≡ RunError.Memory) }
+    {
+        let left = room_for(&parts);
+        let lanes = lanes_of(alloc, parts)?;
+        let at = Some(0);
+        Ok(Merging {
+            alloc,
+            lanes,
+            at,
+            left,
+        })
+    }
+
+    /// The first piece of what the parts merge to, and what is left of them. The piece has whole ticks, and at least so
+    /// many entries, or all.
+    ///
+    /// # Errors
+    ///
+    /// `Memory` where a growth was refused; the entries are gone.
+    pub fn first_piece(self, least: usize) -> Result<(Vec<Entry>, Merging), RunError>
+        ensures front { IfOk result (λ r. (rest : List EntryRecord)
+            → IsMergeOf r.1 rest → IsMergeOf self (r.0.items ++ rest)) }
+        ensures left { IfOk result (λ r. (rest : List EntryRecord) × IsMergeOf r.1 rest) }
+        ensures enough { IfOk result (λ r. (least ≤ length r.0.items) ⊎ (all_of r.1 ≡ [])) }
+        ensures err { IfErr result (λ e. e ≡ RunError.Memory) }
+    {
+        let Merging {
+            alloc,
+            mut lanes,
+            mut at,
+            left,
+        } = self;
+        let entries = Vec::with_capacity(alloc, left.min(least))?;
+        let rises = true;
+        let mut merged = Joined { entries, rises };
+        while let Some(tick) = at {
+            if merged.entries.len() >= least {
+                break;
+            }
+            at = take_tick(&mut merged, &mut lanes, tick)?;
+        }
+        let left = left.saturating_sub(merged.entries.len());
+        let rest = Merging {
+            alloc,
+            lanes,
+            at,
+            left,
+        };
+        Ok((merged.in_order(), rest))
+    }
+}
+
+/// Merges parts of a trace, each with strictly rising keys and no key in two of them, into one with strictly rising
+/// keys, which holds exactly their entries. No entry is copied.
+///
+/// # Errors
+///
+/// `Memory` where a growth was refused; the entries are gone.
+pub fn merge(alloc: Global, parts: Vec<Vec<Entry>>) -> Result<Vec<Entry>, RunError>
+    requires rising { All (λ part. IsTrue (is_rising part.items)) parts.items }
+    requires disjoint { AreDisjoint (map (λ part. part.items) parts.items) }
+
+    ensures rising { IfOk result (λ v. IsTrue (is_rising v.items)) }
+    ensures same { IfOk result (λ v. IsPermutation (all_of (map (λ part. part.items) parts.items)) v.items) }
+    ensures err { IfErr result (λ e. e ≡ RunError.Memory) }
+{
+    let merging = Merging::new(alloc, parts)?;
+    let (merged, _rest) = merging.first_piece(usize::MAX)?;
+    Ok(merged)
+}
