@@ -1,15 +1,15 @@
 -- Parts of a window that wait to be merged and handed on.
-use Rattle.windows.proofs.Words.{◌≡◌, ◌≤◌, ◌+◌, inl, inr, refl, ℕ, sym, ap, ◌∙◌, subst, List, [], ◌∷◌, ◌++◌, append_assoc, append-nil, length, map, IsTrue, Result, Ok, Err, IfOk, IfErr, OnErr, arith, Vec, All, IsPermutation, nil_from_length, All-nil, IsPermutation-refl, length_permutation, EntryRecord, Mind, is_rising, RunError, IsInRange, Record, setting_of, IsTrace, all_of, end_to_end, IsRefusal, TookAll, IsStageAfter, Stage, OnOk, AreParts, IsMerged, TookAllBut, TookFrontOf, TookTrace, TookFront, TookClosed, writes_of}
-use Rattle.trace_merge.proofs.Exists.{has_merge}
+use Rattle.windows.proofs.Words.{◌≡◌, ◌≤◌, ◌⊎◌, ◌+◌, inl, inr, refl, ℕ, sym, ap, ◌∙◌, subst, List, [], ◌∷◌, ◌++◌, append_assoc, append-nil, length, map, IsTrue, Result, Ok, Err, IfOk, IfErr, OnErr, arith, Vec, All, IsPermutation, nil_from_length, All-nil, IsPermutation-refl, length_permutation, EntryRecord, Mind, is_rising, RunError, IsInRange, Record, setting_of, IsTrace, all_of, end_to_end, IsRefusal, TookAll, IsStageAfter, Stage, OnOk, AreParts, IsMerged, TookAllBut, TookFrontOf, TookTrace, TookFront, TookClosed, writes_of}
+use Rattle.trace_merge.proofs.Distinct.{all_differ}
+use Rattle.trace_merge.proofs.Exists.{has_merge, nothing_merges}
+use Rattle.trace_merge.specs.Parts.{IsMergeOf}
 use Rattle.windows.proofs.Closing.{stage_trace}
 use Rattle.windows.proofs.Cut.{stage_cut}
-use Rattle.windows.proofs.Handed.{trace_within}
+use Rattle.windows.proofs.Handed.{end_to_end_more, took_more, trace_within}
 
 -- what parts make
 pub merged_of : (parts : List (Vec EntryRecord)) → AreParts parts → (merged : List EntryRecord) × IsMerged parts merged
-merged_of parts are =
-    let m = has_merge (λ (v : Vec EntryRecord). v.items) parts are.rising are.apart in
-    (m.0, record { rising = m.1; same = m.2 })
+merged_of parts are = has_merge (map (λ (v : Vec EntryRecord). v.items) parts) (all_differ (λ (v : Vec EntryRecord). v.items) parts are.rising are.apart)
 
 pub merged_ok : (parts : List (Vec EntryRecord)) (r : Result (Vec EntryRecord) RunError) → IfOk r (λ v. IsTrue (is_rising v.items)) → IfOk r (λ v. IsPermutation (all_of (map (λ (p : Vec EntryRecord). p.items) parts)) v.items) → IfOk r (λ v. IsMerged parts v.items)
 merged_ok parts (Ok v) rising same = record { rising = rising; same = same }
@@ -18,11 +18,8 @@ merged_ok parts (Err e) rising same = tt
 pub no_parts : AreParts []
 no_parts = record { rising = All-nil (λ (v : Vec EntryRecord). IsTrue (is_rising v.items)); apart = tt }
 
-pub none_merged : (rest : List EntryRecord) → IsMerged [] rest → rest ≡ []
-none_merged rest is = nil_from_length rest (length_permutation [] rest is.same)
-
-no_entries : IsMerged [] []
-no_entries = record { rising = refl; same = IsPermutation-refl [] }
+pub none_merged : {parts : List (List EntryRecord)} (rest : List EntryRecord) → all_of parts ≡ [] → IsMergeOf parts rest → rest ≡ []
+none_merged rest none is = nil_from_length rest (length_permutation [] rest (subst (λ es. IsPermutation es rest) none is.same))
 
 pub plus_same : (x a m n : ℕ) → x ≡ a + m → m ≡ n → x ≡ a + n
 plus_same x a m n e is = e ∙ ap (λ k. a + k) is
@@ -36,17 +33,32 @@ module _ {K : Type 0} (took : K → List EntryRecord → K → Type 0) where
   took_append old mid new [] ys first then = subst (λ k. TookAll took k ys new) first then
   took_append old mid new (x ∷ xs) ys first then = (first.0, first.1, took_append first.0 mid new xs ys first.2 then)
 
-  -- nothing waits, or one part does
-  pub took_none : (sink : K) → TookAllBut took [] [] sink sink
-  took_none sink = ([], refl, λ rest is. is)
-
-  pub took_one : (parts : List (Vec EntryRecord)) (old new : K) (merged : List EntryRecord) → IsMerged parts merged → took old merged new → TookAllBut took parts [] old new
-  took_one parts old new merged is one =
-      (merged ∷ [], (new, one, refl), λ rest none. subst (IsMerged parts) (sym (ap (λ es. (merged ++ []) ++ es) (none_merged rest none) ∙ (append-nil (merged ++ []) ∙ append-nil merged))) is)
-
   -- all of it waits
-  pub took_nothing : (parts : List (Vec EntryRecord)) (sink : K) → TookAllBut took parts parts sink sink
+  pub took_nothing : (parts : List (Vec EntryRecord)) (sink : K) → TookAllBut took parts (map (λ part. part.items) parts) sink sink
   took_nothing parts sink = ([], refl, λ rest is. is)
+
+  module _ (parts : List (Vec EntryRecord)) {left : List (List EntryRecord)} {old sink : K} (so_far : TookAllBut took parts left old sink) where
+    -- all was taken
+    pub took_whole : all_of left ≡ [] → TookAllBut took parts [] old sink
+    took_whole none = (so_far.0, so_far.1, λ rest is. so_far.2 rest (subst (IsMergeOf left) (sym (none_merged {parts = []} rest refl is)) (nothing_merges left none)))
+
+    -- a piece more
+    module _ (piece : List EntryRecord) (others : List (List EntryRecord)) (front : (rest : List EntryRecord) → IsMergeOf others rest → IsMergeOf left (piece ++ rest)) where
+      pub took_piece : (new : K) → took sink piece new → TookAllBut took parts others old new
+      took_piece new one =
+          (so_far.0 ++ piece ∷ [], took_more took old sink new so_far.0 piece so_far.1 one, λ rest is. subst (IsMerged parts) (sym (ap (λ es. es ++ rest) (end_to_end_more so_far.0 piece) ∙ append_assoc (end_to_end so_far.0) piece rest)) (so_far.2 (piece ++ rest) (front rest is)))
+
+      -- or a front of it
+      pub took_no_more : (took_front : K → List EntryRecord → K → Type 0) (new : K) → (rest : List EntryRecord) × IsMergeOf others rest → ((piece ≡ []) × (new ≡ sink)) ⊎ took_front sink piece new → TookFrontOf took took_front parts old new
+      took_no_more took_front new has ended = record {
+        told = so_far.0;
+        mid = sink;
+        took_all = so_far.1;
+        last = piece;
+        ended = ended;
+        rest = has.0;
+        merged = subst (IsMerged parts) (sym (append_assoc (end_to_end so_far.0) piece has.0)) (so_far.2 (piece ++ has.0) (front has.0 has.1));
+      }
 
   -- the sink took this so far of a run that is at this stage, where these parts wait
   pub record IsUnderway {M : Type 0} (mind : M → Mind) (s : Record) (first : K) (stage : Stage M) (sink : K) (parts : List (Vec EntryRecord)) : Type 0 where
@@ -62,7 +74,7 @@ module _ {K : Type 0} (took : K → List EntryRecord → K → Type 0) where
     told = [];
     took_all = refl;
     waiting = subst AreParts (sym none) no_parts;
-    after = λ merged is. subst (λ es. IsStageAfter mind es stage) (sym (none_merged merged (subst (λ l. IsMerged l merged) none is))) opened;
+    after = λ merged is. subst (λ es. IsStageAfter mind es stage) (sym (none_merged {parts = []} merged refl (subst (λ l. IsMerged l merged) none is))) opened;
     scenario = same;
   }
 
@@ -72,7 +84,7 @@ module _ {K : Type 0} {took : K → List EntryRecord → K → Type 0} {M : Type
     stage_is = let m = merged_of parts u.waiting in (end_to_end u.told ++ m.0, u.after m.0 m.1)
 
     -- what waited was handed on, but for these parts
-    pub handed : (new : K) (others : List (Vec EntryRecord)) → AreParts others → TookAllBut took parts others sink new → IsUnderway took mind s first stage new others
+    pub handed : (new : K) (others : List (Vec EntryRecord)) → AreParts others → TookAllBut took parts (map (λ part. part.items) others) sink new → IsUnderway took mind s first stage new others
     handed new others are more = record {
       told = u.told ++ more.0;
       took_all = took_append took first sink new u.told more.0 u.took_all more.1;
@@ -86,35 +98,30 @@ module _ {K : Type 0} {took : K → List EntryRecord → K → Type 0} {M : Type
       cut merged is = stage_cut mind stage (end_to_end u.told ++ merged) (u.after merged is) s u.scenario ranges
 
       module _ (took_front : K → List EntryRecord → K → Type 0) where
-        pub front_so_far : (new : K) → new ≡ sink → TookFront took (setting_of s) took_front first new
-        front_so_far new same =
-            let m = merged_of parts u.waiting in
+        -- the sink refused what waits
+        pub front_of : (new : K) → TookFrontOf took took_front parts sink new → TookFront took (setting_of s) took_front first new
+        front_of new f =
+            let before = end_to_end u.told in
+            let part = end_to_end f.told ++ f.last in
+            let all : end_to_end (u.told ++ f.told) ++ f.last ≡ before ++ part = ap (λ es. es ++ f.last) (end_to_end_append u.told f.told) ∙ append_assoc before (end_to_end f.told) f.last in
             record {
-              parts = u.told;
-              mid = sink;
-              took_all = u.took_all;
-              last = [];
-              ended = inl (refl, same);
+              parts = u.told ++ f.told;
+              mid = f.mid;
+              took_all = took_append took first sink f.mid u.told f.told u.took_all f.took_all;
+              last = f.last;
+              ended = f.ended;
               front = λ whole t.
-                  let r = cut m.0 m.1 whole t in
-                  (m.0 ++ r.0, r.1 ∙ (append_assoc (end_to_end u.told) m.0 r.0 ∙ ap (λ es. es ++ (m.0 ++ r.0)) (sym (append-nil (end_to_end u.told)))));
+                  let r = cut (part ++ f.rest) f.merged whole t in
+                  (f.rest ++ r.0, r.1 ∙ (ap (λ es. es ++ r.0) (sym (append_assoc before part f.rest)) ∙ (append_assoc (before ++ part) f.rest r.0 ∙ ap (λ es. es ++ (f.rest ++ r.0)) (sym all))));
             }
 
-        -- the sink refused what waits
-        pub front_of : (new : K) → TookFrontOf took_front parts sink new → TookFront took (setting_of s) took_front first new
-        front_of new (inl same) = front_so_far new same
-        front_of new (inr part) = record {
-          parts = u.told;
-          mid = sink;
-          took_all = u.took_all;
-          last = part.0;
-          ended = inr part.2;
-          front = λ whole t. let r = cut part.0 part.1 whole t in (r.0, r.1);
-        }
+        -- it was handed nothing of it
+        pub front_so_far : TookFront took (setting_of s) took_front first sink
+        front_so_far = front_of sink (took_no_more took parts (took_nothing took parts sink) [] _ (λ rest is. is) took_front sink (merged_of parts u.waiting) (inl (refl, refl)))
 
   module _ (u : IsUnderway took mind s first stage sink []) where
     so_far : IsStageAfter mind (end_to_end u.told) stage
-    so_far = subst (λ es. IsStageAfter mind es stage) (append-nil (end_to_end u.told)) (u.after [] no_entries)
+    so_far = subst (λ es. IsStageAfter mind es stage) (append-nil (end_to_end u.told)) (u.after [] (nothing_merges [] refl))
 
     -- one window more was run
     pub ran : (new : Stage M) (parts : List (Vec EntryRecord)) → AreParts parts → ((merged : List EntryRecord) → IsMerged parts merged → (trace : List EntryRecord) → IsStageAfter mind trace stage → IsStageAfter mind (trace ++ merged) new) → new.scenario.now ≡ stage.scenario.now

@@ -24,65 +24,34 @@ use std::marker::Sync;
 use std::mem::replace;
 use std::sync::Wait;
 use std::thread::Threads;
-use trace_merge::merge;
+use trace_merge::Merging;
 
-/// Parts with fewer entries are handed on as soon as their window is closed. Merging them takes a few microseconds, which
-/// isn't worth that the sink waits for the next window.
-const FEW_ENTRIES: usize = 128;
+/// How many entries a piece of a window has at least, but for the last one. A piece is still in a processor's cache as it
+/// is handed on; with fewer entries, each call of the sink would cost more than that saves.
+const PIECE: usize = 1024;
 
-/// Whether parts have few entries.
-fn are_few(parts: &[Vec<Entry>]) -> bool {
-    let mut entries = 0usize;
-    for part in parts {
-        entries = entries.saturating_add(part.len());
-    }
-    entries < FEW_ENTRIES
-}
-
-/// Merges the parts, and hands them on, if there are any.
+/// Merges the parts, and hands them on in pieces that rise end to end.
 ///
 /// # Errors
 ///
-/// `Memory` or `Write` where the sink refused them, and `Memory` where there was none to merge them.
+/// `Memory` or `Write` where the sink refused a piece, and `Memory` where there was none to merge them.
 fn hand_on<K: Sink>(alloc: Global, sink: &mut K, parts: Vec<Vec<Entry>>) -> Result<(), RunError>
     requires parts { AreParts parts.items }
     requires failures { K.failed sink.old < 2 ^ 64 - 1 }
     ensures took { OnOk result (TookAllBut K.took parts.items [] sink.old sink.new) }
-    ensures front { OnErr result (TookFrontOf K.took_front parts.items sink.old sink.new) }
+    ensures front { OnErr result (TookFrontOf K.took K.took_front parts.items sink.old sink.new) }
     ensures errors { IfErr result IsRefusalOfSink }
     ensures count { K.failed sink.new ≡ K.failed sink.old + writes_of result }
 {
-    if parts.is_empty() {
-        return Ok(());
+    let mut merging = Merging::new(alloc, parts)?;
+    loop {
+        let (piece, rest) = merging.first_piece(PIECE)?;
+        if piece.is_empty() {
+            return Ok(());
+        }
+        sink.part(piece)?;
+        merging = rest;
     }
-    let merged = merge(alloc, parts)?;
-    sink.part(merged)
-}
-
-/// The parts of a window that was closed wait until the workers of the next one run, unless they are few: these are
-/// handed on. Answers those that wait.
-///
-/// # Errors
-///
-/// As [`hand_on`].
-fn keep_or_hand_on<K: Sink>(
-    alloc: Global,
-    sink: &mut K,
-    parts: Vec<Vec<Entry>>,
-) -> Result<Vec<Vec<Entry>>, RunError>
-    requires parts { AreParts parts.items }
-    requires failures { K.failed sink.old < 2 ^ 64 - 1 }
-    ensures waiting { IfOk result (λ left. AreParts left.items) }
-    ensures took { IfOk result (λ left. TookAllBut K.took parts.items left.items sink.old sink.new) }
-    ensures front { OnErr result (TookFrontOf K.took_front parts.items sink.old sink.new) }
-    ensures errors { IfErr result IsRefusalOfSink }
-    ensures count { K.failed sink.new ≡ K.failed sink.old + writes_of result }
-{
-    if !are_few(&parts) {
-        return Ok(parts);
-    }
-    hand_on(alloc, sink, parts)?;
-    Ok(Vec::new(alloc))
 }
 
 /// Parts that wait to be handed on, and what the sink answered to those that were.
@@ -241,7 +210,7 @@ pub fn run_windows_into<M: Process, G: Gate, K: Sink, R: Threads + Wait + Sync>(
         } = left;
         told?;
         hand_on(alloc, sink, waiting)?;
-        parts = keep_or_hand_on(alloc, sink, ran?)?;
+        parts = ran?;
     }
     hand_on(alloc, sink, parts)
 }

@@ -57,9 +57,16 @@ impl Sink for Counting {
     }
 }
 
-/// How many entries each window of 2 ticks has, and how many inputs the machines have taken as it closes: a process
-/// that has crashed takes none.
-const PARTS: [(usize, u64); 5] = [(2, 2), (4, 5), (2, 6), (2, 7), (2, 9)];
+/// Whether a part has so many entries, and was handed on beside the next window, if there is one: the machines had taken
+/// at least so many inputs, those of its own window and of the windows before, and at most so many, with the next one's.
+fn is_beside(handed: (usize, u64), part: (usize, u64, u64)) -> bool {
+    let (entries, least, most) = part;
+    handed.0 == entries && least <= handed.1 && handed.1 <= most
+}
+
+/// How many entries each window of 2 ticks has, and how many inputs the machines have taken as it and the next one
+/// close: a process that has crashed takes none. So few entries are one part.
+const PARTS: [(usize, u64, u64); 5] = [(2, 2, 5), (4, 5, 6), (2, 6, 7), (2, 7, 9), (2, 9, 9)];
 
 /// How many entries the windows before each have, and all windows.
 const BEFORE: [usize; 6] = [0, 2, 6, 8, 10, 12];
@@ -95,14 +102,17 @@ fn takes_so_many<R: Abort + Threads + Wait + Sync>(
     let came = (most, done.err(), sink.failures());
     same(rt, &came, &(most, refusal, failures));
     let handed = most.saturating_add(1).min(5);
-    assert!(rt; sink.handed.as_slice() == &PARTS[..handed]);
+    same(rt, &sink.handed.len(), &handed);
+    for (came, part) in sink.handed.iter().zip(PARTS) {
+        assert!(rt; is_beside(*came, part));
+    }
     let before = BEFORE[most];
     assert!(rt; before <= list.len());
     same_entries(rt, &sink.entries, &list[..before]);
 }
 
-/// The parts come one by one, in the order of the windows, each before a machine takes an input of the next window.
-/// After a refused one none is handed on, nor that one again, and the sink has the entries of the windows before it.
+/// The parts come one by one, in the order of the windows, each beside the next one. After a refused one none is handed
+/// on, nor that one again, and the sink has the entries of the windows before it.
 #[test]
 fn parts_in_order(rt: HostRuntime) {
     let alloc = rt.alloc();
@@ -115,13 +125,14 @@ fn parts_in_order(rt: HostRuntime) {
     }
 }
 
-/// How many entries each window of 2 ticks has where 256 processes send to all at each tick, and how many inputs the
-/// machines have taken at least and at most as its part is handed on. As the part isn't small, that is done beside the
-/// next window, if there is one: all inputs of its own window were taken, and some of the next one's.
-const LARGE_PARTS: [(usize, u64, u64); 3] = [
+/// The same of each part where 256 processes send to all at each tick. A part ends with a tick, as soon as it has 1,024
+/// entries: the first window has 512, and each later tick has more than 65,000.
+const LARGE_PARTS: [(usize, u64, u64); 5] = [
     (512, 512, 131_840),
-    (131_328, 131_840, 262_912),
-    (131_072, 262_912, 262_912),
+    (65_536, 131_840, 262_912),
+    (65_792, 131_840, 262_912),
+    (65_536, 262_912, 262_912),
+    (65_536, 262_912, 262_912),
 ];
 
 #[test]
@@ -136,16 +147,14 @@ fn large_parts_wait(rt: HostRuntime) {
         entries: Vec::new(alloc),
         handed: Vec::new(alloc),
         inputs,
-        most: 3,
+        most: 5,
         writes: false,
         failures: 0,
     };
     let done = run_windows_into(&rt, alloc, &scenario, machines, &plan, &OpenGate, &mut sink);
     assert!(rt; done.is_ok());
-    assert!(rt; sink.handed.len() == 3);
-    for place in 0..3usize {
-        let (entries, least, most) = LARGE_PARTS[place];
-        let (came, inputs) = sink.handed[place];
-        assert!(rt; came == entries && least <= inputs && inputs <= most);
+    same(&rt, &sink.handed.len(), &5);
+    for (came, part) in sink.handed.iter().zip(LARGE_PARTS) {
+        assert!(rt; is_beside(*came, part));
     }
 }
