@@ -22,6 +22,7 @@ pub(crate) struct Lane {
 impl Lane {
     /// Moves the entries up to a tick to the end of a list. Answers the tick of the next one, or none where all were
     /// moved.
+    #[inline(always)]
     fn take_up_to(&mut self, merged: &mut Joined, tick: u32) -> Result<Option<u32>, RunError>
         ensures same { OnOk result (IsPermutation (merged.old.entries.items ++ self.old.rest.items)
             (merged.new.entries.items ++ self.new.rest.items)) }
@@ -51,7 +52,11 @@ impl Lane {
 
 /// Moves the entries up to a tick of each part, one part after the other, to the end of a list. Answers the least tick
 /// at which a part goes on, or none where all are taken.
-pub(crate) fn take_tick(merged: &mut Joined, lanes: &mut [Lane], tick: u32) -> Result<Option<u32>, RunError>
+pub(crate) fn take_tick(
+    merged: &mut Joined,
+    lanes: &mut [Lane],
+    tick: u32,
+) -> Result<Option<u32>, RunError>
     ensures same { OnOk result (IsPermutation
         (merged.old.entries.items ++ all_of (map (λ lane. lane.rest.items) lanes.old))
         (merged.new.entries.items ++ all_of (map (λ lane. lane.rest.items) lanes.new))) }

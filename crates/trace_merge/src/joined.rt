@@ -13,6 +13,7 @@ pub(crate) struct Joined {
 }
 
 /// Whether an entry comes after those of a list, where these rise.
+#[inline(always)]
 fn goes_on(entries: &[Entry], entry: &Entry) -> bool
     ensures { result ≡ true → IsInOrder entries.now → IsInOrder (entries.now ++ entry.now ∷ []) }
 {
@@ -24,6 +25,7 @@ fn goes_on(entries: &[Entry], entry: &Entry) -> bool
 
 impl Joined {
     /// One entry more.
+    #[inline(always)]
     pub(crate) fn push(&mut self, entry: Entry) -> Result<(), RunError>
         ensures more { OnOk result (self.new.entries.items ≡ self.old.entries.items ++ entry ∷ []) }
         ensures err { IfErr result (λ e. e ≡ RunError.Memory) }

@@ -106,6 +106,19 @@ impl Merging {
         };
         Ok((merged.in_order(), rest))
     }
+
+    /// The memory of the parts, in empty lists, joins others: that of the first part is the last. Where memory is
+    /// refused, some of it is dropped.
+    pub fn keep_rooms(self, rooms: &mut Vec<Vec<Entry>>)
+        ensures { All (λ room. room.items ≡ []) rooms.old.items → All (λ room. room.items ≡ []) rooms.new.items }
+    {
+        let Merging { mut lanes, .. } = self;
+        while let Some(lane) = lanes.pop() {
+            let mut room: Vec<Entry> = lane.rest.into();
+            room.clear();
+            let _kept = rooms.push(room);
+        }
+    }
 }
 
 /// Merges parts of a trace, each with strictly rising keys and no key in two of them, into one with strictly rising

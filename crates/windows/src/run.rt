@@ -28,14 +28,19 @@ use trace_merge::Merging;
 
 /// How many entries a piece of a window has at least, but for the last one. A piece is still in a processor's cache as it
 /// is handed on; with fewer entries, each call of the sink would cost more than that saves.
-const PIECE: usize = 1024;
+const PIECE: usize = 256;
 
-/// Merges the parts, and hands them on in pieces that rise end to end.
+/// Merges the parts, and hands them on in pieces that rise end to end. Their memory joins that of others.
 ///
 /// # Errors
 ///
 /// `Memory` or `Write` where the sink refused a piece, and `Memory` where there was none to merge them.
-fn hand_on<K: Sink>(alloc: Global, sink: &mut K, parts: Vec<Vec<Entry>>) -> Result<(), RunError>
+fn hand_on<K: Sink>(
+    alloc: Global,
+    sink: &mut K,
+    parts: Vec<Vec<Entry>>,
+    rooms: &mut Vec<Vec<Entry>>,
+) -> Result<(), RunError>
     requires parts { AreParts parts.items }
     requires failures { K.failed sink.old < 2 ^ 64 - 1 }
     ensures took { OnOk result (TookAllBut K.took parts.items [] sink.old sink.new) }
@@ -47,6 +52,7 @@ fn hand_on<K: Sink>(alloc: Global, sink: &mut K, parts: Vec<Vec<Entry>>) -> Resu
     loop {
         let (piece, rest) = merging.first_piece(PIECE)?;
         if piece.is_empty() {
+            rest.keep_rooms(rooms);
             return Ok(());
         }
         sink.part(piece)?;
@@ -54,10 +60,11 @@ fn hand_on<K: Sink>(alloc: Global, sink: &mut K, parts: Vec<Vec<Entry>>) -> Resu
     }
 }
 
-/// Parts that wait to be handed on, and what the sink answered to those that were.
+/// Parts that wait to be handed on, memory of those that were, and what the sink answered to these.
 #[derive(Drop)]
 struct Left {
     parts: Vec<Vec<Entry>>,
+    rooms: Vec<Vec<Entry>>,
     told: Result<(), RunError>,
 }
 
@@ -81,7 +88,7 @@ impl<K: Sink> Chore for Handing<'_, K> {
 
     fn work(&mut self, alloc: Global) {
         let parts = replace(&mut self.left.parts, Vec::new(alloc));
-        self.left.told = hand_on(alloc, self.sink, parts);
+        self.left.told = hand_on(alloc, self.sink, parts, &mut self.left.rooms);
     }
 }
 
@@ -120,10 +127,11 @@ fn run_handing<M: Process, G: Gate, K: Sink, R: Threads + Wait + Sync>(
     ensures limit { IsErrOf result RunError.Limit → (whole : List EntryRecord)
         → IsTrace (setting_of stage.old.scenario.now) whole → stage.old.scenario.now.limit < length whole }
 {
-    run_parts(rt, alloc, stage, plan, gate, handing)
+    let mut rooms = replace(&mut handing.left.rooms, Vec::new(alloc));
+    run_parts(rt, alloc, stage, plan, gate, handing, &mut rooms)
 }
 
-/// Runs the next window of a stage, as [`run_parts`] does. Meanwhile the starter hands these parts to the sink. Answers
+/// Runs the next window of a stage, as [`run_parts`] does. Meanwhile the starter hands what is left to the sink. Answers
 /// what `run_parts` does, the parts that still wait, since the window was refused before a worker began, and what the
 /// sink answered.
 fn run_and_hand_on<M: Process, G: Gate, K: Sink, R: Threads + Wait + Sync>(
@@ -133,15 +141,16 @@ fn run_and_hand_on<M: Process, G: Gate, K: Sink, R: Threads + Wait + Sync>(
     plan: &Plan,
     gate: &G,
     sink: &mut K,
-    parts: Vec<Vec<Entry>>,
+    left: Left,
 ) -> (Result<Vec<Vec<Entry>>, RunError>, Left)
     requires stage { IsStage M.mind stage.old }
     requires plan { IsPlanFor stage.old.scenario.now plan.now }
     requires open { stage.old.start < stage.old.scenario.now.horizon }
-    requires waiting { AreParts parts.items }
+    requires waiting { AreParts left.parts.items }
     requires failures { K.failed sink.old < 2 ^ 64 - 1 }
+    requires told { left.told ≡ Ok tt }
 
-    ensures handed { HandedOn K.took K.took_front K.failed parts.items result.1.parts.items sink.old sink.new
+    ensures handed { HandedOn K.took K.took_front K.failed left.parts.items result.1.parts.items sink.old sink.new
         result.1.told }
     ensures scenario { OnOk result.0 (stage.new.scenario.now ≡ stage.old.scenario.now) }
     ensures parts { IfOk result.0 (λ parts. AreParts parts.items) }
@@ -154,8 +163,6 @@ fn run_and_hand_on<M: Process, G: Gate, K: Sink, R: Threads + Wait + Sync>(
     ensures limit { IsErrOf result.0 RunError.Limit → (whole : List EntryRecord)
         → IsTrace (setting_of stage.old.scenario.now) whole → stage.old.scenario.now.limit < length whole }
 {
-    let told = Ok(());
-    let left = Left { parts, told };
     let mut handing = Handing { left, sink };
     let ran = run_handing(rt, alloc, stage, plan, gate, &mut handing);
     let Handing { left, sink: _sink } = handing;
@@ -202,17 +209,22 @@ pub fn run_windows_into<M: Process, G: Gate, K: Sink, R: Threads + Wait + Sync>(
     let _horizon = scenario.horizon();
     let mut stage = Stage::open(alloc, scenario, machines)?;
     let mut parts = Vec::new(alloc);
+    let mut rooms = Vec::new(alloc);
     while !stage.finished() {
-        let (ran, left) = run_and_hand_on(rt, alloc, &mut stage, plan, gate, sink, parts);
+        let told = Ok(());
+        let left = Left { parts, rooms, told };
+        let (ran, left) = run_and_hand_on(rt, alloc, &mut stage, plan, gate, sink, left);
         let Left {
             parts: waiting,
+            rooms: mut kept,
             told,
         } = left;
         told?;
-        hand_on(alloc, sink, waiting)?;
+        hand_on(alloc, sink, waiting, &mut kept)?;
         parts = ran?;
+        rooms = kept;
     }
-    hand_on(alloc, sink, parts)
+    hand_on(alloc, sink, parts, &mut rooms)
 }
 
 /// The same, where the whole trace is kept, and answered.

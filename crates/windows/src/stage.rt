@@ -83,6 +83,23 @@ fn keep(kept: &mut Vec<Inbox>, inbox: Option<Inbox>) -> Result<(), AllocError>
     Ok(())
 }
 
+/// An empty list in the memory of the last room, or else with room for so many entries.
+fn empty_part(
+    alloc: Global,
+    rooms: &mut Vec<Vec<Entry>>,
+    count: usize,
+) -> Result<Vec<Entry>, AllocError>
+    ensures { IfOk result (λ part. part.items ≡ []) }
+{
+    match rooms.pop() {
+        Some(mut room) => {
+            room.clear();
+            Ok(room)
+        }
+        None => Vec::with_capacity(alloc, count),
+    }
+}
+
 /// Each berth gives its part of the window, and gets its mailbox with the letters. Both lists have process 1 first.
 /// Answers the berths, the parts in the same order, and the mailboxes that the berths had before, which are empty.
 fn hand_over<M: Process, R: Wait>(
@@ -90,6 +107,7 @@ fn hand_over<M: Process, R: Wait>(
     alloc: Global,
     berths: Vec<Berth<M>>,
     inboxes: Vec<Inbox>,
+    rooms: &mut Vec<Vec<Entry>>,
 ) -> Result<(Vec<Berth<M>>, Vec<Vec<Entry>>, Vec<Inbox>), AllocError>
     requires count { vec_len inboxes ≡ vec_len berths }
     requires one { All AreOne inboxes.items }
@@ -108,8 +126,8 @@ fn hand_over<M: Process, R: Wait>(
         let Some(inbox) = inboxes.next() else {
             unreachable!()
         };
-        // as much room as this window's part took
-        let next = Vec::with_capacity(alloc, berth.part.len())?;
+        // as much room as this window's part took, or that of another
+        let next = empty_part(alloc, rooms, berth.part.len())?;
         parts.push(replace(&mut berth.part, next))?;
         keep(&mut emptied, berth.pending.deliver(rt, inbox)?)?;
         done.push(berth)?;
@@ -229,6 +247,7 @@ impl<'s, M: Process> Stage<'s, M> {
         alloc: Global,
         ran: Ran<M>,
         left: u64,
+        rooms: &mut Vec<Vec<Entry>>,
     ) -> Result<Vec<Vec<Entry>>, RunError>
         requires all { vec_len ran.slips ≡ ran.mailboxes.slips }
         requires slips { All (IsSlipOf ran.mailboxes.mailboxes) ran.slips.items }
@@ -248,7 +267,7 @@ impl<'s, M: Process> Stage<'s, M> {
             → left < length (all_of (map (λ b. b.part.items) ran.berths.items)) }
     {
         let inboxes = ran.mailboxes.into_inboxes(alloc, ran.slips)?;
-        let (berths, parts, emptied) = hand_over(rt, alloc, ran.berths, inboxes)?;
+        let (berths, parts, emptied) = hand_over(rt, alloc, ran.berths, inboxes, rooms)?;
         let Some(made) = count_within(&parts, left) else {
             return Err(RunError::Limit);
         };

@@ -229,7 +229,8 @@ fn run_all<M: Process, G: Gate, C: Chore, R: Threads + Wait + Sync>(
 }
 
 /// Runs the next window of a stage, as [`run_window`] does, but answers its parts, which aren't merged yet. The starter
-/// does its chore meanwhile, unless the window was refused before a worker began.
+/// does its chore meanwhile, unless the window was refused before a worker began. The next window's parts may lie in
+/// these rooms.
 ///
 /// # Errors
 ///
@@ -241,6 +242,7 @@ pub(crate) fn run_parts<M: Process, G: Gate, C: Chore, R: Threads + Wait + Sync>
     plan: &Plan,
     gate: &G,
     chore: &mut C,
+    rooms: &mut Vec<Vec<Entry>>,
 ) -> Result<Vec<Vec<Entry>>, RunError>
     requires stage { IsStage M.mind stage.old }
     requires plan { IsPlanFor stage.old.scenario.now plan.now }
@@ -278,7 +280,7 @@ pub(crate) fn run_parts<M: Process, G: Gate, C: Chore, R: Threads + Wait + Sync>
         workers,
     };
     let ran = run_all(rt, &crew, mailboxes, &window, berths, chore)?;
-    stage.close(rt, alloc, ran, left)
+    stage.close(rt, alloc, ran, left, rooms)
 }
 
 /// Runs the next window of a stage. The smaller of the plan's workers and the number of processes with an event below
@@ -314,6 +316,7 @@ pub fn run_window<M: Process, G: Gate, R: Threads + Wait + Sync>(
     ensures limit { IsErrOf result RunError.Limit → (whole : List EntryRecord)
         → IsTrace (setting_of stage.old.scenario.now) whole → stage.old.scenario.now.limit < length whole }
 {
-    let parts = run_parts(rt, alloc, stage, plan, gate, &mut ())?;
+    let mut rooms = Vec::new(alloc);
+    let parts = run_parts(rt, alloc, stage, plan, gate, &mut (), &mut rooms)?;
     merge(alloc, parts)
 }

@@ -15,4 +15,6 @@ module _ {K : Type 0} (took took_front : K → List EntryRecord → K → Type 0
 
 pub returns-clause-handed : goal.returns-clause-handed
 returns-clause-handed g c =
-    told_beside g.K.Sink.took g.K.Sink.took_front g.K.Sink.failed c.args.handing.now c.run_parts.new.chore c.run_parts.ensures.chore c.requires.told c.requires.waiting
+    let was = c.args.handing.now in
+    let begun : Handing _ = record { left = record { parts = was.left.parts; rooms = c.replace-rooms.new.dest; told = was.left.told }; sink = was.sink } in
+    told_beside g.K.Sink.took g.K.Sink.took_front g.K.Sink.failed begun c.run_parts.new.chore c.run_parts.ensures.chore c.requires.told c.requires.waiting

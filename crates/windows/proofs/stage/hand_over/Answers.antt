@@ -53,7 +53,7 @@ loop-berth-preserved g c =
       seats = map_turn seat_of seat_of done after new rest left old _ more e refl i.seats;
       pending = given (map pending_of done) (map pending_of after) (map pending_of rest) (map pending_of left) _ boxes later old.pending new.pending inbox
           (ap (map pending_of) more ∙ map-append pending_of done (new ∷ [])) (ap (map pending_of) e) f c.in_ok-deliver.ensures.joined i.pending;
-      empty = All-same (λ (b : Berth _). b.part.items ≡ []) after (done ++ new ∷ []) more (All-push (λ (b : Berth _). b.part.items ≡ []) done new i.empty (ap items_of c.replace.ensures.after ∙ c.in_ok-next.ensures.items));
+      empty = All-same (λ (b : Berth _). b.part.items ≡ []) after (done ++ new ∷ []) more (All-push (λ (b : Berth _). b.part.items ≡ []) done new i.empty (ap items_of c.replace.ensures.after ∙ c.in_ok-next.ensures));
       parts = map_turn items_of (λ (z : Berth _). z.part.items) c.loop-berth.parts.items _ _ rest left old _ c.in_ok-push.ensures.items e (ap items_of c.replace.ensures.value) i.parts;
       same = omega (arith, ap length e, ap length f, i.same);
       one = All-tail AreOne inbox later (subst (All AreOne) f i.one);

@@ -27,7 +27,7 @@ loop-at-preserved c =
     let goes : IsPermutation (merged ++ rests v.items) (to ++ rests new) = subst (λ ls. IsPermutation (merged ++ rests ls) (to ++ rests new)) c.deref_mut.ensures.value call.same in
     let before = subst (λ o. MatchOption o (rests v.items ≡ []) (λ t. All (λ e. e.key.tick < t) merged)) c.in-Some.is h.before in
     let early = call.early (All-weaker (λ e. e.key.tick < tick) (λ e. e.key.tick ≤ tick) (λ e low. omega (arith, low)) merged before) in
-    subst (λ es. record {same : IsPermutation (all_of c.args.self) (to ++ es); ahead : Ahead to es; before : MatchOption c.in_ok-at.at (es ≡ []) (λ t. All (λ e. e.key.tick < t) to)}) (sym is) (record {
+    subst (λ es. record { same : IsPermutation (all_of c.args.self) (to ++ es); ahead : Ahead to es; before : MatchOption c.in_ok-at.at (es ≡ []) (λ t. All (λ e. e.key.tick < t) to) }) (sym is) (record {
       same = IsPermutation-trans _ _ _ h.same goes;
       ahead = taken_ahead tick to (rests new) early call.late;
       before = taken_before tick (rests new ≡ []) c.in_ok-at.at to call.later early;
@@ -36,11 +36,13 @@ loop-at-preserved c =
 pub invariant_of-rest : goal.invariant_of-rest
 invariant_of-rest c =
     let differ = subst (λ ls. AllDiffer (all_of ls)) c.self.view_is c.self.invariant.0 in
-    let h = c.loop-at.invariant in
-    (rest_differ c.args.self (map rest_of c.loop-at.lanes.items) c.loop-at.merged.entries.items differ h.same, λ none. elim c.match-at.branch [
-      | in-Some+then-len-least w ↦ absurd (none-some w.in-Some.tick (sym none ∙ w.at-is))
-      | in_default w ↦ subst (λ o. MatchOption o (rests c.loop-at.lanes.items ≡ []) (λ t. All (λ e. e.key.tick < t) c.loop-at.merged.entries.items)) w.in_default.is h.before
-    ])
+    let h = c.loop-at.invariant in (
+      rest_differ c.args.self (map rest_of c.loop-at.lanes.items) c.loop-at.merged.entries.items differ h.same,
+      λ none. elim c.match-at.branch [
+        | in-Some+then-len-least w ↦ absurd (none-some w.in-Some.tick (sym none ∙ w.at-is))
+        | in_default w ↦ subst (λ o. MatchOption o (rests c.loop-at.lanes.items ≡ []) (λ t. All (λ e. e.key.tick < t) c.loop-at.merged.entries.items)) w.in_default.is h.before
+      ],
+    )
 
 pub returns-clause-front : goal.returns-clause-front
 returns-clause-front c =
