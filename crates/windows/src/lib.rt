@@ -39,6 +39,7 @@
 mod agenda;
 mod berth;
 mod chore;
+mod done;
 mod error;
 mod gate;
 mod gather;

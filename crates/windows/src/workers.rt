@@ -13,6 +13,7 @@ ghost use Rattle.windows.specs.Inside.Workers.{IsReady};
 
 use crate::berth::{Berth, run_into};
 use crate::chore::Chore;
+use crate::done::Done;
 use crate::gate::Gate;
 use crate::shared::Shared;
 use deques::Hand;
@@ -61,20 +62,21 @@ pub(crate) fn run_taken<M: Process, G: Gate, R: Wait>(
     mut berth: Berth<M>,
     slip: &mut Slip,
     tray: &mut Tray,
-    done: &mut Vec<Berth<M>>,
+    done: &mut Done<M>,
 ) -> Result<(), RunError>
     requires ready { IsReady M.mind shared.now.window.now.streams berth }
     requires posting { ArePosting shared.now.mailboxes.now slip.old tray.old }
 
     ensures posting { OnOk result (ArePosting shared.now.mailboxes.now slip.new tray.new) }
     ensures ran { OnOk result (RunsOneMore M.mind shared.now berth (with_lists slip.old tray.old)
-        (with_lists slip.new tray.new) done.old.items done.new.items) }
+        (with_lists slip.new tray.new) done.old.berths.items done.new.berths.items) }
     ensures errors { IfErr result IsRefusalOfOne }
     ensures limit { IsErrOf result RunError.Limit → IsLong M.mind shared.now.window.now.streams
         shared.now.window.now.end shared.now.window.now.left berth }
 {
     shared.gate.entered(rt, worker, berth.pid());
     let window = shared.window;
+    done.lend(&mut berth);
     run_into(
         rt,
         &mut berth,
@@ -116,7 +118,7 @@ pub(crate) fn run_berths<M: Process, G: Gate, R: Wait>(
     let Start { mut hand, mut slip } = start;
     let mut tray = slip.tray()?;
     let first = first_receiver(worker, shared.fronts.len(), tray.receivers());
-    let mut done = Vec::new(shared.alloc);
+    let mut done = Done::new(shared.alloc);
     for _ in rt.forever() {
         let Some(berth) = hand.take(rt, shared.fronts) else {
             break;
@@ -125,7 +127,11 @@ pub(crate) fn run_berths<M: Process, G: Gate, R: Wait>(
     }
     shared.mailboxes.post_all(rt, &mut slip, &mut tray, first)?;
     slip.keep(tray);
-    Ok(Work { hand, slip, done })
+    Ok(Work {
+        hand,
+        slip,
+        done: done.into_berths(),
+    })
 }
 
 // What a worker's result keeps: it is its work, or the reason why there is none.
