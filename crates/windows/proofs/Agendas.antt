@@ -71,10 +71,11 @@ tick_of_letters [] = refl
 tick_of_letters (x ∷ xs) = ap (earlier_of (Some x.key.tick)) (tick_of_letters xs)
 
 -- sets without a least tick are the same
-pub none_same : (m n : Events) (a b : Option ℕ) → MatchOption a (IsEmpty m) (λ t. IsLeastTick m t) → MatchOption b (IsEmpty n) (λ t. IsLeastTick n t) → is_some a ≡ false → is_some b ≡ false → m ≡ n
-none_same m n None None none none' e f = same_events m n (λ k y h. absurd (none k y h)) (λ k y h. absurd (none' k y h))
-none_same m n (Some a) b is is' e f = cc
-none_same m n None (Some b) is is' e f = cc
+pub none_same : (m n : Events) (a b : Option ℕ) → MatchOption a (IsEmpty m) (λ t. IsLeastTick m t) → MatchOption b (IsEmpty n) (λ t. IsLeastTick n t) → is_some (earlier_of a b) ≡ false → m ≡ n
+none_same m n None None none none' e = same_events m n (λ k y h. absurd (none k y h)) (λ k y h. absurd (none' k y h))
+none_same m n None (Some b) is is' e = cc
+none_same m n (Some a) None is is' e = cc
+none_same m n (Some a) (Some b) is is' e = cc
 
 -- an event of the tick is there, and none is below it
 least_at : (m : Events) (t : ℕ) (k : Key) (y : StepInput) → Has m k y → k.tick ≡ t → ((q : Key) (z : StepInput) → Has m q z → t ≤ q.tick) → IsLeastTick m t

@@ -20,47 +20,19 @@ use std::mem::{replace, swap};
 use std::sync::Wait;
 use trace_laws::{Event, Parcel};
 
-/// A row for the events of a window, and lists that are kept for their memory: what they hold means nothing.
-#[derive(Drop)]
-pub(crate) struct Room {
-    row: Row,
-    due: Vec<Event>,
-    rest: Vec<Event>,
-}
-
-impl Room {
-    /// No event and no memory.
-    pub(crate) fn new(alloc: Global) -> Room
-        ensures { result.row ≡ events.empty }
-    {
-        Room {
-            row: Row::new(alloc),
-            due: Vec::new(alloc),
-            rest: Vec::new(alloc),
-        }
-    }
-
-    /// Takes the memory of another, and gives its own for it, where no event is in either.
-    fn trade(&mut self, other: &mut Room)
-        ensures { self.new.row ≡ self.old.row }
-    {
-        if self.row.least_tick().is_some() || other.row.least_tick().is_some() {
-            return;
-        }
-        swap(self, other);
-    }
-}
-
 /// Events in a row and in lists.
 #[derive(Drop)]
 pub(crate) struct Lists {
-    // in its row are the events below the end, in order
-    room: Room,
+    // the events below the end, in order
+    row: Row,
     end: u32,
     // the events at the end or later
     later: Vec<Event>,
     // the least tick of `later`, if there is one
     next: Option<u32>,
+    // kept for their memory: what they hold means nothing
+    due: Vec<Event>,
+    rest: Vec<Event>,
 }
 
 /// The pending events of a process. Contracts see the finite set of them.
@@ -208,10 +180,12 @@ fn no_events(alloc: Global) -> Lists
     ensures none { all_in result ≡ events.empty }
 {
     Lists {
-        room: Room::new(alloc),
+        row: Row::new(alloc),
         end: 0,
         later: Vec::new(alloc),
         next: None,
+        due: Vec::new(alloc),
+        rest: Vec::new(alloc),
     }
 }
 
@@ -237,22 +211,19 @@ fn part<R: Wait>(
     ensures parted { IfOk result (λ new. new.0.end ≡ end) }
     ensures empty { IfOk result (λ new. in_box new.1 ≡ []) }
 {
-    let Room { mut row, due, rest } = lists.room;
+    let mut row = lists.row;
     let mut events = take_events(&mut row, lists.later)?;
-    let mut parted = Parted::new(end, due, rest);
+    let mut parted = Parted::new(end, lists.due, lists.rest);
     parted.file_events(&mut events)?;
     let inbox = parted.file_inbox(rt, inbox)?;
     row.fill(&mut parted.due)?;
-    let room = Room {
-        row,
-        due: parted.due,
-        rest: events,
-    };
     let lists = Lists {
-        room,
+        row,
         end,
         later: parted.later,
         next: parted.next,
+        due: parted.due,
+        rest: events,
     };
     Ok((lists, inbox))
 }
@@ -297,12 +268,21 @@ fn join(lists: &mut Lists, event: Event) -> Result<(), AllocError>
 {
     let tick = event.key().tick;
     if tick < lists.end {
-        lists.room.row.join(event)?;
+        lists.row.join(event)?;
         return Ok(());
     }
     lists.later.push(event)?;
     lists.next = earlier(lists.next, Some(tick));
     Ok(())
+}
+
+/// Two rows change places, where no event is in either.
+fn swap_empty(one: &mut Row, other: &mut Row)
+    ensures { (one.new ≡ one.old) × (other.new ≡ other.old) }
+{
+    if earlier(one.least_tick(), other.least_tick()).is_none() {
+        swap(one, other);
+    }
 }
 
 impl Agenda {
@@ -349,16 +329,21 @@ impl Agenda {
     {
         let Inner { lists, inbox } = &*self.inner;
         earlier(
-            earlier(lists.room.row.least_tick(), lists.next),
+            earlier(lists.row.least_tick(), lists.next),
             soonest_of(inbox),
         )
     }
 
-    /// Trades its memory for the events of a window for a room's, where none of these events is left.
-    pub(crate) fn swap_room(&mut self, room: &mut Room)
-        ensures { self.new ≡ self.old }
+    /// Trades the memory for the events of a window with another process. Rows with events stay.
+    pub(crate) fn swap_memory(&mut self, other: &mut Agenda)
+        ensures own { self.new ≡ self.old }
+        ensures other { other.new ≡ other.old }
     {
-        self.inner.lists.room.trade(room);
+        let mine = &mut self.inner.lists;
+        let its = &mut other.inner.lists;
+        swap_empty(&mut mine.row, &mut its.row);
+        swap(&mut mine.due, &mut its.due);
+        swap(&mut mine.rest, &mut its.rest);
     }
 
     /// Takes the least event, where it is below a tick. Where memory is refused all may be gone.
@@ -374,6 +359,6 @@ impl Agenda {
     {
         let inner = &mut *self.inner;
         settle(rt, &mut inner.lists, &mut inner.inbox, end)?;
-        Ok(inner.lists.room.row.take_least())
+        Ok(inner.lists.row.take_least())
     }
 }

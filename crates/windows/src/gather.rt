@@ -9,7 +9,6 @@ ghost use Rattle.windows.specs.Inside.Shared.{AreReady, IsOneTooLong, IsRestIn};
 ghost use Rattle.windows.specs.Inside.Workers.{IsFresh, BringsTogether};
 
 use crate::berth::Berth;
-use crate::done::Done;
 use crate::gate::Gate;
 use crate::shared::Shared;
 use crate::workers::{Start, Work, run_taken};
@@ -114,7 +113,7 @@ pub(crate) fn run_rest<M: Process, G: Gate, R: Wait>(
     ensures limit { IsErrOf result RunError.Limit
         → IsOneTooLong M.mind shared.now.window.now (all_put rest.old.own) }
 {
-    let mut done = Done::new(shared.alloc);
+    let mut done = Vec::new(shared.alloc);
     let mut tray = slip.tray()?;
     for _ in rt.forever() {
         let Some(berth) = rest.take_last() else {
@@ -124,5 +123,5 @@ pub(crate) fn run_rest<M: Process, G: Gate, R: Wait>(
     }
     shared.mailboxes.post_all(rt, &mut slip, &mut tray, 0)?;
     slip.keep(tray);
-    Ok((done.into_berths(), slip))
+    Ok((done, slip))
 }

@@ -13,7 +13,6 @@ ghost use Rattle.windows.specs.Inside.Workers.{IsReady};
 
 use crate::berth::{Berth, run_into};
 use crate::chore::Chore;
-use crate::done::Done;
 use crate::gate::Gate;
 use crate::shared::Shared;
 use deques::Hand;
@@ -49,6 +48,19 @@ pub(crate) struct Work<M> {
     pub done: Vec<Berth<M>>,
 }
 
+/// A process trades memory with the first that the worker ran, if there is one. It does so before it runs and after
+/// that, so that all of a worker's processes have their events of the window in one memory, which stays near its
+/// processor. In the next window the worker often begins with the same process.
+fn swap_memory<M>(done: &mut Vec<Berth<M>>, berth: &mut Berth<M>)
+    ensures done { done.new.items ≡ done.old.items }
+    ensures berth { berth.new ≡ berth.old }
+{
+    if done.is_empty() {
+        return;
+    }
+    done[0].pending.swap_memory(&mut berth.pending);
+}
+
 /// Tells the gate of a berth that worker `worker` has taken, runs it, and adds it to those that are done.
 ///
 /// # Errors
@@ -62,21 +74,21 @@ pub(crate) fn run_taken<M: Process, G: Gate, R: Wait>(
     mut berth: Berth<M>,
     slip: &mut Slip,
     tray: &mut Tray,
-    done: &mut Done<M>,
+    done: &mut Vec<Berth<M>>,
 ) -> Result<(), RunError>
     requires ready { IsReady M.mind shared.now.window.now.streams berth }
     requires posting { ArePosting shared.now.mailboxes.now slip.old tray.old }
 
     ensures posting { OnOk result (ArePosting shared.now.mailboxes.now slip.new tray.new) }
     ensures ran { OnOk result (RunsOneMore M.mind shared.now berth (with_lists slip.old tray.old)
-        (with_lists slip.new tray.new) done.old.berths.items done.new.berths.items) }
+        (with_lists slip.new tray.new) done.old.items done.new.items) }
     ensures errors { IfErr result IsRefusalOfOne }
     ensures limit { IsErrOf result RunError.Limit → IsLong M.mind shared.now.window.now.streams
         shared.now.window.now.end shared.now.window.now.left berth }
 {
     shared.gate.entered(rt, worker, berth.pid());
     let window = shared.window;
-    done.lend(&mut berth);
+    swap_memory(done, &mut berth);
     run_into(
         rt,
         &mut berth,
@@ -85,6 +97,7 @@ pub(crate) fn run_taken<M: Process, G: Gate, R: Wait>(
         tray,
         window.left,
     )?;
+    swap_memory(done, &mut berth);
     let many = berth.part.len() >= MANY_ENTRIES;
     done.push(berth)?;
     if !many {
@@ -118,7 +131,7 @@ pub(crate) fn run_berths<M: Process, G: Gate, R: Wait>(
     let Start { mut hand, mut slip } = start;
     let mut tray = slip.tray()?;
     let first = first_receiver(worker, shared.fronts.len(), tray.receivers());
-    let mut done = Done::new(shared.alloc);
+    let mut done = Vec::new(shared.alloc);
     for _ in rt.forever() {
         let Some(berth) = hand.take(rt, shared.fronts) else {
             break;
@@ -127,11 +140,7 @@ pub(crate) fn run_berths<M: Process, G: Gate, R: Wait>(
     }
     shared.mailboxes.post_all(rt, &mut slip, &mut tray, first)?;
     slip.keep(tray);
-    Ok(Work {
-        hand,
-        slip,
-        done: done.into_berths(),
-    })
+    Ok(Work { hand, slip, done })
 }
 
 // What a worker's result keeps: it is its work, or the reason why there is none.

@@ -23,7 +23,7 @@ abbrev pub AreFrom : ℕ → List Event → Type 0
 AreFrom tick es = AllByRecursion (λ e. tick ≤ e.0.tick) es
 
 abbrev pub all_in : Lists → Events
-all_in a = joined a.room.row a.later.items
+all_in a = joined a.row a.later.items
 
 -- the letters of an inbox, if there is one
 abbrev pub in_box : Option (List Letter) → List Letter
@@ -40,7 +40,7 @@ AreOne letters = (x y : Letter) → IsIn x letters → IsIn y letters → x.key 
 
 -- in the row are events below the end, and others wait
 pub record AreLists (a : Lists) : Type 0 where
-  pub below : (key : Key) (input : StepInput) → Has a.room.row key input → key.tick < a.end
+  pub below : (key : Key) (input : StepInput) → Has a.row key input → key.tick < a.end
   pub from : AreFrom a.end a.later.items
   pub next : a.next ≡ first_tick a.later.items
 

@@ -8,13 +8,13 @@ early c = omega (arith, ap (λ k. k.tick) c.key-tick.ensures, c.if-tick-lists.tr
 pub returns-then-tick-lists-clause-lists : goal.returns-then-tick-lists-clause-lists
 returns-then-tick-lists-clause-lists c =
     let a = c.args.lists.now in
-    record { below = λ k y there. of_joined a.room.row (c.args.event ∷ []) (λ q. q.tick < a.end) c.requires.below (early c, tt) k y (subst (λ m. Has m k y) c.in_ok-join.ensures.ok there); from = c.requires.from; next = c.requires.next }
+    record { below = λ k y there. of_joined a.row (c.args.event ∷ []) (λ q. q.tick < a.end) c.requires.below (early c, tt) k y (subst (λ m. Has m k y) c.in_ok-join.ensures.ok there); from = c.requires.from; next = c.requires.next }
 
 pub returns-then-tick-lists-clause-joined : goal.returns-then-tick-lists-clause-joined
 returns-then-tick-lists-clause-joined c =
     let a = c.args.lists.now in
     let e : Event = c.args.event in
-    ap (λ m. joined m a.later.items) c.in_ok-join.ensures.ok ∙ insert_past a.room.row a.later.items a.end c.requires.from e.0 (early c) e.1
+    ap (λ m. joined m a.later.items) c.in_ok-join.ensures.ok ∙ insert_past a.row a.later.items a.end c.requires.from e.0 (early c) e.1
 
 pub returns-clause-lists : goal.returns-clause-lists
 returns-clause-lists c =
@@ -32,4 +32,4 @@ pub returns-clause-joined : goal.returns-clause-joined
 returns-clause-joined c =
     let a = c.args.lists.now in
     let e : Event = c.args.event in
-    ap (joined a.room.row) c.in_ok-push.ensures.items ∙ joined_one a.room.row a.later.items e
+    ap (joined a.row) c.in_ok-push.ensures.items ∙ joined_one a.row a.later.items e

@@ -1,4 +1,4 @@
-use Rattle.windows.proofs.Words.{rules, ◌≡◌, ◌++◌, ◌∷◌, [], refl, sym, ap, ◌∙◌, subst, List, append_assoc, append-nil, Contains, IsPermutation, All-contains, IsPermutation-refl, IsPermutation-trans, IsPermutation-append_left, RestView, all_put, SlipView, IsReady, AreRunBy, Berth}
+use Rattle.windows.proofs.Words.{rules, ◌≡◌, ◌++◌, ◌∷◌, [], refl, sym, ap, ◌∙◌, subst, append_assoc, append-nil, Contains, IsPermutation, All-contains, IsPermutation-refl, IsPermutation-trans, IsPermutation-append_left, RestView, all_put, SlipView, IsReady, AreRunBy}
 use Rattle.windows.proofs.Posting.{posting_opens}
 use Rattle.windows.proofs.Gathered.{run_begins}
 use Rattle.windows.proofs.gather.run_rest.Goals as goal
@@ -10,7 +10,7 @@ loop-init g c =
     let old = c.args.rest.now.taken in
     let begins = posting_opens _ _ _ (ap (λ (s : SlipView). s.mailboxes) c.requires.slip) c.in_ok-tray.ensures.fits c.in_ok-tray.ensures.empty _ c.in_ok-tray.ensures.slip in (
       [],
-      run_begins g.M.Process.mind w.window.now.streams w.window.now.end w.mailboxes.now [] _ _ refl (begins.1 ∙ c.requires.slip) c.new-done.ensures,
+      run_begins g.M.Process.mind w.window.now.streams w.window.now.end w.mailboxes.now [] _ _ refl (begins.1 ∙ c.requires.slip) c.new-done.ensures.items,
       begins.0,
       refl,
       c.requires.out,
@@ -53,8 +53,7 @@ returns-clause-rest g c =
           let last : c.match-next.rest ≡ c.loop.rest = w.rest-is ∙ w.in_default.ensures.0 in
           record {
             rest = inv.0;
-            run = subst (λ (p : SlipView × List (Berth _)). AreRunBy g.M.Process.mind c.args.shared.now.window.now.streams c.args.shared.now.window.now.end c.args.shared.now.mailboxes.now inv.0 p.0 p.1)
-                (λ i. (sym (c.keep.ensures ∙ c.in_ok-post_all.ensures.ok) i, sym c.into_berths.ensures i)) inv.1;
+            run = subst (λ s. AreRunBy g.M.Process.mind c.args.shared.now.window.now.streams c.args.shared.now.window.now.end c.args.shared.now.mailboxes.now inv.0 s c.loop.done.items) (sym (c.keep.ensures ∙ c.in_ok-post_all.ensures.ok)) inv.1;
             taken = subst (λ (r : RestView _). IsPermutation (c.args.rest.now.taken ++ inv.0) r.taken) (sym last) inv.5;
             same = subst (λ l. IsPermutation (all_put l) c.match-next.rest.taken) inv.3
                 (subst (λ (r : RestView _). IsPermutation (all_put c.loop.rest.own) r.taken) (sym last) w.in_default.ensures.1);

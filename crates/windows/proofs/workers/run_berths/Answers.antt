@@ -1,4 +1,4 @@
-use Rattle.windows.proofs.Words.{IfOk-from_err, rules, ◌≡◌, refl, sym, ap, ◌∙◌, subst, List, Contains, All-contains, HandView, SlipView, IsWorkBy, IsReady, Berth}
+use Rattle.windows.proofs.Words.{IfOk-from_err, rules, ◌≡◌, refl, sym, ap, ◌∙◌, subst, Contains, All-contains, HandView, SlipView, IsWorkBy, IsReady, Berth}
 use Rattle.windows.proofs.Posting.{posting_opens}
 use Rattle.windows.proofs.Gathered.{work_begins, work_more}
 use Rattle.windows.proofs.Refused.{memory_alone, not_err}
@@ -10,7 +10,7 @@ loop-init g c =
     let w = c.args.shared.now in
     let fresh = c.requires.0 in
     let begins = posting_opens _ _ _ (ap (λ (s : SlipView). s.mailboxes) fresh.none_posted) c.in_ok-tray.ensures.fits c.in_ok-tray.ensures.empty _ c.in_ok-tray.ensures.slip in (
-      subst (λ s. IsWorkBy g.M.Process.mind w c.args.start.hand s c.new-done.result.berths.items) (sym begins.1) (work_begins g.M.Process.mind w.window.now.streams w.window.now.end w.mailboxes.now w.fronts.now.items _ _ _ fresh c.new-done.ensures),
+      subst (λ s. IsWorkBy g.M.Process.mind w c.args.start.hand s c.new-done.result.items) (sym begins.1) (work_begins g.M.Process.mind w.window.now.streams w.window.now.end w.mailboxes.now w.fronts.now.items _ _ _ fresh c.new-done.ensures.items),
       begins.0,
       refl,
       refl,
@@ -40,7 +40,7 @@ returns g c =
           let same : c.match-next.hand ≡ c.loop.hand = w.hand-is ∙ w.in_default.ensures in
           record {
             own = ap (λ (h : HandView (Berth _)). h.own) same ∙ c.loop.invariant.3;
-            work = subst (λ (p : HandView (Berth _) × SlipView × List (Berth _)). IsWorkBy g.M.Process.mind c.args.shared.now p.0 p.1 p.2) (λ i. (sym same i, sym (c.keep.ensures ∙ c.in_ok-post_all.ensures.ok) i, sym c.into_berths.ensures i)) c.loop.invariant.0;
+            work = subst (λ (p : HandView (Berth _) × SlipView). IsWorkBy g.M.Process.mind c.args.shared.now p.0 p.1 c.loop.done.items) (λ i. (sym same i, sym (c.keep.ensures ∙ c.in_ok-post_all.ensures.ok) i)) c.loop.invariant.0;
             errors = tt;
             limit = λ is. absurd (not_err _ _ is);
           }

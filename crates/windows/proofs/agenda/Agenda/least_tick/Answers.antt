@@ -11,7 +11,7 @@ returns c =
     let i = c.deref.result.now in
     let a = i.lists in
     let xs = in_box i.inbox in
-    let least = least_joined (map event_of xs) (all_in a) _ (least_joined a.later.items a.room.row _ c.least_tick.ensures) in
+    let least = least_joined (map event_of xs) (all_in a) _ (least_joined a.later.items a.row _ c.least_tick.ensures) in
     let is = c.earlier-2.ensures
     ∙ (λ i. earlier_of ((c.earlier.ensures ∙ ap (earlier_of c.least_tick.result) (are_inside _ _ c.deref.ensures c.self.invariant).0.next) i) ((c.soonest_of.ensures ∙ sym (tick_of_letters xs)) i)) in
     subst (λ m. IsLeastOf m c.earlier-2.result) (all_inside _ _ c.deref.ensures ∙ c.self.view_is) (subst (IsLeastOf (all_ahead a i.inbox)) (sym is) least)
