@@ -1,7 +1,7 @@
 -- Events in a row and events that wait, as one set.
-use Rattle.windows.proofs.Words.{◌≡◌, ◌≢◌, ◌⊎◌, ◌≤◌, ◌<◌, ℕ, ◌+◌, inl, inr, refl, sym, ap, ◌∙◌, subst, List, [], ◌∷◌, ◌++◌, map, append_assoc, min, arith, Less, Option, Some, None, MatchOption, AllByRecursion, IsPermutation, cases_lt, Contains-permutation, IsPermutation-sym, key_cmp, Key, Letter, StepInput, keys_total, exact_keys, same_or_not, ticks_rise, weaker, IsIn, IsEmpty, IsLeastTick, Event, Events, Has, IsLeast, NoneBelow, joined, joined_one, least_below, insert_at, insert_other, joined_cases, one_input, remove_at, remove_other, removed, same_events, event_of, earlier_of, soonest_in, in_map, joined_back, map_in, AreFrom, AreLists, AreOne, all_ahead, in_box, All, All-push, before_or_not, not_None, in_left, in_right, IsNextStart, first_tick}
+use Rattle.windows.proofs.Words.{◌≡◌, ◌≢◌, ◌⊎◌, ◌≤◌, ◌<◌, ℕ, ◌+◌, inl, inr, refl, sym, ap, ◌∙◌, subst, List, [], ◌∷◌, ◌++◌, map, append_assoc, min, arith, false, Less, Option, Some, None, MatchOption, AllByRecursion, IsPermutation, cases_lt, Contains-permutation, IsPermutation-sym, key_cmp, Key, Letter, StepInput, keys_total, exact_keys, same_or_not, ticks_rise, weaker, IsIn, IsEmpty, IsLeastTick, Event, Events, Has, IsLeast, NoneBelow, joined, joined_one, least_below, insert_at, insert_other, joined_cases, one_input, remove_at, remove_other, removed, same_events, event_of, earlier_of, soonest_in, in_map, joined_back, map_in, AreFrom, AreLists, AreOne, all_ahead, in_box, All, All-push, before_or_not, not_None, in_left, in_right, IsNextStart, first_tick}
 use Rattle.std.specs.FinMap as events
-use Rattle.std.specs.Option.{option_or}
+use Rattle.std.specs.Option.{is_some, option_or}
 use Rattle.pending_events.specs.Inside.Buckets.{latest}
 use Rattle.pending_events.proofs.Falling.{none_latest}
 use Rattle.pending_events.proofs.Rows.{get_joined}
@@ -69,6 +69,13 @@ tick_more (x ∷ es) e = ap (earlier_of (Some x.0.tick)) (tick_more es e) ∙ ea
 pub tick_of_letters : (xs : List Letter) → first_tick (map event_of xs) ≡ soonest_in xs
 tick_of_letters [] = refl
 tick_of_letters (x ∷ xs) = ap (earlier_of (Some x.key.tick)) (tick_of_letters xs)
+
+-- sets without a least tick are the same
+pub none_same : (m n : Events) (a b : Option ℕ) → MatchOption a (IsEmpty m) (λ t. IsLeastTick m t) → MatchOption b (IsEmpty n) (λ t. IsLeastTick n t) → is_some (earlier_of a b) ≡ false → m ≡ n
+none_same m n None None none none' e = same_events m n (λ k y h. absurd (none k y h)) (λ k y h. absurd (none' k y h))
+none_same m n None (Some b) is is' e = cc
+none_same m n (Some a) None is is' e = cc
+none_same m n (Some a) (Some b) is is' e = cc
 
 -- an event of the tick is there, and none is below it
 least_at : (m : Events) (t : ℕ) (k : Key) (y : StepInput) → Has m k y → k.tick ≡ t → ((q : Key) (z : StepInput) → Has m q z → t ≤ q.tick) → IsLeastTick m t

@@ -16,7 +16,7 @@ use pending_events::Row;
 use process_api::{Key, Pid, StepInput};
 use std::alloc::{AllocError, Global};
 use std::marker::Model;
-use std::mem::replace;
+use std::mem::{replace, swap};
 use std::sync::Wait;
 use trace_laws::{Event, Parcel};
 
@@ -276,6 +276,15 @@ fn join(lists: &mut Lists, event: Event) -> Result<(), AllocError>
     Ok(())
 }
 
+/// Two rows change places, where no event is in either.
+fn swap_empty(one: &mut Row, other: &mut Row)
+    ensures { (one.new ≡ one.old) × (other.new ≡ other.old) }
+{
+    if earlier(one.least_tick(), other.least_tick()).is_none() {
+        swap(one, other);
+    }
+}
+
 impl Agenda {
     /// The start of a process, alone.
     pub(crate) fn new(alloc: Global, p: Pid) -> Result<Agenda, AllocError>
@@ -323,6 +332,18 @@ impl Agenda {
             earlier(lists.row.least_tick(), lists.next),
             soonest_of(inbox),
         )
+    }
+
+    /// Trades the memory for the events of a window with another process. Rows with events stay.
+    pub(crate) fn swap_memory(&mut self, other: &mut Agenda)
+        ensures own { self.new ≡ self.old }
+        ensures other { other.new ≡ other.old }
+    {
+        let mine = &mut self.inner.lists;
+        let its = &mut other.inner.lists;
+        swap_empty(&mut mine.row, &mut its.row);
+        swap(&mut mine.due, &mut its.due);
+        swap(&mut mine.rest, &mut its.rest);
     }
 
     /// Takes the least event, where it is below a tick. Where memory is refused all may be gone.

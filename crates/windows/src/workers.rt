@@ -48,6 +48,19 @@ pub(crate) struct Work<M> {
     pub done: Vec<Berth<M>>,
 }
 
+/// A process trades memory with the first that the worker ran, if there is one. It does so before it runs and after
+/// that, so that all of a worker's processes have their events of the window in one memory, which stays near its
+/// processor. In the next window the worker often begins with the same process.
+fn swap_memory<M>(done: &mut Vec<Berth<M>>, berth: &mut Berth<M>)
+    ensures done { done.new.items ≡ done.old.items }
+    ensures berth { berth.new ≡ berth.old }
+{
+    if done.is_empty() {
+        return;
+    }
+    done[0].pending.swap_memory(&mut berth.pending);
+}
+
 /// Tells the gate of a berth that worker `worker` has taken, runs it, and adds it to those that are done.
 ///
 /// # Errors
@@ -75,6 +88,7 @@ pub(crate) fn run_taken<M: Process, G: Gate, R: Wait>(
 {
     shared.gate.entered(rt, worker, berth.pid());
     let window = shared.window;
+    swap_memory(done, &mut berth);
     run_into(
         rt,
         &mut berth,
@@ -83,6 +97,7 @@ pub(crate) fn run_taken<M: Process, G: Gate, R: Wait>(
         tray,
         window.left,
     )?;
+    swap_memory(done, &mut berth);
     let many = berth.part.len() >= MANY_ENTRIES;
     done.push(berth)?;
     if !many {

@@ -1,4 +1,4 @@
-use Rattle.mailboxes.proofs.Words.{◌≡◌, ◌++◌, [], length, map, replicate, sym, ap, ◌∙◌, arith, length-map, letters_in}
+use Rattle.mailboxes.proofs.Words.{◌++◌, length, map, sym, ap, ◌∙◌, arith, length-map, letters_in}
 use Rattle.ledger.specs.Places.{each_with}
 use Rattle.mailboxes.proofs.Homes.{posted_by, items_of}
 use Rattle.mailboxes.proofs.Rows.{all_empty, with_nothing}
