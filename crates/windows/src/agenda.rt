@@ -118,6 +118,7 @@ impl Parted {
     }
 
     /// One more event.
+    #[inline(always)]
     fn file(&mut self, event: Event) -> Result<(), AllocError>
         ensures { OnOk result ((end : ℕ) (es : List EventPair)
             → IsParted end es self.old → IsParted end (es ++ event ∷ []) self.new) }
