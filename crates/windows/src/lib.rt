@@ -17,12 +17,11 @@
 //! workers, each a thread. A worker takes a berth, tells the [`Gate`], and runs it to the window's end as [`run_berth`]
 //! does, but for the letters: they wait in the worker's tray until it has run its last berth, or one with many entries.
 //! It pops its own deque. When that is empty it steals from the others, the next one first, until it has found each of
-//! them empty. The berths that it runs share one memory for their events of the window. When all workers are joined,
-//! the starter takes what is left in the deques. Then each process gets its mailbox as it is: the worker that runs the
-//! process next empties it. Where several refusals are met, that of a thread is answered before that of memory, and
-//! this before that of a place in the trace. The next window opens at the least pending tick. The starter merges the
-//! parts of a window and hands them to a [`Sink`], few entries at once, and others while the workers of the next window
-//! run.
+//! them empty. Its berths share one memory for the window's events. When all workers are joined, the starter takes what
+//! is left in the deques. Then each process gets its mailbox as it is: the worker that runs the process next empties
+//! it. Where several refusals are met, that of a thread is answered before that of memory, and this before that of a
+//! place in the trace. The next window opens at the least pending tick. The starter merges the parts of a window and
+//! hands them to a [`Sink`], few entries at once, and others while the workers of the next window run.
 //!
 //! The crate `deques` promises that each berth comes out of the deques once. Its proof uses the ledger of each deque:
 //! counted with repetitions, the items that were put are those that all passes have taken and those that the deque
