@@ -88,7 +88,9 @@ impl Merging {
             mut at,
             left,
         } = self;
-        let entries = Vec::with_capacity(alloc, left.min(least))?;
+        // The last tick may bring more than are wanted.
+        let room = left.min(least.saturating_mul(2));
+        let entries = Vec::with_capacity(alloc, room)?;
         let rises = true;
         let mut merged = Joined { entries, rises };
         while let Some(tick) = at {
