@@ -1,10 +1,6 @@
 -- Entries that are moved from parts, tick by tick.
-use Rattle.trace_merge.proofs.Words.{◌≡◌, ◌<◌, ◌≤◌, ◌-◌, All, ℕ, suc, sym, ap, ◌∙◌, subst, List, [], ◌∷◌, ◌++◌, map, length, get_or, append_assoc, min, arith, None, Some, MatchOption, IsPermutation, unwrap_or, IsPermutation-trans, EntryRecord, Lane, all_of}
-use Rattle.std.proofs.Common.{◌^◌, zero, set, Option, Vec, Global}
-use Rattle.std.proofs.lemmas.List.{append-nil}
-use Rattle.std.proofs.lemmas.List.Sorted.{IsPermutation-append_left, IsPermutation-append_right, IsPermutation-append_comm}
+use Rattle.trace_merge.proofs.Words.{◌≡◌, ◌<◌, ◌≤◌, ◌-◌, All, ℕ, suc, sym, ap, ◌∙◌, subst, List, [], ◌∷◌, ◌++◌, map, length, get_or, append_assoc, min, arith, None, Some, MatchOption, IsPermutation, unwrap_or, IsPermutation-trans, EntryRecord, Lane, all_of, ◌^◌, zero, set, Option, Vec, Global, append-nil, IsPermutation-append_left, IsPermutation-append_right, IsPermutation-append_comm, Entry}
 use Rattle.trace_merge.proofs.Distinct.{Ahead}
-use Rattle.process_api.specs.declared.entry.Entry.{Entry}
 
 abbrev Part : Type 0
 Part = List EntryRecord

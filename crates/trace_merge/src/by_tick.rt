@@ -5,14 +5,13 @@ ghost use Rattle.trace_merge.specs.Parts.{all_of};
 
 use crate::joined::Joined;
 use process_api::{Entry, RunError};
-use std::alloc::Global;
 use std::collections::VecDeque;
 
 /// A part of which the first entries have been taken.
 #[derive(Drop)]
 pub(crate) struct Lane {
     // no entry that is left is before this tick, so that up to it the entries needn't be looked at
-    next: u32,
+    pub(crate) next: u32,
     // what is left
     pub(crate) rest: VecDeque<Entry>,
     ghost rising: { IsTrue (is_rising rest.items) },
@@ -51,7 +50,11 @@ impl Lane {
 
 /// Moves the entries up to a tick of each part, one part after the other, to the end of a list. Answers the least tick
 /// at which a part goes on, or none where all are taken.
-pub(crate) fn take_tick(merged: &mut Joined, lanes: &mut [Lane], tick: u32) -> Result<Option<u32>, RunError>
+pub(crate) fn take_tick(
+    merged: &mut Joined,
+    lanes: &mut [Lane],
+    tick: u32,
+) -> Result<Option<u32>, RunError>
     ensures same { OnOk result (IsPermutation
         (merged.old.entries.items ++ all_of (map (λ lane. lane.rest.items) lanes.old))
         (merged.new.entries.items ++ all_of (map (λ lane. lane.rest.items) lanes.new))) }
@@ -70,21 +73,4 @@ pub(crate) fn take_tick(merged: &mut Joined, lanes: &mut [Lane], tick: u32) -> R
         }
     }
     Ok(least)
-}
-
-/// The parts, ready to be taken.
-pub(crate) fn lanes_of(alloc: Global, parts: Vec<Vec<Entry>>) -> Result<Vec<Lane>, RunError>
-    requires rising { All (λ part. IsTrue (is_rising part.items)) parts.items }
-    ensures same { IfOk result (λ lanes. map (λ lane. lane.rest.items) lanes.items
-        ≡ map (λ part. part.items) parts.items) }
-    ensures err { IfErr result (λ e. e ≡ RunError.Memory) }
-{
-    let mut lanes = Vec::with_capacity(alloc, parts.len())?;
-    for part in parts {
-        lanes.push(Lane {
-            next: 0,
-            rest: part.into(),
-        })?;
-    }
-    Ok(lanes)
 }
