@@ -37,11 +37,6 @@ one_moved f from to (p ∷ ps) (suc i) d q low moved =
     let there = one_moved f from to ps i d q (omega (arith, low)) moved in
     IsPermutation-trans _ _ _ (past from (f p) _) (IsPermutation-trans _ _ _ (IsPermutation-append_right (f p) _ _ there) (past (f p) to _))
 
--- with each later tick there are fewer
-pub still_fewer : (tick : ℕ) (P : Type 0) (next : Option ℕ) → tick < 2 ^ 32 → MatchOption next P (λ t. tick < t) → still next < still (Some tick)
-still_fewer tick P None fits _ = omega (arith, fits)
-still_fewer tick P (Some t) fits h = omega (arith, fits, h)
-
 -- the least tick of two that come later
 pub later_least : (tick : ℕ) (P : Type 0) (least : Option ℕ) (next : ℕ) → MatchOption least P (λ t. tick < t) → tick < next → tick < min (unwrap_or least next) next
 later_least tick P None next _ h = omega (arith, h)
