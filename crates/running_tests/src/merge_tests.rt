@@ -54,7 +54,11 @@ fn in_pieces(rt: HostRuntime) {
         own_key(4, pid(2), 2),
     ];
     for (least, ends) in [(1, [2, 3, 5, 5]), (2, [2, 5, 5, 5]), (4, [5, 5, 5, 5])] {
-        let first = vec![in alloc; entry(alloc, keys[1]), entry(alloc, keys[2]), entry(alloc, keys[4])];
+        let first = vec![in alloc;
+            entry(alloc, keys[1]),
+            entry(alloc, keys[2]),
+            entry(alloc, keys[4]),
+        ];
         let last = vec![in alloc; entry(alloc, keys[0]), entry(alloc, keys[3])];
         let (first, last) = (first.expect(&rt, NO_MEMORY), last.expect(&rt, NO_MEMORY));
         let parts = vec![in alloc; first, last].expect(&rt, NO_MEMORY);

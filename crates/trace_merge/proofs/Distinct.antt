@@ -1,18 +1,5 @@
 -- Entries whose keys differ, and that are put in order.
-use Rattle.trace_merge.proofs.Words.{◌≡◌, ◌<◌, ◌∙◌, ℕ, suc, refl, sym, ap, Bool, true, false, IsTrue, List, [], ◌∷◌, ◌++◌, map, length, get_or, arith, is_eq, Ordering, IsPermutation, All, IsPermutation-trans, ordering_reverse, All-from_recursion, list_all-from_AllPass, key_cmp, is_less, is_before, is_rising, EntryRecord, keys_total, weaker, and_true, all_of, AreDisjoint}
-use Rattle.std.proofs.Common.{◌≢◌, ◌≤◌, is_lt, Equal}
-use Rattle.std.specs.List.{IsDistinct}
-use Rattle.std.proofs.lemmas.Bool.{false_from_ne_true}
-use Rattle.std.proofs.lemmas.Cmp.{eq_by_cmp_equiv}
-use Rattle.std.proofs.lemmas.List.Elements.{All-head, All-tail, All-weaker, recursion_from_All}
-use Rattle.std.proofs.lemmas.List.Sorted.{All-permutation, IsPermutation-append, IsPermutation-append_comm, ranks_by, sorted_far}
-use Rattle.std.proofs.lemmas.List.Folds.{list_all-append}
-use Rattle.std.proofs.lemmas.List.Sums.{AllPass-from_list_all}
-use Rattle.std.proofs.lemmas.Map.Keys.{IsDistinct-IsPermutation}
-use Rattle.process_api.proofs.KeyOrder.{before_by_tick, exact_keys}
-use Rattle.process_api.proofs.Lists.{both}
-use Rattle.process_api.proofs.Minds.{both_true}
-use Rattle.trace_merge.specs.Parts.{AllDiffer, AreApart, IsInOrder, IsMergeOf, same}
+use Rattle.trace_merge.proofs.Words.{◌≡◌, ◌<◌, ◌∙◌, ℕ, suc, refl, sym, ap, Bool, true, false, IsTrue, List, [], ◌∷◌, ◌++◌, map, length, get_or, arith, is_eq, Ordering, IsPermutation, All, IsPermutation-trans, ordering_reverse, All-from_recursion, list_all-from_AllPass, key_cmp, is_less, is_before, is_rising, EntryRecord, keys_total, weaker, and_true, all_of, AreDisjoint, ◌≢◌, ◌≤◌, is_lt, Equal, IsDistinct, false_from_ne_true, eq_by_cmp_equiv, All-append, All-head, All-tail, All-weaker, recursion_from_All, All-permutation, IsPermutation-append, IsPermutation-append_comm, ranks_by, sorted_far, AllPass-from_list_all, IsDistinct-IsPermutation, before_by_tick, exact_keys, both, both_true, AllDiffer, AreApart, IsInOrder, IsMergeOf, same}
 
 tie : (r : Ordering) → is_eq r ≡ true → r ≡ Equal
 tie r h = grind arith
@@ -54,15 +41,17 @@ module _ {X : Type 0} (f : X → List EntryRecord) where
   all_differ (p ∷ ps) rising apart =
       differ_joined (f p) (all_of (map f ps)) (rising 0 p (omega arith)) (all_differ ps (λ k d l. rising (suc k) d (omega (arith, l))) apart.1) apart.0
 
+-- an entry that is before all of a list that rises
+pub rising_more : (e : EntryRecord) (es : List EntryRecord) → All (λ f. is_before e.key f.key ≡ true) es → IsTrue (is_rising es) → IsTrue (is_rising (e ∷ es))
+rising_more e es first rising = and_true _ _ (list_all-from_AllPass (λ f. is_before e.key f.key) es first) rising
+
 -- entries in order rise where no two have one key
 rising_sorted : (es : List EntryRecord) → ((i j : ℕ) (d : EntryRecord) → i ≤ j → j < length es → less (get_or es j d) (get_or es i d) ≡ false) → IsDistinct same es → IsTrue (is_rising es)
 unfolding IsDistinct
 rising_sorted [] far d = refl
 rising_sorted (e ∷ es) far d =
-    and_true _ _
-    (list_all-from_AllPass (λ f. is_before e.key f.key) es (λ k f low.
-    not_after _ (sym (ap is_lt (keys_total.antisymm (get_or es k f).key e.key)) ∙ far 0 (suc k) f (omega arith) (omega (arith, low)))
-    (All-from_recursion (λ f. same e f ≡ false) es d.0 k f low)))
+    rising_more e es
+    (λ k f low. not_after _ (sym (ap is_lt (keys_total.antisymm (get_or es k f).key e.key)) ∙ far 0 (suc k) f (omega arith) (omega (arith, low))) (All-from_recursion (λ f. same e f ≡ false) es d.0 k f low))
     (rising_sorted es (λ i j f low high. far (suc i) (suc j) f (omega (arith, low)) (omega (arith, high))) d.1)
 
 pub order_rising : (es : List EntryRecord) → IsInOrder es → AllDiffer es → IsTrue (is_rising es)
@@ -83,8 +72,8 @@ joined_rising (x ∷ xs) ys r h ahead =
     let p : EntryRecord → Bool = λ f. is_before x.key f.key in
     let Q : EntryRecord → Type 0 = λ e. All (λ y. e.key.tick < y.key.tick) ys in
     let rises = both_true _ _ r in
-    let later = list_all-from_AllPass p ys (λ k f low. ap is_less (before_by_tick x.key _ (All-head Q x xs ahead k f low))) in
-    and_true _ _ (list_all-append p xs ys ∙ and_true _ _ rises.0 later) (joined_rising xs ys rises.1 h (All-tail Q x xs ahead))
+    let later : All (λ f. p f ≡ true) ys = λ k f low. ap is_less (before_by_tick x.key _ (All-head Q x xs ahead k f low)) in
+    rising_more x (xs ++ ys) (All-append (λ f. p f ≡ true) xs ys (AllPass-from_list_all p xs rises.0) later) (joined_rising xs ys rises.1 h (All-tail Q x xs ahead))
 
 -- Of parts these entries were taken; each of them is earlier than what is left
 module _ (parts left : List (List EntryRecord)) (taken : List EntryRecord) (differ : AllDiffer (all_of parts)) (all_es : IsPermutation (all_of parts) (taken ++ all_of left)) where

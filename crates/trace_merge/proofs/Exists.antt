@@ -1,20 +1,9 @@
 -- Parts that rise and share no key can be merged: each entry is put into its place.
-use Rattle.trace_merge.proofs.Words.{◌≡◌, refl, ap, ◌∙◌, sym, subst, Bool, true, false, IsTrue, List, [], ◌∷◌, is_eq, Ordering, IsPermutation, arith, ordering_reverse, All-from_recursion, IsPermutation-refl, IsPermutation-trans, list_all-from_AllPass, is_less, is_before, is_rising, EntryRecord, keys_total, weaker, and_true, all_of}
-use Rattle.std.proofs.Common.{Less}
-use Rattle.std.specs.List.{AllByRecursion, IsDistinct}
-use Rattle.std.proofs.lemmas.List.Sorted.{IsPermutation-sym, IsPermutation-cons, IsPermutation-middle}
-use Rattle.trace_merge.specs.Parts.{AllDiffer, IsMergeOf, same}
+use Rattle.trace_merge.proofs.Words.{◌≡◌, refl, ap, ◌∙◌, sym, subst, Bool, true, false, IsTrue, List, [], ◌∷◌, is_eq, Less, Ordering, IsPermutation, arith, All, All-cons, All-from_recursion, All-head, All-permutation, All-tail, All-weaker, ordering_reverse, IsPermutation-cons, IsPermutation-middle, IsPermutation-refl, IsPermutation-sym, IsPermutation-trans, AllPass-from_list_all, is_less, is_before, is_rising, EntryRecord, IsDistinct, keys_total, both_true, all_of, AllDiffer, IsMergeOf, same}
+use Rattle.trace_merge.proofs.Distinct.{rising_more}
 
 abbrev Before : EntryRecord → EntryRecord → Type 0
 Before a b = is_before a.key b.key ≡ true
-
-abbrev Rising : List EntryRecord → Type 0
-Rising [] = Unit {0}
-Rising (e ∷ es) = AllByRecursion (Before e) es × Rising es
-
-rising_test : (es : List EntryRecord) → Rising es → IsTrue (is_rising es)
-rising_test [] r = refl
-rising_test (e ∷ es) r = and_true _ _ (list_all-from_AllPass (λ f. is_before e.key f.key) es (All-from_recursion (Before e) es r.0)) (rising_test es r.1)
 
 less_is : (r : Ordering) → is_less r ≡ true → r ≡ Less
 less_is r h = grind arith
@@ -25,58 +14,36 @@ not_less r h n = grind arith
 before-trans : (a b c : EntryRecord) → Before a b → Before b c → Before a c
 before-trans a b c h k = ap is_less (keys_total.trans a.key b.key c.key (less_is _ h) (less_is _ k))
 
-before_other : (a b : EntryRecord) → is_before b.key a.key ≡ false → same a b ≡ false → Before a b
-before_other a b not other = not_less _ (sym (ap is_less (keys_total.antisymm b.key a.key)) ∙ not) other
+-- a list that rises and has just these entries
+abbrev Sorted : List EntryRecord → Type 0
+Sorted es = (sorted : List EntryRecord) × IsPermutation es sorted × IsTrue (is_rising sorted)
 
-abbrev pick : {X : Type 0} → Bool → X → X → X
-pick true a b = a
-pick false a b = b
+-- an entry is put behind or before the first one of a list
+placed : (e f : EntryRecord) (fs : List EntryRecord) (b : Bool) → is_before f.key e.key ≡ b → same e f ≡ false → IsTrue (is_rising (f ∷ fs)) → Sorted (e ∷ fs) → Sorted (e ∷ f ∷ fs)
+placed e f fs true before other r s =
+    let later = All-cons (Before f) e fs before (AllPass-from_list_all (λ g. is_before f.key g.key) fs (both_true _ _ r).0) in
+    (f ∷ s.0, IsPermutation-trans _ _ _ (IsPermutation-sym _ _ (IsPermutation-middle (f ∷ []) e fs)) (IsPermutation-cons f _ _ s.1), rising_more f s.0 (All-permutation (Before f) (e ∷ fs) s.0 s.1 later) s.2)
+placed e f fs false not other r s =
+    let before : Before e f = not_less _ (sym (ap is_less (keys_total.antisymm f.key e.key)) ∙ not) other in
+    let later = All-weaker (Before f) (Before e) (λ g h. before-trans e f g before h) fs (AllPass-from_list_all (λ g. is_before f.key g.key) fs (both_true _ _ r).0) in
+    (e ∷ f ∷ fs, IsPermutation-refl _, rising_more e (f ∷ fs) (All-cons (Before e) f fs before later) r)
 
-picked : {X : Type 0} (Q : X → Type 0) (b : Bool) (x y : X) → (b ≡ true → Q x) → (b ≡ false → Q y) → Q (pick b x y)
-picked Q true x y f g = f refl
-picked Q false x y f g = g refl
+put : (e : EntryRecord) (es : List EntryRecord) → All (λ f. same e f ≡ false) es → IsTrue (is_rising es) → Sorted (e ∷ es)
+put e [] apart r = (e ∷ [], IsPermutation-refl _, refl)
+put e (f ∷ fs) apart r =
+    let P : EntryRecord → Type 0 = λ g. same e g ≡ false in
+    placed e f fs (is_before f.key e.key) refl (All-head P f fs apart) r (put e fs (All-tail P f fs apart) (both_true _ _ r).1)
 
-abbrev put : EntryRecord → List EntryRecord → List EntryRecord
-put e [] = e ∷ []
-put e (f ∷ fs) = pick (is_before f.key e.key) (f ∷ put e fs) (e ∷ f ∷ fs)
-
-put_all : (P : EntryRecord → Type 0) (e : EntryRecord) (es : List EntryRecord) → P e → AllByRecursion P es → AllByRecursion P (put e es)
-put_all P e [] p all = (p, tt)
-put_all P e (f ∷ fs) p all = picked (AllByRecursion P) (is_before f.key e.key) _ _ (λ _. (all.0, put_all P e fs p all.1)) (λ _. (p, all))
-
-put_same : (e : EntryRecord) (es : List EntryRecord) → IsPermutation (e ∷ es) (put e es)
-put_same e [] = IsPermutation-refl (e ∷ [])
-put_same e (f ∷ fs) =
-    picked (IsPermutation (e ∷ f ∷ fs)) (is_before f.key e.key) _ _
-    (λ _. IsPermutation-trans _ _ _ (IsPermutation-sym _ _ (IsPermutation-middle (f ∷ []) e fs)) (IsPermutation-cons f _ _ (put_same e fs))) (λ _. IsPermutation-refl _)
-
-put_rising : (e : EntryRecord) (es : List EntryRecord) → AllByRecursion (λ f. same e f ≡ false) es → Rising es → Rising (put e es)
-put_rising e [] apart r = (tt, tt)
-put_rising e (f ∷ fs) apart r =
-    picked Rising (is_before f.key e.key) _ _ (λ before. (put_all (Before f) e fs before r.0, put_rising e fs apart.1 r.1))
-    (λ not. let before : Before e f = before_other e f not apart.0 in ((before, weaker (Before f) (Before e) (λ z later. before-trans e f z before later) fs r.0), r))
-
-abbrev in_order : List EntryRecord → List EntryRecord
-in_order [] = []
-in_order (e ∷ es) = put e (in_order es)
-
-in_order_all : (P : EntryRecord → Type 0) (es : List EntryRecord) → AllByRecursion P es → AllByRecursion P (in_order es)
-in_order_all P [] all = tt
-in_order_all P (e ∷ es) all = put_all P e (in_order es) all.0 (in_order_all P es all.1)
-
-in_order_same : (es : List EntryRecord) → IsPermutation es (in_order es)
-in_order_same [] = IsPermutation-refl []
-in_order_same (e ∷ es) = IsPermutation-trans _ _ _ (IsPermutation-cons e _ _ (in_order_same es)) (put_same e (in_order es))
-
-in_order_rising : (es : List EntryRecord) → IsDistinct same es → Rising (in_order es)
+in_order : (es : List EntryRecord) → AllDiffer es → Sorted es
 unfolding IsDistinct
-in_order_rising [] d = tt
-in_order_rising (e ∷ es) d = put_rising e (in_order es) (in_order_all (λ f. same e f ≡ false) es d.0) (in_order_rising es d.1)
+in_order [] d = ([], IsPermutation-refl [], refl)
+in_order (e ∷ es) d =
+    let s = in_order es d.1 in
+    let t = put e s.0 (All-permutation (λ f. same e f ≡ false) es s.0 s.1 (All-from_recursion (λ f. same e f ≡ false) es d.0)) s.2 in
+    (t.0, IsPermutation-trans _ _ _ (IsPermutation-cons e _ _ s.1) t.1, t.2)
 
 pub has_merge : (parts : List (List EntryRecord)) → AllDiffer (all_of parts) → (merged : List EntryRecord) × IsMergeOf parts merged
-has_merge parts d =
-    let es = all_of parts in
-    (in_order es, record { rising = rising_test (in_order es) (in_order_rising es d); same = in_order_same es })
+has_merge parts d = let s = in_order (all_of parts) d in (s.0, record { rising = s.2; same = s.1 })
 
 pub nothing_merges : (parts : List (List EntryRecord)) → all_of parts ≡ [] → IsMergeOf parts []
 nothing_merges parts none = record { rising = refl; same = subst (λ es. IsPermutation es []) (sym none) (IsPermutation-refl []) }

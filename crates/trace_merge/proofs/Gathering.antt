@@ -1,10 +1,6 @@
 -- Entries that are moved from parts, tick by tick.
-use Rattle.trace_merge.proofs.Words.{◌≡◌, ◌<◌, ◌≤◌, ◌-◌, All, ℕ, suc, sym, ap, ◌∙◌, subst, List, [], ◌∷◌, ◌++◌, map, length, get_or, append_assoc, min, arith, None, Some, MatchOption, IsPermutation, unwrap_or, IsPermutation-trans, EntryRecord, Lane, all_of}
-use Rattle.std.proofs.Common.{◌^◌, zero, set, Option, Vec, Global}
-use Rattle.std.proofs.lemmas.List.{append-nil}
-use Rattle.std.proofs.lemmas.List.Sorted.{IsPermutation-append_left, IsPermutation-append_right, IsPermutation-append_comm}
+use Rattle.trace_merge.proofs.Words.{◌≡◌, ◌<◌, ◌≤◌, ◌-◌, All, ℕ, suc, sym, ap, ◌∙◌, subst, List, [], ◌∷◌, ◌++◌, map, length, get_or, append_assoc, min, arith, None, Some, MatchOption, IsPermutation, unwrap_or, IsPermutation-trans, EntryRecord, Lane, all_of, ◌^◌, zero, set, Option, Vec, Global, append-nil, IsPermutation-append_left, IsPermutation-append_right, IsPermutation-append_comm, Entry}
 use Rattle.trace_merge.proofs.Distinct.{Ahead}
-use Rattle.process_api.specs.declared.entry.Entry.{Entry}
 
 abbrev Part : Type 0
 Part = List EntryRecord
@@ -40,11 +36,6 @@ one_moved f from to (p ∷ ps) zero d q low moved =
 one_moved f from to (p ∷ ps) (suc i) d q low moved =
     let there = one_moved f from to ps i d q (omega (arith, low)) moved in
     IsPermutation-trans _ _ _ (past from (f p) _) (IsPermutation-trans _ _ _ (IsPermutation-append_right (f p) _ _ there) (past (f p) to _))
-
--- with each later tick there are fewer
-pub still_fewer : (tick : ℕ) (P : Type 0) (next : Option ℕ) → tick < 2 ^ 32 → MatchOption next P (λ t. tick < t) → still next < still (Some tick)
-still_fewer tick P None fits _ = omega (arith, fits)
-still_fewer tick P (Some t) fits h = omega (arith, fits, h)
 
 -- the least tick of two that come later
 pub later_least : (tick : ℕ) (P : Type 0) (least : Option ℕ) (next : ℕ) → MatchOption least P (λ t. tick < t) → tick < next → tick < min (unwrap_or least next) next

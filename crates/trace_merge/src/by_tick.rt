@@ -5,14 +5,13 @@ ghost use Rattle.trace_merge.specs.Parts.{all_of};
 
 use crate::joined::Joined;
 use process_api::{Entry, RunError};
-use std::alloc::Global;
 use std::collections::VecDeque;
 
 /// A part of which the first entries have been taken.
 #[derive(Drop)]
 pub(crate) struct Lane {
     // no entry that is left is before this tick, so that up to it the entries needn't be looked at
-    next: u32,
+    pub(crate) next: u32,
     // what is left
     pub(crate) rest: VecDeque<Entry>,
     ghost rising: { IsTrue (is_rising rest.items) },
@@ -75,21 +74,4 @@ pub(crate) fn take_tick(
         }
     }
     Ok(least)
-}
-
-/// The parts, ready to be taken.
-pub(crate) fn lanes_of(alloc: Global, parts: Vec<Vec<Entry>>) -> Result<Vec<Lane>, RunError>
-    requires rising { All (λ part. IsTrue (is_rising part.items)) parts.items }
-    ensures same { IfOk result (λ lanes. map (λ lane. lane.rest.items) lanes.items
-        ≡ map (λ part. part.items) parts.items) }
-    ensures err { IfErr result (λ e. e ≡ RunError.Memory) }
-{
-    let mut lanes = Vec::with_capacity(alloc, parts.len())?;
-    for part in parts {
-        lanes.push(Lane {
-            next: 0,
-            rest: part.into(),
-        })?;
-    }
-    Ok(lanes)
 }

@@ -4,7 +4,7 @@ ghost use Rattle.process_api.specs.EntryRecord.{EntryRecord};
 ghost use Rattle.process_api.specs.Order.{is_rising};
 ghost use Rattle.trace_merge.specs.Parts.{all_of, AreDisjoint, IsMergeOf};
 
-use crate::by_tick::{Lane, lanes_of, take_tick};
+use crate::by_tick::{Lane, take_tick};
 use crate::joined::Joined;
 use process_api::{Entry, RunError};
 use std::alloc::Global;
@@ -19,14 +19,10 @@ use std::marker::Model;
 pub struct Merging {
     alloc: Global,
     lanes: Vec<Lane>,
-    // the tick to go on with, or none where nothing is left
-    at: Option<u32>,
-    // how many entries are left, so that a piece has room for them
-    left: usize,
 }
 
 impl Model for Merging {
-    ghost use Rattle.std.specs.Prelude.{◌≡◌, [], List, map, None};
+    ghost use Rattle.std.specs.Prelude.{List, map};
     ghost use Rattle.process_api.specs.EntryRecord.{EntryRecord};
     ghost use Rattle.trace_merge.specs.Parts.{all_of, AllDiffer};
 
@@ -34,15 +30,12 @@ impl Model for Merging {
 
     ghost view = { λ m. map (λ lane. lane.rest.items) m.lanes.items };
 
-    ghost invariant = { λ m. AllDiffer (all_of (map (λ lane. lane.rest.items) m.lanes.items))
-        × (m.at ≡ None → all_of (map (λ lane. lane.rest.items) m.lanes.items) ≡ []) };
+    ghost invariant = { λ m. AllDiffer (all_of (map (λ lane. lane.rest.items) m.lanes.items)) };
 }
 
-/// How many entries the parts have.
-fn room_for(parts: &[Vec<Entry>]) -> usize {
-    parts
-        .iter()
-        .fold(0, |room: usize, part| room.saturating_add(part.len()))
+/// How many entries are left.
+fn room_for(lanes: &[Lane]) -> usize {
+    lanes.iter().fold(0, |room: usize, lane| room.saturating_add(lane.rest.len()))
 }
 
 impl Merging {
@@ -54,19 +47,15 @@ impl Merging {
     pub fn new(alloc: Global, parts: Vec<Vec<Entry>>) -> Result<Merging, RunError>
         requires rising { All (λ part. IsTrue (is_rising part.items)) parts.items }
         requires disjoint { AreDisjoint (map (λ part. part.items) parts.items) }
-
         ensures same { IfOk result (λ left. left ≡ map (λ part. part.items) parts.items) }
         ensures err { IfErr result (λ e. e ≡ RunError.Memory) }
     {
-        let left = room_for(&parts);
-        let lanes = lanes_of(alloc, parts)?;
-        let at = Some(0);
-        Ok(Merging {
-            alloc,
-            lanes,
-            at,
-            left,
-        })
+        let mut lanes = Vec::with_capacity(alloc, parts.len())?;
+        for part in parts {
+            let (next, rest) = (0, part.into());
+            lanes.push(Lane { next, rest })?;
+        }
+        Ok(Merging { alloc, lanes })
     }
 
     /// The first piece of what the parts merge to, and what is left of them. The piece has whole ticks, and at least so
@@ -82,31 +71,20 @@ impl Merging {
         ensures enough { IfOk result (λ r. (least ≤ length r.0.items) ⊎ (all_of r.1 ≡ [])) }
         ensures err { IfErr result (λ e. e ≡ RunError.Memory) }
     {
-        let Merging {
-            alloc,
-            mut lanes,
-            mut at,
-            left,
-        } = self;
+        let Merging { alloc, mut lanes } = self;
         // The last tick may bring more than are wanted.
-        let room = left.min(least.saturating_mul(2));
+        let room = room_for(&lanes).min(least.saturating_mul(2));
         let entries = Vec::with_capacity(alloc, room)?;
         let rises = true;
         let mut merged = Joined { entries, rises };
+        let mut at = Some(0);
         while let Some(tick) = at {
             if merged.entries.len() >= least {
                 break;
             }
             at = take_tick(&mut merged, &mut lanes, tick)?;
         }
-        let left = left.saturating_sub(merged.entries.len());
-        let rest = Merging {
-            alloc,
-            lanes,
-            at,
-            left,
-        };
-        Ok((merged.in_order(), rest))
+        Ok((merged.in_order(), Merging { alloc, lanes }))
     }
 
     /// The memory of the parts, in empty lists, joins others: that of the first part is the last. Where memory is

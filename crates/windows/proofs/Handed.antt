@@ -1,14 +1,5 @@
 -- What a sink took, part by part.
-use Rattle.windows.proofs.Words.{◌≡◌, ◌≤◌, ℕ, refl, sym, ap, ◌∙◌, subst, List, [], ◌∷◌, ◌++◌, length, append_assoc, append-nil, arith, Result, Ok, Err, OnErr, EntryRecord, Record, setting_of, IsTrace, one_trace, TookAll, end_to_end}
-
--- one part more
-pub took_more : {K : Type 0} (took : K → List EntryRecord → K → Type 0) (old mid new : K) (parts : List (List EntryRecord)) (part : List EntryRecord) → TookAll took old parts mid → took mid part new → TookAll took old (parts ++ part ∷ []) new
-took_more took old mid new [] part all more = (new, subst (λ a. took a part new) all more, refl)
-took_more took old mid new (x ∷ parts) part all more = (all.0, all.1, took_more took all.0 mid new parts part all.2 more)
-
-pub end_to_end_more : (parts : List (List EntryRecord)) (part : List EntryRecord) → end_to_end (parts ++ part ∷ []) ≡ end_to_end parts ++ part
-end_to_end_more [] part = append-nil part
-end_to_end_more (x ∷ parts) part = ap (λ es. x ++ es) (end_to_end_more parts part) ∙ sym (append_assoc x (end_to_end parts) part)
+use Rattle.windows.proofs.Words.{◌≡◌, ◌≤◌, ℕ, sym, ap, ◌∙◌, List, [], ◌∷◌, ◌++◌, length, append_assoc, append-nil, arith, Result, Ok, Err, OnErr, EntryRecord, Record, setting_of, IsTrace, one_trace, TookAll, end_to_end}
 
 -- what holds anyhow holds of a refusal
 pub on_err : {A E : Type 0} (r : Result A E) (P : Type 0) → P → OnErr r P

@@ -1,11 +1,10 @@
 -- Parts of a window that wait to be merged and handed on.
-use Rattle.windows.proofs.Words.{◌≡◌, ◌≤◌, ◌⊎◌, ◌+◌, inl, inr, refl, ℕ, sym, ap, ◌∙◌, subst, List, [], ◌∷◌, ◌++◌, append_assoc, append-nil, length, map, IsTrue, Result, Ok, Err, IfOk, IfErr, OnErr, arith, Vec, All, IsPermutation, nil_from_length, All-nil, IsPermutation-refl, length_permutation, EntryRecord, Mind, is_rising, RunError, IsInRange, Record, setting_of, IsTrace, all_of, end_to_end, IsRefusal, TookAll, IsStageAfter, Stage, OnOk, AreParts, IsMerged, TookAllBut, TookFrontOf, TookTrace, TookFront, TookClosed, writes_of}
+use Rattle.windows.proofs.Words.{IsMergeOf, ◌≡◌, ◌≤◌, ◌⊎◌, ◌+◌, inl, inr, refl, ℕ, sym, ap, ◌∙◌, subst, List, [], ◌∷◌, ◌++◌, append_assoc, append-nil, length, map, IsTrue, Result, Ok, Err, IfOk, IfErr, OnErr, arith, Vec, All, IsPermutation, nil_from_length, All-nil, length_permutation, EntryRecord, Mind, is_rising, RunError, IsInRange, Record, setting_of, IsTrace, all_of, end_to_end, IsRefusal, TookAll, IsStageAfter, Stage, OnOk, AreParts, IsMerged, TookAllBut, TookFrontOf, TookTrace, TookFront, TookClosed, writes_of}
 use Rattle.trace_merge.proofs.Distinct.{all_differ}
 use Rattle.trace_merge.proofs.Exists.{has_merge, nothing_merges}
-use Rattle.trace_merge.specs.Parts.{IsMergeOf}
 use Rattle.windows.proofs.Closing.{stage_trace}
 use Rattle.windows.proofs.Cut.{stage_cut}
-use Rattle.windows.proofs.Handed.{end_to_end_more, took_more, trace_within}
+use Rattle.windows.proofs.Handed.{trace_within}
 
 -- what parts make
 pub merged_of : (parts : List (Vec EntryRecord)) → AreParts parts → (merged : List EntryRecord) × IsMerged parts merged
@@ -46,19 +45,15 @@ module _ {K : Type 0} (took : K → List EntryRecord → K → Type 0) where
     module _ (piece : List EntryRecord) (others : List (List EntryRecord)) (front : (rest : List EntryRecord) → IsMergeOf others rest → IsMergeOf left (piece ++ rest)) where
       pub took_piece : (new : K) → took sink piece new → TookAllBut took parts others old new
       took_piece new one =
-          (so_far.0 ++ piece ∷ [], took_more took old sink new so_far.0 piece so_far.1 one, λ rest is. subst (IsMerged parts) (sym (ap (λ es. es ++ rest) (end_to_end_more so_far.0 piece) ∙ append_assoc (end_to_end so_far.0) piece rest)) (so_far.2 (piece ++ rest) (front rest is)))
+          let told = end_to_end so_far.0 in
+          let all : end_to_end (so_far.0 ++ piece ∷ []) ≡ told ++ piece = end_to_end_append so_far.0 (piece ∷ []) ∙ ap (λ es. told ++ es) (append-nil piece) in
+          (so_far.0 ++ piece ∷ [], took_append old sink new so_far.0 (piece ∷ []) so_far.1 (new, one, refl), λ rest is. subst (IsMerged parts) (sym (ap (λ es. es ++ rest) all ∙ append_assoc told piece rest)) (so_far.2 (piece ++ rest) (front rest is)))
 
       -- or a front of it
       pub took_no_more : (took_front : K → List EntryRecord → K → Type 0) (new : K) → (rest : List EntryRecord) × IsMergeOf others rest → ((piece ≡ []) × (new ≡ sink)) ⊎ took_front sink piece new → TookFrontOf took took_front parts old new
-      took_no_more took_front new has ended = record {
-        told = so_far.0;
-        mid = sink;
-        took_all = so_far.1;
-        last = piece;
-        ended = ended;
-        rest = has.0;
-        merged = subst (IsMerged parts) (sym (append_assoc (end_to_end so_far.0) piece has.0)) (so_far.2 (piece ++ has.0) (front has.0 has.1));
-      }
+      took_no_more took_front new has ended =
+          let merged = subst (IsMerged parts) (sym (append_assoc (end_to_end so_far.0) piece has.0)) (so_far.2 (piece ++ has.0) (front has.0 has.1)) in
+          record { told = so_far.0; mid = sink; took_all = so_far.1; last = piece; ended = ended; rest = has.0; merged = merged }
 
   -- the sink took this so far of a run that is at this stage, where these parts wait
   pub record IsUnderway {M : Type 0} (mind : M → Mind) (s : Record) (first : K) (stage : Stage M) (sink : K) (parts : List (Vec EntryRecord)) : Type 0 where
@@ -104,16 +99,10 @@ module _ {K : Type 0} {took : K → List EntryRecord → K → Type 0} {M : Type
             let before = end_to_end u.told in
             let part = end_to_end f.told ++ f.last in
             let all : end_to_end (u.told ++ f.told) ++ f.last ≡ before ++ part = ap (λ es. es ++ f.last) (end_to_end_append u.told f.told) ∙ append_assoc before (end_to_end f.told) f.last in
-            record {
-              parts = u.told ++ f.told;
-              mid = f.mid;
-              took_all = took_append took first sink f.mid u.told f.told u.took_all f.took_all;
-              last = f.last;
-              ended = f.ended;
-              front = λ whole t.
-                  let r = cut (part ++ f.rest) f.merged whole t in
-                  (f.rest ++ r.0, r.1 ∙ (ap (λ es. es ++ r.0) (sym (append_assoc before part f.rest)) ∙ (append_assoc (before ++ part) f.rest r.0 ∙ ap (λ es. es ++ (f.rest ++ r.0)) (sym all))));
-            }
+            let front : (whole : List EntryRecord) → IsTrace (setting_of s) whole → (rest : List EntryRecord) × (whole ≡ (end_to_end (u.told ++ f.told) ++ f.last) ++ rest) = λ whole t.
+            let r = cut (part ++ f.rest) f.merged whole t in
+            (f.rest ++ r.0, r.1 ∙ (ap (λ es. es ++ r.0) (sym (append_assoc before part f.rest)) ∙ (append_assoc (before ++ part) f.rest r.0 ∙ ap (λ es. es ++ (f.rest ++ r.0)) (sym all)))) in
+            record { parts = u.told ++ f.told; mid = f.mid; took_all = took_append took first sink f.mid u.told f.told u.took_all f.took_all; last = f.last; ended = f.ended; front = front }
 
         -- it was handed nothing of it
         pub front_so_far : TookFront took (setting_of s) took_front first sink

@@ -46,7 +46,7 @@ pub use Rattle.trace_laws.specs.Setting.{IsProcess, IsSound, Setting}
 pub use Rattle.trace_laws.specs.Step.{Event, Events, Process, step}
 pub use Rattle.trace_laws.specs.Taken.{event_of}
 pub use Rattle.trace_laws.specs.World.{Has, IsLeast, IsTrace, IsWorld, NoneBelow, Run, World, entries, joined, made, opened, opening, opening_process, start_of, starts, taken}
-pub use Rattle.trace_merge.specs.Parts.{AreApart, AreDisjoint, all_of}
+pub use Rattle.trace_merge.specs.Parts.{AreApart, AreDisjoint, IsMergeOf, all_of}
 pub use Rattle.window_laws.proofs.Berths.{BerthStands, berth_ends, berth_longer, berth_next, berth_opens}
 pub use Rattle.window_laws.proofs.Family.{is_or_not}
 pub use Rattle.window_laws.proofs.Together.{berths_run, h_stands}

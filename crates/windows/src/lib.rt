@@ -21,7 +21,8 @@
 //! is left in the deques. Then each process gets its mailbox as it is: the worker that runs the process next empties
 //! it. Where several refusals are met, that of a thread is answered before that of memory, and this before that of a
 //! place in the trace. The next window opens at the least pending tick. The starter merges the parts of a window and
-//! hands them to a [`Sink`], few entries at once, and others while the workers of the next window run.
+//! hands them to a [`Sink`], piece by piece, while the workers of the next window run. The memory of merged parts holds
+//! later parts.
 //!
 //! The crate `deques` promises that each berth comes out of the deques once. Its proof uses the ledger of each deque:
 //! counted with repetitions, the items that were put are those that all passes have taken and those that the deque

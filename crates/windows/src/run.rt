@@ -171,16 +171,15 @@ fn run_and_hand_on<M: Process, G: Gate, K: Sink, R: Threads + Wait + Sync>(
 
 /// Runs machines by windows of the plan's length, each shared by the plan's workers, up to the horizon. There is one
 /// machine for each process, of process 1 first, and each opens as the scenario says; the plan's window is no longer
-/// than the scenario's lookahead. When a window is closed, its part of the trace goes to the sink: a part with few
-/// entries at once, and another one while the workers of the next window run. The sink takes the trace of the single
-/// event list, under every schedule of the threads.
+/// than the scenario's lookahead. When a window is closed, its entries go to the sink, in parts of whole ticks, while the
+/// workers of the next window run. The sink takes the trace of the single event list, under every schedule of the
+/// threads.
 ///
 /// # Errors
 ///
 /// `Spawn` where a thread was refused, `Memory` where memory was, and `Limit` only where the whole trace has more
-/// entries than the scenario's limit; after each window, `Memory` or `Write` where the sink refused its part. The
-/// machines are gone then, and the sink has a front of the trace: after `Limit` and `Spawn` just the entries of the
-/// windows that were closed.
+/// entries than the scenario's limit; `Memory` or `Write` where the sink refused a part. The machines are gone then, and
+/// the sink has a front of the trace: after `Limit` and `Spawn` just the entries of the windows that were closed.
 pub fn run_windows_into<M: Process, G: Gate, K: Sink, R: Threads + Wait + Sync>(
     rt: &R,
     alloc: Global,

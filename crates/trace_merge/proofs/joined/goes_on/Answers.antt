@@ -1,6 +1,4 @@
-use Rattle.trace_merge.proofs.Words.{◌-◌, sym, ap, ◌∙◌, length, true, ◌≡◌, is_before, EntryRecord}
-use Rattle.std.proofs.lemmas.List.Kept.{IsSortedBy-push}
-use Rattle.std.proofs.lemmas.Option.{get_or_from_slice_get}
+use Rattle.trace_merge.proofs.Words.{◌-◌, sym, ap, ◌∙◌, length, true, ◌≡◌, is_before, EntryRecord, IsSortedBy-push, get_or_from_slice_get}
 use Rattle.trace_merge.proofs.Distinct.{less, not_before}
 use Rattle.trace_merge.proofs.joined.goes_on.Goals as goal
 

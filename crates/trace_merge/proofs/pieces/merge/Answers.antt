@@ -1,7 +1,4 @@
-use Rattle.trace_merge.proofs.Words.{◌≡◌, [], subst, arith, map, all_of}
-use Rattle.std.proofs.Common.{⊎_elim}
-use Rattle.std.proofs.lemmas.List.{append-nil}
-use Rattle.trace_merge.specs.Parts.{IsMergeOf}
+use Rattle.trace_merge.proofs.Words.{◌≡◌, [], subst, arith, map, all_of, ⊎_elim, append-nil, IsMergeOf}
 use Rattle.trace_merge.proofs.Exists.{nothing_merges}
 use Rattle.trace_merge.proofs.Gathering.{items_of}
 use Rattle.trace_merge.proofs.pieces.merge.Goals as goal

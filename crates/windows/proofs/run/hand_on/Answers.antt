@@ -1,8 +1,7 @@
-use Rattle.windows.proofs.Words.{rules, ◌≡◌, ◌∙◌, eqb-false, false, ◌++◌, [], List, inl, inr, refl, ⊎_elim, sym, subst, arith, length, length-append, map, nil_from_length, length_permutation, EntryRecord, OnErr, ap, writes_of, all_of}
+use Rattle.windows.proofs.Words.{IsMergeOf, rules, ◌≡◌, ◌∙◌, eqb-false, false, ◌++◌, [], inl, inr, refl, ⊎_elim, sym, subst, arith, length, length-append, map, nil_from_length, length_permutation, ap, writes_of, all_of}
 use Rattle.trace_merge.proofs.Exists.{nothing_merges}
-use Rattle.trace_merge.specs.Parts.{IsMergeOf}
 use Rattle.windows.proofs.Handed.{on_err}
-use Rattle.windows.proofs.Waiting.{merged_of, on_err_by, took_no_more, took_nothing, took_piece, took_whole}
+use Rattle.windows.proofs.Waiting.{merged_of, took_no_more, took_nothing, took_piece, took_whole}
 use Rattle.windows.proofs.run.hand_on.Goals as goal
 
 pub returns-in_err-merging-clause-front : goal.returns-in_err-merging-clause-front
@@ -14,11 +13,7 @@ pub loop-piece-init : goal.loop-piece-init
 loop-piece-init g c =
     let same = c.in_ok-merging.ensures.same in
     let merged = merged_of c.args.parts.items c.requires.parts in
-    record {
-      so_far = ([], refl, λ rest is. subst (λ ls. IsMergeOf ls rest) same is);
-      left = (merged.0, subst (λ ls. IsMergeOf ls merged.0) (sym same) merged.1);
-      count = refl;
-    }
+    record { so_far = ([], refl, λ rest is. subst (λ ls. IsMergeOf ls rest) same is); left = (merged.0, subst (λ ls. IsMergeOf ls merged.0) (sym same) merged.1); count = refl }
 
 pub returns-in_err-piece-clause-front : goal.returns-in_err-piece-clause-front
 returns-in_err-piece-clause-front g c =
@@ -52,8 +47,5 @@ loop-piece-preserved g c =
     let h = c.loop-piece.invariant in
     let call = c.in_ok-piece.ensures in
     let fine : writes_of c.part.result ≡ 0 = ap writes_of c.in_ok-part.was in
-    record {
-      so_far = took_piece g.K.Sink.took c.args.parts.items h.so_far c.in_ok-piece.piece.items c.in_ok-piece.rest call.front c.part.new.self c.in_ok-part.ensures.whole;
-      left = call.left;
-      count = omega (arith, c.part.ensures.count, fine, h.count);
-    }
+    let so_far = took_piece g.K.Sink.took c.args.parts.items h.so_far c.in_ok-piece.piece.items c.in_ok-piece.rest call.front c.part.new.self c.in_ok-part.ensures.whole in
+    record { so_far = so_far; left = call.left; count = omega (arith, c.part.ensures.count, fine, h.count) }

@@ -1,5 +1,4 @@
-use Rattle.windows.proofs.Words.{◌≡◌, List, length, EntryRecord, TookAllBut, all_of}
-use Rattle.trace_merge.specs.Parts.{IsMergeOf}
+use Rattle.windows.proofs.Words.{IsMergeOf, ◌≡◌, List, length, EntryRecord, TookAllBut, all_of}
 use Rattle.windows.proofs.run.hand_on.Given as goal
 
 abbrev pub invariant-loop-piece : goal.invariant-loop-piece

@@ -72,15 +72,13 @@ returns-in_err-hand_on-clause-closed g c is =
 pub returns-in_err-parts-clause-front : goal.returns-in_err-parts-clause-front
 returns-in_err-parts-clause-front g c =
     let beside = c.run_and_hand_on-ran.ensures.handed in
-    let was = handed c.loop-told.invariant.0 c.run_and_hand_on-ran.new.sink c.run_and_hand_on-ran.result.1.parts.items beside.waiting (ok_on c.run_and_hand_on-ran.result.1.told _ c.in_ok-told.was beside.took_all) in
-    let u = handed was c.hand_on.new.sink [] no_parts c.in_ok-hand_on.ensures.took in
+    let u = handed (handed c.loop-told.invariant.0 c.run_and_hand_on-ran.new.sink c.run_and_hand_on-ran.result.1.parts.items beside.waiting (ok_on c.run_and_hand_on-ran.result.1.told _ c.in_ok-told.was beside.took_all)) c.hand_on.new.sink [] no_parts c.in_ok-hand_on.ensures.took in
     on_err c.from_residual-in_err-parts.result _ (front_so_far u c.horizon-horizon.ensures.ranges g.K.Sink.took_front)
 
 pub returns-in_err-parts-clause-closed : goal.returns-in_err-parts-clause-closed
 returns-in_err-parts-clause-closed g c is =
     let beside = c.run_and_hand_on-ran.ensures.handed in
-    let was = handed c.loop-told.invariant.0 c.run_and_hand_on-ran.new.sink c.run_and_hand_on-ran.result.1.parts.items beside.waiting (ok_on c.run_and_hand_on-ran.result.1.told _ c.in_ok-told.was beside.took_all) in
-    let u = handed was c.hand_on.new.sink [] no_parts c.in_ok-hand_on.ensures.took in
+    let u = handed (handed c.loop-told.invariant.0 c.run_and_hand_on-ran.new.sink c.run_and_hand_on-ran.result.1.parts.items beside.waiting (ok_on c.run_and_hand_on-ran.result.1.told _ c.in_ok-told.was beside.took_all)) c.hand_on.new.sink [] no_parts c.in_ok-hand_on.ensures.took in
     closed_so_far u c.horizon-horizon.ensures.ranges
 
 pub returns-in_err-parts-clause-count : goal.returns-in_err-parts-clause-count
@@ -105,8 +103,7 @@ loop-told-smaller g c =
 pub loop-told-preserved : goal.loop-told-preserved
 loop-told-preserved g c =
     let call = c.run_and_hand_on-ran.ensures in
-    let was = handed c.loop-told.invariant.0 c.run_and_hand_on-ran.new.sink c.run_and_hand_on-ran.result.1.parts.items call.handed.waiting (ok_on c.run_and_hand_on-ran.result.1.told _ c.in_ok-told.was call.handed.took_all) in
-    let u = handed was c.hand_on.new.sink [] no_parts c.in_ok-hand_on.ensures.took in
+    let u = handed (handed c.loop-told.invariant.0 c.run_and_hand_on-ran.new.sink c.run_and_hand_on-ran.result.1.parts.items call.handed.waiting (ok_on c.run_and_hand_on-ran.result.1.told _ c.in_ok-told.was call.handed.took_all)) c.hand_on.new.sink [] no_parts c.in_ok-hand_on.ensures.took in
     let is = c.in_ok-parts.was in
     let next = ran u c.run_and_hand_on-ran.new.stage c.in_ok-parts.parts.items (ok_at _ _ _ is call.parts) (ok_at _ _ _ is call.stage) (ok_on _ _ is call.scenario) in
     let fine : writes_of c.run_and_hand_on-ran.result.1.told ≡ 0 = ap writes_of c.in_ok-told.was in

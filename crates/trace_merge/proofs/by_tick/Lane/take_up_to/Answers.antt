@@ -1,7 +1,4 @@
-use Rattle.trace_merge.proofs.Words.{◌≤◌, ◌++◌, All, sym, subst, IsPermutation, IsPermutation-refl}
-use Rattle.std.proofs.Common.{rules}
-use Rattle.std.proofs.lemmas.List.Elements.{All-push}
-use Rattle.std.proofs.lemmas.List.Sorted.{IsPermutation-pop_more}
+use Rattle.trace_merge.proofs.Words.{◌≤◌, ◌++◌, All, sym, subst, IsPermutation, IsPermutation-refl, rules, All-push, IsPermutation-pop_more}
 use Rattle.trace_merge.proofs.by_tick.Lane.take_up_to.Goals as goal
 
 pub loop-first-preserved : goal.loop-first-preserved

@@ -1,5 +1,4 @@
-use Rattle.std.proofs.Common.{rules}
-use Rattle.std.proofs.lemmas.List.Sorted.{answers_always}
+use Rattle.trace_merge.proofs.Words.{rules, answers_always}
 use Rattle.trace_merge.proofs.joined.Joined.in_order.Goals as goal
 
 pub returns-then-not-rises-clause-order : goal.returns-then-not-rises-clause-order

@@ -1,10 +1,4 @@
-use Rattle.trace_merge.proofs.Words.{◌≡◌, ◌<◌, ◌≤◌, ◌++◌, [], List, map, ap, ◌∙◌, sym, subst, arith, length, All, MatchOption, IsPermutation, IsPermutation-trans, EntryRecord, Lane, all_of}
-use Rattle.std.proofs.Common.{inl, inr}
-use Rattle.std.proofs.lemmas.Option.{none-some}
-use Rattle.std.proofs.lemmas.List.{with_items_is}
-use Rattle.std.proofs.lemmas.List.Elements.{All-weaker}
-use Rattle.std.proofs.lemmas.List.Sorted.{length_permutation}
-use Rattle.trace_merge.specs.Parts.{AllDiffer}
+use Rattle.trace_merge.proofs.Words.{◌≡◌, ◌<◌, ◌≤◌, ◌++◌, [], List, map, ap, ◌∙◌, sym, subst, arith, inl, inr, length, with_items_is, All, All-weaker, MatchOption, IsPermutation, IsPermutation-trans, length_permutation, EntryRecord, Lane, AllDiffer, all_of}
 use Rattle.trace_merge.proofs.Distinct.{Ahead, goes_on, rest_differ}
 use Rattle.trace_merge.proofs.Exists.{has_merge}
 use Rattle.trace_merge.proofs.Gathering.{rest_of, taken_ahead, taken_before}
@@ -27,34 +21,22 @@ loop-at-preserved c =
     let goes : IsPermutation (merged ++ rests v.items) (to ++ rests new) = subst (λ ls. IsPermutation (merged ++ rests ls) (to ++ rests new)) c.deref_mut.ensures.value call.same in
     let before = subst (λ o. MatchOption o (rests v.items ≡ []) (λ t. All (λ e. e.key.tick < t) merged)) c.in-Some.is h.before in
     let early = call.early (All-weaker (λ e. e.key.tick < tick) (λ e. e.key.tick ≤ tick) (λ e low. omega (arith, low)) merged before) in
-    subst (λ es. record { same : IsPermutation (all_of c.args.self) (to ++ es); ahead : Ahead to es; before : MatchOption c.in_ok-at.at (es ≡ []) (λ t. All (λ e. e.key.tick < t) to) }) (sym is) (record {
-      same = IsPermutation-trans _ _ _ h.same goes;
-      ahead = taken_ahead tick to (rests new) early call.late;
-      before = taken_before tick (rests new ≡ []) c.in_ok-at.at to call.later early;
-    })
+    subst (λ es. record { same : IsPermutation (all_of c.args.self) (to ++ es); ahead : Ahead to es; before : MatchOption c.in_ok-at.at (es ≡ []) (λ t. All (λ e. e.key.tick < t) to) }) (sym is)
+    (record { same = IsPermutation-trans _ _ _ h.same goes; ahead = taken_ahead tick to (rests new) early call.late; before = taken_before tick (rests new ≡ []) c.in_ok-at.at to call.later early })
 
-pub invariant_of-rest : goal.invariant_of-rest
-invariant_of-rest c =
-    let differ = subst (λ ls. AllDiffer (all_of ls)) c.self.view_is c.self.invariant.0 in
-    let h = c.loop-at.invariant in (
-      rest_differ c.args.self (map rest_of c.loop-at.lanes.items) c.loop-at.merged.entries.items differ h.same,
-      λ none. elim c.match-at.branch [
-        | in-Some+then-len-least w ↦ absurd (none-some w.in-Some.tick (sym none ∙ w.at-is))
-        | in_default w ↦ subst (λ o. MatchOption o (rests c.loop-at.lanes.items ≡ []) (λ t. All (λ e. e.key.tick < t) c.loop-at.merged.entries.items)) w.in_default.is h.before
-      ],
-    )
+pub invariant_of-result : goal.invariant_of-result
+invariant_of-result c = rest_differ c.args.self (map rest_of c.loop-at.lanes.items) c.loop-at.merged.entries.items (subst (λ ls. AllDiffer (all_of ls)) c.self.view_is c.self.invariant) c.loop-at.invariant.same
 
 pub returns-clause-front : goal.returns-clause-front
 returns-clause-front c =
-    let differ = subst (λ ls. AllDiffer (all_of ls)) c.self.view_is c.self.invariant.0 in
     let h = c.loop-at.invariant in
-    goes_on c.args.self (map rest_of c.loop-at.lanes.items) c.loop-at.merged.entries.items differ h.same c.in_order.result.items c.in_order.ensures.same c.in_order.ensures.order h.ahead
+    goes_on c.args.self (map rest_of c.loop-at.lanes.items) c.loop-at.merged.entries.items (subst (λ ls. AllDiffer (all_of ls)) c.self.view_is c.self.invariant) h.same c.in_order.result.items c.in_order.ensures.same c.in_order.ensures.order h.ahead
 
 pub returns-clause-left : goal.returns-clause-left
-returns-clause-left c = has_merge (map rest_of c.loop-at.lanes.items) (invariant_of-rest c).0
+returns-clause-left c = has_merge (map rest_of c.loop-at.lanes.items) (invariant_of-result c)
 
 pub returns-clause-enough : goal.returns-clause-enough
 returns-clause-enough c = elim c.match-at.branch [
   | in-Some+then-len-least w ↦ inl (omega (arith, w.if-len-least.true, w.len.ensures, c.loop-at.merged.entries.ok.0, length_permutation c.loop-at.merged.entries.items c.in_order.result.items c.in_order.ensures.same))
-  | in_default w ↦ inr ((invariant_of-rest c).1 (w.at-is ∙ w.in_default.is))
+  | in_default w ↦ inr (subst (λ o. MatchOption o (rests c.loop-at.lanes.items ≡ []) (λ t. All (λ e. e.key.tick < t) c.loop-at.merged.entries.items)) w.in_default.is c.loop-at.invariant.before)
 ]

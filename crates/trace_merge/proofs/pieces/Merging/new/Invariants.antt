@@ -1,5 +1,5 @@
 use Rattle.trace_merge.proofs.Words.{◌≡◌, ◌++◌, map, All, IsTrue, is_rising, into_iter_items}
-use Rattle.trace_merge.proofs.by_tick.lanes_of.Given as goal
+use Rattle.trace_merge.proofs.pieces.Merging.new.Given as goal
 
 abbrev pub invariant-loop-part : goal.invariant-loop-part
 invariant-loop-part l = record {
