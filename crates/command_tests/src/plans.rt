@@ -66,14 +66,15 @@ impl Outlet for Timed<'_> {
     }
 }
 
-/// An order over a file is carried out. This many workers call the gate, and it has had so many calls at each put.
+/// An order over a file is carried out. This many workers call the gate, and at each put it has had at least so many
+/// calls, and at most so many.
 fn goes<R: Files + Threads + Wait + Sync + Abort>(
     rt: &R,
     alloc: Global,
     file: &str,
     order: Order<'_>,
     workers: u16,
-    puts: &[u64],
+    puts: &[(u64, u64)],
 ) {
     let gate = Roll {
         calls: AtomicU64::new(0),
@@ -88,8 +89,11 @@ fn goes<R: Files + Threads + Wait + Sync + Abort>(
     let mut input = file.as_bytes();
     let ran = carry_out(rt, alloc, &order, &gate, &mut input, &mut outlet);
     let greatest = gate.greatest.load(Ordering::SeqCst);
-    let came = (ran.is_ok(), greatest, outlet.puts.as_slice());
-    same(rt, &came, &(true, workers, puts));
+    let came = (ran.is_ok(), greatest, outlet.puts.len());
+    same(rt, &came, &(true, workers, puts.len()));
+    for (calls, (least, most)) in outlet.puts.iter().zip(puts) {
+        assert!(rt; least <= calls && calls <= most);
+    }
 }
 
 /// A run by windows.
@@ -102,9 +106,22 @@ fn run(workers: u64, window: u64, print: PrintChoice) -> Order<'static> {
     }
 }
 
+/// Calls of the gate by the first line, and by the rows of each window: all of the windows up to it, and some of the
+/// next one.
+const BY_ROWS: [(u64, u64); 8] = [
+    (0, 0),
+    (2, 4),
+    (4, 6),
+    (6, 8),
+    (8, 10),
+    (10, 12),
+    (12, 14),
+    (14, 14),
+];
+
 /// The list and `check` tell no gate, and put once. By windows of 2 ticks two processes are taken in each of five
 /// windows, by windows of 1 tick in each of seven: the first line goes out before the first, the rows of each after it
-/// and before the next, and the report in the end. A comparison runs by windows once.
+/// and before the next one ends, and the report in the end. A comparison runs by windows once.
 #[test]
 fn as_windows_close(rt: HostRuntime) {
     let alloc = rt.alloc();
@@ -117,13 +134,17 @@ fn as_windows_close(rt: HostRuntime) {
         window,
     };
     for (order, workers, puts) in [
-        (Order::Check { path }, 0, [0].as_slice()),
-        (Order::List { path, print: both }, 0, &[0]),
-        (run(2, 2, trace), 2, &[0, 2, 4, 6, 8, 10]),
-        (run(2, 1, trace), 2, &[0, 2, 4, 6, 8, 10, 12, 14]),
-        (run(1, 2, both), 1, &[0, 2, 4, 6, 8, 10, 10]),
-        (run(64, 2, PrintChoice::Report), 2, &[10]),
-        (compare, 2, &[10]),
+        (Order::Check { path }, 0, [(0, 0)].as_slice()),
+        (Order::List { path, print: both }, 0, &[(0, 0)]),
+        (run(2, 2, trace), 2, &BY_ROWS[..6]),
+        (run(2, 1, trace), 2, &BY_ROWS),
+        (
+            run(1, 2, both),
+            1,
+            &[(0, 0), (2, 4), (4, 6), (6, 8), (8, 10), (10, 10), (10, 10)],
+        ),
+        (run(64, 2, PrintChoice::Report), 2, &[(10, 10)]),
+        (compare, 2, &[(10, 10)]),
     ] {
         goes(&rt, alloc, &file, order, workers, puts);
     }
@@ -136,7 +157,7 @@ fn workers_that_are_asked_for(rt: HostRuntime) {
     let file = changed(&rt, alloc, FIVE, "horizon = 200", "horizon = 1");
     for (asked, workers) in [(1, 1), (2, 2), (3, 3), (4, 4), (5, 5), (64, 5)] {
         let order = run(asked, 2, PrintChoice::Trace);
-        goes(&rt, alloc, &file, order, workers, &[0, 5]);
+        goes(&rt, alloc, &file, order, workers, &[(0, 0), (5, 5)]);
     }
 }
 
@@ -149,5 +170,12 @@ fn long_rows(rt: HostRuntime) {
     let many = changed(&rt, alloc, ONE_PROCESS, one, many);
     let file = changed(&rt, alloc, &many, "horizon = 1\n", "horizon = 2\n");
     let order = run(2, 1, PrintChoice::Trace);
-    goes(&rt, alloc, &file, order, 2, &[0, 64, 128, 128]);
+    goes(
+        &rt,
+        alloc,
+        &file,
+        order,
+        2,
+        &[(0, 0), (64, 128), (128, 128), (128, 128)],
+    );
 }

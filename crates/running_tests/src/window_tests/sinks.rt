@@ -125,10 +125,11 @@ fn parts_in_order(rt: HostRuntime) {
     }
 }
 
-/// The same of each part where 256 processes send to all at each tick. A part ends with a tick, as soon as it has 1,024
-/// entries: the first window has 512, and each later tick has more than 65,000.
-const LARGE_PARTS: [(usize, u64, u64); 5] = [
-    (512, 512, 131_840),
+/// The same of each part where 256 processes send to all at each tick. A part ends with a tick, as soon as it has 256
+/// entries: the first two ticks have as many, and each later one has more than 65,000.
+const LARGE_PARTS: [(usize, u64, u64); 6] = [
+    (256, 512, 131_840),
+    (256, 512, 131_840),
     (65_536, 131_840, 262_912),
     (65_792, 131_840, 262_912),
     (65_536, 262_912, 262_912),
@@ -147,13 +148,13 @@ fn large_parts_wait(rt: HostRuntime) {
         entries: Vec::new(alloc),
         handed: Vec::new(alloc),
         inputs,
-        most: 5,
+        most: 6,
         writes: false,
         failures: 0,
     };
     let done = run_windows_into(&rt, alloc, &scenario, machines, &plan, &OpenGate, &mut sink);
     assert!(rt; done.is_ok());
-    same(&rt, &sink.handed.len(), &5);
+    same(&rt, &sink.handed.len(), &6);
     for (came, part) in sink.handed.iter().zip(LARGE_PARTS) {
         assert!(rt; is_beside(*came, part));
     }
