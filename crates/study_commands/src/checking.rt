@@ -47,7 +47,7 @@ fn limit_line(alloc: Global, limit: u64, entries: u64) -> Result<String, AllocEr
 
 /// From so many entries a window on, a run by 4 workers was the quicker one where it was measured, on 4 cores
 /// (docs/SPEED.md, 'By windows').
-pub const WORTH_FOUR_WORKERS: u64 = 50_000;
+pub const WORTH_FOUR_WORKERS: u64 = 14_000;
 
 /// How long the windows of a run may be, about how much they then are, and which way is likely faster.
 fn window_line(alloc: Global, ticks: u32, entries: u64) -> Result<String, AllocError>
