@@ -26,8 +26,8 @@ use std::sync::Wait;
 use std::thread::Threads;
 use trace_merge::Merging;
 
-/// How many entries a piece of a window has at least, but for the last one. A piece is still in a processor's cache as it
-/// is handed on; with fewer entries, each call of the sink would cost more than that saves.
+/// How many entries a piece of a window has at least, but for the last one. A piece is still in a processor's cache as
+/// it is handed on; with fewer entries, each call of the sink would cost more than that saves.
 const PIECE: usize = 256;
 
 /// Merges the parts, and hands them on in pieces that rise end to end. Their memory joins that of others.
@@ -171,8 +171,8 @@ fn run_and_hand_on<M: Process, G: Gate, K: Sink, R: Threads + Wait + Sync>(
 
 /// Runs machines by windows of the plan's length, each shared by the plan's workers, up to the horizon. There is one
 /// machine for each process, of process 1 first, and each opens as the scenario says; the plan's window is no longer
-/// than the scenario's lookahead. When a window is closed, its entries go to the sink, in parts of whole ticks, while the
-/// workers of the next window run. The sink takes the trace of the single event list, under every schedule of the
+/// than the scenario's lookahead. When a window is closed, its entries go to the sink, in parts of whole ticks, while
+/// the workers of the next window run. The sink takes the trace of the single event list, under every schedule of the
 /// threads.
 ///
 /// # Errors

@@ -57,8 +57,9 @@ impl Sink for Counting {
     }
 }
 
-/// Whether a part has so many entries, and was handed on beside the next window, if there is one: the machines had taken
-/// at least so many inputs, those of its own window and of the windows before, and at most so many, with the next one's.
+/// Whether a part has so many entries, and was handed on beside the next window, if there is one: the machines had
+/// taken at least so many inputs, those of its own window and of the windows before, and at most so many, with the next
+/// one's.
 fn is_beside(handed: (usize, u64), part: (usize, u64, u64)) -> bool {
     let (entries, least, most) = part;
     handed.0 == entries && least <= handed.1 && handed.1 <= most
