@@ -1,5 +1,5 @@
 //! Merging of the parts of a trace, whole or in pieces.
-ghost use Rattle.std.specs.Prelude.{◌≡◌, ◌≤◌, ◌⊎◌, ◌++◌, List, [], length, map, IsTrue, IfOk, IfErr, All, IsPermutation};
+ghost use Rattle.std.specs.Prelude.{◌≡◌, ◌<◌, ◌≤◌, ◌⊎◌, ◌++◌, List, [], length, map, IsTrue, IfOk, IfErr, All, IsPermutation};
 ghost use Rattle.process_api.specs.EntryRecord.{EntryRecord};
 ghost use Rattle.process_api.specs.Order.{is_rising};
 ghost use Rattle.trace_merge.specs.Parts.{all_of, AreDisjoint, IsMergeOf};
@@ -68,6 +68,7 @@ impl Merging {
         ensures front { IfOk result (λ r. (rest : List EntryRecord)
             → IsMergeOf r.1 rest → IsMergeOf self (r.0.items ++ rest)) }
         ensures left { IfOk result (λ r. (rest : List EntryRecord) × IsMergeOf r.1 rest) }
+        ensures whole { IfOk result (λ r. All (λ e. All (λ f. e.key.tick < f.key.tick) (all_of r.1)) r.0.items) }
         ensures enough { IfOk result (λ r. (least ≤ length r.0.items) ⊎ (all_of r.1 ≡ [])) }
         ensures err { IfErr result (λ e. e ≡ RunError.Memory) }
     {
