@@ -1,13 +1,13 @@
 -- Events in a row and all later ones, as a finite set of events.
-use Rattle.pending_events.proofs.Words.{◌≡◌, ◌≢◌, ◌≤◌, ◌<◌, ℕ, ◌+◌, inl, inr, refl, sym, ap, ◌∙◌, subst, arith, Bool, cond, true, false, List, [], ◌∷◌, length, reverse, Option, Some, None, MatchOption, Result, Ok, Err, OnOk, OnErr, AllocError, find, cases_eq, option_or, eq_by_cmp, key_cmp, Key, StepInput, keys_total, exact_keys, Calendar, latest, Content, found, AreAdded, came, IsCalendar, IsParted, IsTaken, IsVacant, IsEmpty, Event, Events, IsLeast, joined, not_None}
+use Rattle.pending_events.proofs.Words.{◌≡◌, ◌≢◌, ◌≤◌, ◌<◌, ℕ, ◌+◌, inl, inr, refl, sym, ap, ◌∙◌, subst, arith, Bool, cond, true, false, List, [], ◌∷◌, length, reverse, Option, Some, None, MatchOption, Result, Ok, Err, OnOk, OnErr, AllocError, find, cases_eq, option_or, eq_by_cmp, key_cmp, Key, StepInput, keys_total, exact_keys, Calendar, latest, Content, due, found, came, AllByRecursion, IsCalendar, IsParted, IsPut, IsTaken, IsVacant, IsEmpty, Event, Events, IsLeast, joined, not_None, weaker}
 use Rattle.std.proofs.Common.{is_some}
 use Rattle.std.specs.FinMap as events
 use Rattle.std.proofs.lemmas.List.{length-reverse}
 use Rattle.process_api.proofs.KeyOrder.{ticks_rise}
 use Rattle.pending_events.specs.Inside.Calendar.{all_in, Content-prop}
 use Rattle.trace_laws.proofs.Sets.{inserted, removed, tie}
-use Rattle.pending_events.proofs.Falling.{found_here, none_latest, or_assoc, or_None}
-use Rattle.pending_events.proofs.Nearby.{all_came, other_tick}
+use Rattle.pending_events.proofs.Falling.{found_here, latest_append, none_latest, or_assoc, or_None}
+use Rattle.pending_events.proofs.Nearby.{all_came}
 use Rattle.pending_events.proofs.Rows.{get_joined}
 
 -- all sets of what is found are one
@@ -31,10 +31,14 @@ chosen : (b : Bool) (f a o : Option StepInput) → (b ≡ true → f ≡ None) �
 chosen true f a o h = sym (ap (λ g. option_or g o) (h refl))
 chosen false f a o h = refl
 
+-- events of another tick are not found
+other_tick : (t : ℕ) (q : Key) (es : List Event) → AllByRecursion (λ e. e.0.tick ≡ t) es → q.tick ≢ t → latest q es ≡ None
+other_tick t q es own n = none_latest q es (weaker _ _ (λ e is s. n (ap (λ (k : Key). k.tick) s ∙ is)) es own)
+
 module _ {end : ℕ} {m : Events} {c : Calendar} {all : Events} (h : IsParted end m c all) where
   -- the row has changed at a key
   here : (k : Key) → k.tick < end → (q : Key) (o : Option StepInput) → cond (eq_by_cmp key_cmp q k) o (events.get all q) ≡ option_or (found c q) (cond (eq_by_cmp key_cmp q k) o (events.get m q))
-  here k low q o = ap (cond (eq_by_cmp key_cmp q k) o) (h.holds q) ∙ chosen _ (found c q) (events.get m q) o (λ e. ap (found c) (exact_keys q k (tie _ e)) ∙ h.none_below k low)
+  here k low q o = ap (cond (eq_by_cmp key_cmp q k) o) (h.holds q) ∙ chosen _ (found c q) (events.get m q) o (λ e. ap (found c) (exact_keys q k (tie _ e)) ∙ ap (latest k) (h.none_below k.tick low))
 
   abbrev AreJoined : Result (Unit {0}) AllocError → Event → Events → Type 0
   AreJoined r e new = OnOk r (new ≡ events.insert all e.0 e.1) × OnErr r (new ≡ all)
@@ -54,20 +58,25 @@ module _ {end : ℕ} {m : Events} {c : Calendar} {all : Events} (h : IsParted en
   )
 
   -- a later event comes
-  pub later_joined : (e : Event) → end ≤ e.0.tick → (r : Result (Unit {0}) AllocError) (d : Calendar) → IsCalendar d → d.from ≡ c.from → AreAdded c d (came r e) → Stands end m d (AreJoined r e)
-  later_joined e late r d i from added = (
+  pub later_joined : (e : Event) → end ≤ e.0.tick → (r : Result (Unit {0}) AllocError) (d : Calendar) → IsCalendar d → d.from ≡ c.from → IsPut (due c) (due d) e.0.tick (came r e) → Stands end m d (AreJoined r e)
+  later_joined e late r d i from put = (
     joined all (came r e),
     record {
       calendar = i;
       below = h.below;
-      none_below = λ q low. added q
-          ∙ (ap (λ o. option_or o (found c q)) (none_latest q (came r e) (all_came (λ f. q ≢ f.0) r e (λ s. omega (arith, low, late, ap (λ (k : Key). k.tick) s)))) ∙ h.none_below q low);
+      none_below = λ t low. put.others t (omega (arith, low, late)) ∙ h.none_below t low;
       from = omega (arith, h.from, from);
       holds = λ q. get_joined (came r e) all q
           ∙ (ap (option_or (latest q (came r e))) (h.holds q) ∙ (sym (or_assoc _ (found c q) (events.get m q)) ∙ ap (λ o. option_or o (events.get m q)) (sym (added q))));
     },
     elim r as (λ r. AreJoined r e (joined all (came r e))) [ Ok x ↦ (refl, tt) | Err x ↦ (tt, refl) ],
   )
+    where
+      added : (q : Key) → found d q ≡ option_or (latest q (came r e)) (found c q)
+      added q = elim (cases_eq q.tick e.0.tick) [
+        | inl s ↦ ap (λ t. latest q (due d t)) s ∙ (ap (latest q) put.here ∙ (latest_append q (due c e.0.tick) (came r e) ∙ ap (λ t. option_or (latest q (came r e)) (latest q (due c t))) (sym s)))
+        | inr n ↦ ap (latest q) (put.others q.tick n) ∙ sym (ap (λ o. option_or o (found c q)) (other_tick e.0.tick q (came r e) (all_came (λ f. f.0.tick ≡ e.0.tick) r e refl) n))
+      ]
 
   -- the least event of the row is taken, which is the least of all
   abbrev IsTakenFrom : Option Event → Events → Type 0
@@ -75,7 +84,7 @@ module _ {end : ℕ} {m : Events} {c : Calendar} {all : Events} (h : IsParted en
 
   pub row_taken : (r : Option Event) (n : Events) → (IsEmpty m → IsVacant c) → MatchOption r (IsEmpty m) (λ e. IsLeast m e.0 e.1) → MatchOption r (n ≡ m) (λ e. n ≡ events.remove m e.0) → Stands end n c (IsTakenFrom r)
   row_taken None n vacant none same = subst (λ n. Stands end n c (IsTakenFrom None)) (sym same)
-      (all, h, ((λ q y there. none q y (sym (ap (λ o. option_or o (events.get m q)) (vacant none q)) ∙ (sym (h.holds q) ∙ there))), refl))
+      (all, h, ((λ q y there. none q y (sym (ap (λ o. option_or o (events.get m q)) (ap (latest q) (vacant none q.tick))) ∙ (sym (h.holds q) ∙ there))), refl))
   row_taken (Some e) n vacant least gone = subst (λ n. Stands end n c (IsTakenFrom (Some e))) (sym gone) (
     events.remove all e.0,
     record {
@@ -87,10 +96,10 @@ module _ {end : ℕ} {m : Events} {c : Calendar} {all : Events} (h : IsParted en
     },
     (
       record {
-        there = h.holds e.0 ∙ (ap (λ o. option_or o (events.get m e.0)) (h.none_below e.0 low) ∙ least.there);
+        there = h.holds e.0 ∙ (ap (λ es. option_or (latest e.0 es) (events.get m e.0)) (h.none_below e.0.tick low) ∙ least.there);
         none_before = λ q y has less.
             let sooner = ticks_rise q e.0 less in
-            least.none_before q y (sym (ap (λ o. option_or o (events.get m q)) (h.none_below q (omega (arith, low, sooner)))) ∙ (sym (h.holds q) ∙ has)) less;
+            least.none_before q y (sym (ap (λ es. option_or (latest q es) (events.get m q)) (h.none_below q.tick (omega (arith, low, sooner)))) ∙ (sym (h.holds q) ∙ has)) less;
       },
       refl,
     ),
@@ -106,9 +115,9 @@ pub none_parted : (m : Events) (c : Calendar) → IsCalendar c → IsVacant c �
 none_parted m c i vacant from none = record {
   calendar = i;
   below = λ q y there. absurd (none q y there);
-  none_below = λ q low. vacant q;
+  none_below = λ t low. vacant t;
   from = omega (arith, from);
-  holds = λ q. ap (λ o. option_or o (events.get m q)) (sym (vacant q));
+  holds = λ q. ap (λ es. option_or (latest q es) (events.get m q)) (sym (vacant q.tick));
 }
 
 none_at : (m : Events) (q : Key) → IsEmpty m → events.get m q ≡ None
@@ -131,6 +140,15 @@ module _ {end : ℕ} {m : Events} {c : Calendar} {all : Events} (h : IsParted en
   alone : (q : Key) → events.get all q ≡ found c q
   alone q = h.holds q ∙ (ap (option_or (found c q)) (none_at m q none) ∙ or_None (found c q))
 
+  own : AllByRecursion (λ e. e.0.tick ≡ tick) es
+  own = subst (AllByRecursion (λ e. e.0.tick ≡ tick)) (sym t.all) (h.calendar.own tick)
+
+  same : (q : Key) → found c q ≡ option_or (found d q) (latest q es)
+  same q = elim (cases_eq q.tick tick) [
+    | inl e ↦ ap (λ k. latest q (due c k)) e ∙ (ap (latest q) (sym t.all) ∙ sym (ap (λ xs. option_or (latest q xs) (latest q es)) (t.gone q.tick (omega (arith, e)))))
+    | inr n ↦ ap (latest q) (sym (t.others q.tick n)) ∙ (sym (or_None (found d q)) ∙ ap (option_or (found d q)) (sym (other_tick tick q es own n)))
+  ]
+
   -- memory was refused
   pub lost : IsEmpty n → Content (tick + 1) n d
   lost empty = (
@@ -138,10 +156,10 @@ module _ {end : ℕ} {m : Events} {c : Calendar} {all : Events} (h : IsParted en
     record {
       calendar = i;
       below = λ q y there. absurd (empty q y there);
-      none_below = λ q low. t.gone q (omega (arith, low));
+      none_below = λ k low. t.gone k (omega (arith, low));
       from = omega (arith, t.from);
       holds = λ q. events.get-retain_keys all (λ k. is_some (found d k)) q (λ x e. ap (λ k. is_some (found d k)) (sym (exact_keys q x e)))
-          ∙ (kept (found c q) (latest q es) (found d q) (events.get all q) (t.same q) (alone q) ∙ sym (ap (option_or (found d q)) (none_at n q empty) ∙ or_None (found d q)));
+          ∙ (kept (found c q) (latest q es) (found d q) (events.get all q) (same q) (alone q) ∙ sym (ap (option_or (found d q)) (none_at n q empty) ∙ or_None (found d q)));
     },
   )
 
@@ -154,12 +172,12 @@ module _ {end : ℕ} {m : Events} {c : Calendar} {all : Events} (h : IsParted en
       calendar = i;
       below = λ q y there. elim (cases_eq q.tick tick) [
         | inl e ↦ omega (arith, e)
-        | inr other ↦ absurd (not_None y (sym (at q ∙ other_tick tick q es t.own other) ∙ there))
+        | inr other ↦ absurd (not_None y (sym (at q ∙ other_tick tick q es own other) ∙ there))
       ];
-      none_below = λ q low. t.gone q (omega (arith, low));
+      none_below = λ k low. t.gone k (omega (arith, low));
       from = omega (arith, t.from);
-      holds = λ q. alone q ∙ (t.same q ∙ sym (ap (option_or (found d q)) (at q)));
+      holds = λ q. alone q ∙ (same q ∙ sym (ap (option_or (found d q)) (at q)));
     }
 
     pub filled_some : IsEmpty n → ⊥
-    filled_some empty = omega (arith, t.some, length-reverse es, none_first (reverse es) (λ q. sym (at q) ∙ none_at n q empty))
+    filled_some empty = omega (arith, t.first.some, ap length t.all, length-reverse es, none_first (reverse es) (λ q. sym (at q) ∙ none_at n q empty))

@@ -1,5 +1,5 @@
 -- Words and lemmas of the libraries and of this crate that several proofs use.
-pub use Rattle.std.proofs.Common.{Bool, Err, List, MatchOption, None, Ok, OnErr, OnOk, Option, Result, Some, [], ap, arith, cond, drop, drop-cons, false, get_or, inl, inr, is_lt, length, length-append, map, min, nat_cmp, nat_eq, refl, reverse, rules, slice_set, subst, suc, sym, true, true≢false, vec_len, zero, ℕ, ◌%◌, ◌++◌, ◌+◌, ◌-◌, ◌<◌, ◌∙◌, ◌∷◌, ◌≡◌, ◌≢◌, ◌≤◌}
+pub use Rattle.std.proofs.Common.{All, Bool, Err, List, MatchOption, None, Ok, OnErr, OnOk, Option, Result, Some, [], ap, arith, cond, drop, drop-cons, false, get_or, inl, inr, is_lt, length, length-append, map, min, nat_cmp, nat_eq, refl, reverse, rules, slice_set, subst, suc, sym, true, true≢false, vec_len, zero, ℕ, ◌%◌, ◌++◌, ◌+◌, ◌-◌, ◌<◌, ◌∙◌, ◌∷◌, ◌≡◌, ◌≢◌, ◌≤◌}
 pub use Rattle.std.proofs.lemmas.Bool.{cases_eq}
 pub use Rattle.std.proofs.lemmas.Bool.Decides.{nat_tests}
 pub use Rattle.std.proofs.lemmas.List.{get_or_default, length-set, nil_from_length, reverse-append}
@@ -18,8 +18,8 @@ pub use Rattle.trace_laws.proofs.Joining.{joined_one}
 pub use Rattle.trace_laws.proofs.Sets.{apart, not_None, tied}
 pub use Rattle.trace_laws.specs.Step.{Event, Events}
 pub use Rattle.trace_laws.specs.World.{IsLeast, joined}
-pub use Rattle.pending_events.specs.Inside.Buckets.{IsFiled, bucket, latest}
-pub use Rattle.pending_events.specs.Inside.Calendar.{AreAdded, Content, IsCalendar, IsParted, IsTaken, IsVacant, NoneAhead, came, found, lane}
+pub use Rattle.pending_events.specs.Inside.Buckets.{IsCleared, IsFull, IsPut, bucket, came, latest}
+pub use Rattle.pending_events.specs.Inside.Calendar.{Content, IsCalendar, IsParted, IsTaken, IsVacant, NoneAhead, ahead, due, found, lane}
 pub use Rattle.pending_events.specs.Inside.Order.{AreWithin, FallsStrictly, IsRow, event_at, events_at, no_event, row}
 pub use Rattle.pending_events.specs.Pending.{IsEmpty}
 pub use Rattle.pending_events.specs.declared.calendar.Calendar.{Calendar}

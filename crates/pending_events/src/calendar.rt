@@ -1,9 +1,9 @@
 //! Events by their ticks: a ring of buckets for the ticks ahead, and a map of buckets for all others.
-ghost use Rattle.std.specs.Prelude.{◌≡◌, ◌≢◌, ◌+◌, ◌++◌, ◌<◌, ◌≤◌, ◌%◌, ℕ, [], ◌∷◌, IfOk, MatchOption, OnErr, OnOk, false, length, true, vec_len};
-ghost use Rattle.std.specs.BTreeMap.{IsLowerBound, IsOrdered, get};
+ghost use Rattle.std.specs.Prelude.{◌≡◌, ◌++◌, ◌<◌, ◌≤◌, ◌%◌, ℕ, [], IfOk, MatchOption, false, length, true, vec_len};
+ghost use Rattle.std.specs.BTreeMap.{IsLowerBound};
 ghost use Rattle.std.specs.Ordering.{nat_cmp};
-ghost use Rattle.pending_events.specs.Inside.Buckets.{HasTick, IsFiled, IsSame, bucket};
-ghost use Rattle.pending_events.specs.Inside.Calendar.{AreAdded, IsCalendar, IsFirst, IsTaken, IsVacant, NoneAhead, came, lane, year};
+ghost use Rattle.pending_events.specs.Inside.Buckets.{HasTick, IsCleared, IsFull, IsPut, bucket, came};
+ghost use Rattle.pending_events.specs.Inside.Calendar.{IsCalendar, IsFirst, IsTaken, IsVacant, NoneAhead, due, lane, year};
 
 use std::alloc::{AllocError, Global};
 use std::collections::BTreeMap;
@@ -87,7 +87,7 @@ impl Calendar {
         requires tick { event.0.tick ≡ tick }
         requires from { self.old.from ≤ tick }
         ensures calendar { IsCalendar self.new }
-        ensures added { AreAdded self.old self.new (came result event) }
+        ensures put { IsPut (due self.old) (due self.new) tick (came result event) }
         ensures from { self.new.from ≡ self.old.from }
     {
         if tick < self.from + YEAR {
@@ -136,9 +136,8 @@ fn first_filled(ring: &[Vec<Event>], from: u32, end: u32) -> Option<u32>
 /// Takes the events of a tick out of the map.
 fn take_listed(alloc: Global, map: &mut BTreeMap<u32, Vec<Event>>, tick: u32) -> Vec<Event>
     ensures whole { result.items ≡ bucket map.old tick }
-    ensures gone { HasTick map.new tick → ⊥ }
-    ensures others { (t : ℕ) → t ≢ tick → get nat_cmp map.new t ≡ get nat_cmp map.old t }
-    ensures ordered { IsOrdered nat_cmp map.new }
+    ensures cleared { IsCleared (bucket map.old) (bucket map.new) tick }
+    ensures full { IsFull map.old → IsFull map.new }
 {
     map.remove(&tick).unwrap_or(Vec::new(alloc))
 }
@@ -147,8 +146,7 @@ fn take_listed(alloc: Global, map: &mut BTreeMap<u32, Vec<Event>>, tick: u32) ->
 fn take_near(alloc: Global, ring: &mut Vec<Vec<Event>>, tick: u32) -> Vec<Event>
     requires { length ring.old.items ≡ year }
     ensures whole { result.items ≡ lane ring.old.items (tick % year) }
-    ensures gone { lane ring.new.items (tick % year) ≡ [] }
-    ensures others { (p : ℕ) → p ≢ tick % year → lane ring.new.items p ≡ lane ring.old.items p }
+    ensures cleared { IsCleared (lane ring.old.items) (lane ring.new.items) (tick % year) }
     ensures long { length ring.new.items ≡ year }
 {
     let place = (tick % YEAR) as usize;
@@ -173,8 +171,7 @@ fn put_last(
     bucket: &mut Vec<Event>,
     event: Event,
 ) -> Result<(), AllocError>
-    ensures ok { OnOk result (bucket.new.items ≡ bucket.old.items ++ event ∷ []) }
-    ensures err { OnErr result (bucket.new.items ≡ bucket.old.items) }
+    ensures { bucket.new.items ≡ bucket.old.items ++ came result event }
 {
     if bucket.is_empty() {
         furnish(spare, bucket);
@@ -193,9 +190,7 @@ fn put_near(
     event: Event,
 ) -> Result<(), AllocError>
     requires { place < vec_len ring.old }
-    ensures ok { OnOk result (lane ring.new.items place ≡ lane ring.old.items place ++ event ∷ []) }
-    ensures err { OnErr result (lane ring.new.items place ≡ lane ring.old.items place) }
-    ensures others { (other : ℕ) → other ≢ place → lane ring.new.items other ≡ lane ring.old.items other }
+    ensures put { IsPut (lane ring.old.items) (lane ring.new.items) place (came result event) }
     ensures long { length ring.new.items ≡ length ring.old.items }
 {
     put_last(spare, &mut ring[place], event)
@@ -210,9 +205,8 @@ fn file(
     tick: u32,
     event: Event,
 ) -> Result<(), AllocError>
-    ensures ok { OnOk result (IsFiled map.old map.new tick event) }
-    ensures err { OnErr result (IsSame map.old map.new) }
-    ensures ordered { IsOrdered nat_cmp map.new }
+    ensures put { IsPut (bucket map.old) (bucket map.new) tick (came result event) }
+    ensures full { IsFull map.old → IsFull map.new }
 {
     if let Some(bucket) = map.get_mut(&tick) {
         bucket.push(event)?;

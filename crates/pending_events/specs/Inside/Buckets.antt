@@ -1,6 +1,7 @@
 -- Events by their ticks.
-use Rattle.std.specs.Prelude.{◌≡◌, ◌≢◌, ℕ, List, [], ◌∷◌, ◌++◌, reverse, Option, IsSome}
+use Rattle.std.specs.Prelude.{◌≡◌, ◌≢◌, ◌<◌, ℕ, List, [], ◌∷◌, ◌++◌, length, reverse, Option, IsSome, Result, Ok, Err}
 use Rattle.std.specs.Global.{Vec}
+use Rattle.std.specs.declared.alloc.AllocError.{AllocError}
 use Rattle.std.specs.Ordering.{nat_cmp}
 use Rattle.std.specs.Option.{unwrap_or, option_map}
 use Rattle.std.specs.BTreeMap.{BTreeMap}
@@ -26,13 +27,21 @@ bucket m t = unwrap_or (option_map (λ v. v.items) (tree.get nat_cmp m t)) []
 abbrev pub HasTick : Buckets → ℕ → Type 0
 HasTick m t = IsSome (tree.get nat_cmp m t)
 
--- an event came to the bucket of a tick
-pub record IsFiled (old new : Buckets) (tick : ℕ) (event : Event) : Type 0 where
-  pub here : bucket new tick ≡ bucket old tick ++ event ∷ []
-  pub others : (t : ℕ) → t ≢ tick → bucket new t ≡ bucket old t
-  pub has : (t : ℕ) → HasTick new t → (t ≢ tick → HasTick old t)
+-- no bucket is empty
+abbrev pub IsFull : Buckets → Type 0
+IsFull m = (t : ℕ) → HasTick m t → 0 < length (bucket m t)
 
--- the buckets have the same events
-pub record IsSame (old new : Buckets) : Type 0 where
-  pub each : (t : ℕ) → bucket new t ≡ bucket old t
-  pub has : (t : ℕ) → HasTick new t → HasTick old t
+-- what comes: an event, or none where memory was refused
+abbrev pub came : Result (Unit {0}) AllocError → Event → List Event
+came (Ok _) event = event ∷ []
+came (Err _) event = []
+
+-- of lists of events one has more at its end
+pub record IsPut (old new : ℕ → List Event) (at : ℕ) (more : List Event) : Type 0 where
+  pub here : new at ≡ old at ++ more
+  pub others : (other : ℕ) → other ≢ at → new other ≡ old other
+
+-- of lists of events one has none left
+pub record IsCleared (old new : ℕ → List Event) (at : ℕ) : Type 0 where
+  pub gone : new at ≡ []
+  pub others : (other : ℕ) → other ≢ at → new other ≡ old other

@@ -10,7 +10,9 @@ returns c =
     let inside : place < length ls = omega (arith, c.requires) in
     record {
       whole = ap (λ v. v.items) (c.replace.ensures.value ∙ c.index_mut.ensures.value) ∙ lane_there ls place c.index_mut.result.now inside;
-      gone = lane_set ls place empty inside ∙ (ap (λ v. v.items) c.replace.ensures.after ∙ c.new.ensures.items);
-      others = λ p n. lane_kept ls place empty p n;
+      cleared = record {
+        gone = lane_set ls place empty inside ∙ (ap (λ v. v.items) c.replace.ensures.after ∙ c.new.ensures.items);
+        others = λ p n. lane_kept ls place empty p n;
+      };
       long = length-set ls place empty ∙ c.requires;
     }

@@ -1,15 +1,17 @@
-use Rattle.pending_events.proofs.Words.{refl}
-use Rattle.pending_events.proofs.Nearby.{filed, near}
+use Rattle.pending_events.proofs.Words.{refl, ◌≡◌}
+use Rattle.pending_events.proofs.Nearby.{all_came, far_put, near_put, put_calendar}
 use Rattle.pending_events.proofs.calendar.Calendar.add.Goals as goal
 
 pub returns-then-tick-self : goal.returns-then-tick-self
 returns-then-tick-self c =
-    let m = c.put_near.ensures in
+    let f = c.args.self.now in
     let r = c.requires in
-    let is = near c.args.self.now r.calendar c.args.tick c.args.event r.tick r.from c.put_near.result c.put_near.new.ring c.if-tick-self.true m.ok m.err m.others m.long in
-    record { calendar = is.0; added = is.1; from = refl }
+    let put = near_put f r.calendar c.args.tick r.from _ c.put_near.new.ring c.if-tick-self.true c.put_near.ensures.put in
+    record { calendar = put_calendar f r.calendar c.args.tick r.from _ c.put_near.new.ring f.map (all_came (λ e. e.0.tick ≡ c.args.tick) c.put_near.result c.args.event r.tick) c.put_near.ensures.long r.calendar.full put; put = put; from = refl }
 
-pub returns-clause-added : goal.returns-clause-added
-returns-clause-added c =
+pub returns : goal.returns
+returns c =
+    let f = c.args.self.now in
     let r = c.requires in
-    filed c.args.self.now r.calendar c.args.tick c.args.event r.tick r.from c.file.result c.file.new.map c.if-tick-self.false c.file.ensures.ok c.file.ensures.err
+    let put = far_put f r.calendar c.args.tick r.from _ c.file.new.map c.if-tick-self.false c.file.ensures.put in
+    record { calendar = put_calendar f r.calendar c.args.tick r.from _ f.ring c.file.new.map (all_came (λ e. e.0.tick ≡ c.args.tick) c.file.result c.args.event r.tick) refl (c.file.ensures.full r.calendar.full) put; put = put; from = refl }
