@@ -108,9 +108,6 @@ module _ {end : ℕ} {m : Events} {c : Calendar} {all : Events} (h : IsParted en
       low : e.0.tick < end
       low = h.below e.0 e.1 least.there
 
-pub no_event : (m : Events) → m ≡ events.empty → IsEmpty m
-no_event m is k y there = not_None y (sym (ap (λ s. events.get s k) is ∙ events.get-empty key_cmp k) ∙ there)
-
 pub none_parted : (m : Events) (c : Calendar) → IsCalendar c → IsVacant c → c.from ≡ 0 → IsEmpty m → IsParted 0 m c m
 none_parted m c i vacant from none = record {
   calendar = i;

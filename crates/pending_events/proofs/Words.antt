@@ -1,5 +1,5 @@
 -- Words and lemmas of the libraries and of this crate that several proofs use.
-pub use Rattle.std.proofs.Common.{All, Bool, Err, List, MatchOption, None, Ok, OnErr, OnOk, Option, Result, Some, [], ap, arith, cond, drop, drop-cons, false, get_or, inl, inr, is_lt, length, length-append, map, min, nat_cmp, nat_eq, refl, reverse, rules, slice_set, subst, suc, sym, true, true≢false, vec_len, zero, ℕ, ◌%◌, ◌++◌, ◌+◌, ◌-◌, ◌<◌, ◌∙◌, ◌∷◌, ◌≡◌, ◌≢◌, ◌≤◌}
+pub use Rattle.std.proofs.Common.{All, Bool, Err, Less, List, MatchOption, None, Ok, OnErr, OnOk, Option, Result, Some, [], ap, arith, cond, drop, drop-cons, false, get_or, inl, inr, is_lt, length, length-append, map, min, nat_cmp, nat_eq, refl, reverse, rules, slice_set, subst, suc, sym, true, true≢false, vec_len, zero, ℕ, ◌%◌, ◌++◌, ◌+◌, ◌-◌, ◌<◌, ◌∙◌, ◌∷◌, ◌≡◌, ◌≢◌, ◌≤◌}
 pub use Rattle.std.proofs.lemmas.Bool.{cases_eq}
 pub use Rattle.std.proofs.lemmas.Bool.Decides.{nat_tests}
 pub use Rattle.std.proofs.lemmas.List.{get_or_default, length-set, nil_from_length, reverse-append}
@@ -15,6 +15,7 @@ pub use Rattle.process_api.specs.Order.{is_before, key_cmp}
 pub use Rattle.process_api.specs.declared.key.Key.{Key}
 pub use Rattle.process_api.specs.declared.message.StepInput.{StepInput}
 pub use Rattle.trace_laws.proofs.Joining.{joined_one}
+pub use Rattle.trace_laws.proofs.Rising.{less_is}
 pub use Rattle.trace_laws.proofs.Sets.{apart, not_None, tied}
 pub use Rattle.trace_laws.specs.Step.{Event, Events}
 pub use Rattle.trace_laws.specs.World.{IsLeast, joined}

@@ -1,6 +1,7 @@
 use Rattle.pending_events.proofs.Words.{◌∙◌, ◌+◌, ap, sym, subst, joined, Content, IsParted}
 use Rattle.std.specs.FinMap as events
-use Rattle.pending_events.proofs.Parted.{filled, filled_some, lost, no_event}
+use Rattle.pending_events.proofs.Parted.{filled, filled_some, lost}
+use Rattle.pending_events.proofs.Rows.{none_in}
 use Rattle.pending_events.proofs.pending.fill.Goals as goal
 
 pub returns-in_default-clause-parted : goal.returns-in_default-clause-parted
@@ -15,7 +16,7 @@ pub returns-in_err-fill-clause-parted : goal.returns-in_err-fill-clause-parted
 returns-in_err-fill-clause-parted c =
     let row = c.replace-full.new.dest in
     subst (λ t. Content (t + 1) row c.take_first.new.self) (sym c.from.ensures)
-    (lost c.requires.parted.1 c.requires.none c.in-Some.ensures.calendar c.in-Some.ensures.taken row (no_event row (c.replace-full.ensures.after ∙ c.new.ensures)))
+    (lost c.requires.parted.1 c.requires.none c.in-Some.ensures.calendar c.in-Some.ensures.taken row (none_in row (c.replace-full.ensures.after ∙ c.new.ensures)))
 
 pub returns : goal.returns
 returns c =
