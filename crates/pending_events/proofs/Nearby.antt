@@ -82,6 +82,7 @@ module _ (ring : Vec (Vec Event)) (map : Buckets) (none : (p : ℕ) → lane rin
   new_calendar long = record {
     own = λ t. subst (AllByRecursion (λ e. e.0.tick ≡ t)) (sym (vacant_of t)) tt;
     soon = λ t before. vacant_of t;
+    late = λ t past. vacant_of t;
     full = λ t there. absurd (never t there);
     long = long;
     room = omega arith;
@@ -112,15 +113,16 @@ module _ (c : Calendar) (h : IsCalendar c) (tick : ℕ) (low : c.from ≤ tick) 
         others = λ t n. ap (λ xs. xs ++ ahead c t) (put.others t n);
       }
 
-  pub put_calendar : (ring2 : Vec (Vec Event)) (m : Buckets) → AllByRecursion (λ e. e.0.tick ≡ tick) es → length ring2.items ≡ length c.ring.items → IsFull m → IsPut (due c) (due (calendar_of c.from ring2 m)) tick es
+  pub put_calendar : (ring2 : Vec (Vec Event)) (m : Buckets) → tick < 4294967296 → AllByRecursion (λ e. e.0.tick ≡ tick) es → length ring2.items ≡ length c.ring.items → IsFull m → IsPut (due c) (due (calendar_of c.from ring2 m)) tick es
       → IsCalendar (calendar_of c.from ring2 m)
-  put_calendar ring2 m own long full put = record {
+  put_calendar ring2 m fits own long full put = record {
     own = λ t. elim (cases_eq t tick) [
       | inl e ↦ subst (λ u. AllByRecursion (λ f. f.0.tick ≡ u) (due (calendar_of c.from ring2 m) u)) (sym e)
           (subst (AllByRecursion (λ f. f.0.tick ≡ tick)) (sym put.here) (both (λ f. f.0.tick ≡ tick) (due c tick) es (h.own tick) own))
       | inr n ↦ subst (AllByRecursion (λ f. f.0.tick ≡ t)) (sym (put.others t n)) (h.own t)
     ];
     soon = λ t before. put.others t (omega (arith, before, low)) ∙ h.soon t before;
+    late = λ t past. put.others t (omega (arith, past, fits)) ∙ h.late t past;
     full = full;
     long = long ∙ h.long;
     room = h.room;
@@ -210,6 +212,7 @@ module _ (c : Calendar) (h : IsCalendar c) (tick : ℕ) (first : IsFirst c tick)
         | inr before ↦ subst (AllByRecursion (λ e. e.0.tick ≡ t)) (sym (gone t before)) tt
       ];
       soon = λ t before. gone t (omega (arith, before, is));
+      late = λ t past. elim (cases_lt tick t) [ inl after ↦ kept t after ∙ h.late t past | inr before ↦ gone t before ];
       full = full;
       long = long;
       room = omega (arith, is);

@@ -20,7 +20,7 @@ pub use Rattle.trace_laws.proofs.Sets.{apart, not_None, tied}
 pub use Rattle.trace_laws.specs.Step.{Event, Events}
 pub use Rattle.trace_laws.specs.World.{IsLeast, joined}
 pub use Rattle.pending_events.specs.Inside.Buckets.{IsCleared, IsFull, IsPut, bucket, came, latest}
-pub use Rattle.pending_events.specs.Inside.Calendar.{Content, IsCalendar, IsParted, IsTaken, IsVacant, NoneAhead, ahead, due, found, lane}
+pub use Rattle.pending_events.specs.Inside.Calendar.{IsCalendar, IsParted, IsTaken, IsVacant, NoneAhead, ahead, all_in, due, found, lane}
 pub use Rattle.pending_events.specs.Inside.Order.{AreWithin, FallsStrictly, IsRow, event_at, events_at, no_event, row}
 pub use Rattle.pending_events.specs.Pending.{IsEmpty}
 pub use Rattle.pending_events.specs.declared.calendar.Calendar.{Calendar}
