@@ -37,7 +37,7 @@ returns c =
     let hs = c.args.homes.now.items in
     let end : length hs ≤ c.loop-at.at = search rules in
     record {
-      out = c.loop-at.invariant.0 ∙ (λ j. map one_out (take_all c.loop-at.at hs end j) ++ drop_all c.loop-at.at hs end j) ∙ append-nil (map one_out hs);
+      out = c.kept.ensures ∙ c.loop-at.invariant.0 ∙ (λ j. map one_out (take_all c.loop-at.at hs end j) ++ drop_all c.loop-at.at hs end j) ∙ append-nil (map one_out hs);
       err = tt;
       slip = ap slip_with (c.loop-at.invariant.1 ∙ ap (map blank) (take_all c.loop-at.at hs end)) ∙ blank-slip hs ∙ ap unused (sym c.requires);
     }
