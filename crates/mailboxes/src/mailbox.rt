@@ -132,6 +132,7 @@ impl Mailbox {
     }
 
     /// Posts a letter. Where memory is refused it comes back, and nothing changes.
+    #[tactic(auto, using(crate::proofs::Homes::soonest_both))]
     pub(crate) fn post<R: Wait>(
         &self,
         rt: &R,
@@ -173,6 +174,7 @@ impl Mailbox {
     }
 
     /// Takes a ticket back.
+    #[tactic(auto, using(crate::proofs::Homes::soonest_both))]
     pub(crate) fn take_back(&self, home: &mut Home, ticket: Ticket)
         requires home { home.old.mailbox ≡ self.now }
         requires ticket { ticket.mailbox ≡ self.now }
