@@ -2,6 +2,7 @@
 ghost use Rattle.std.specs.Prelude.{◌≡◌, ◌++◌, ◌∷◌, [], List, OnOk};
 ghost use Rattle.process_api.specs.declared.message.Letter.{Letter};
 
+use process_api::Letter;
 use std::alloc::AllocError;
 use trace_laws::Parcel;
 
@@ -21,12 +22,12 @@ pub trait Collects {
 }
 
 /// Keeps the letters.
-impl Collects for Vec<Parcel> {
+impl Collects for Vec<Letter> {
     ghost collected = { λ _ kept letters. kept.items ≡ letters };
 
     #[inline(always)]
     fn collect(&mut self, letter: Parcel) -> Result<(), AllocError> {
-        self.push(letter)?;
+        self.push(letter.into_letter())?;
         Ok(())
     }
 }

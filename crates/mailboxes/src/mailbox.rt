@@ -14,7 +14,6 @@ use crossbeam_queue::{RuledSegQueue, SegPass};
 use ledger::{Account, Settling, Ticketing};
 use std::alloc::{AllocError, Global};
 use std::marker::Model;
-use std::mem::replace;
 use std::sync::Wait;
 use trace_laws::Parcel;
 
@@ -48,8 +47,6 @@ pub(crate) struct Ticket {
     pass: Pass,
     // the least tick of what was posted, if anything was
     soonest: Option<u32>,
-    // kept for its memory: what it holds means nothing
-    room: Vec<Parcel>,
 }
 
 impl Model for Ticket {
@@ -77,8 +74,8 @@ pub(crate) struct Home {
     pass: Pass,
     // the least tick of what was posted by tickets that came back, if anything was
     soonest: Option<u32>,
-    // kept for the tickets
-    rooms: Vec<Vec<Parcel>>,
+    // lists of trays, kept for their memory: what they hold means nothing. The first receiver's pass has those of all
+    pub kept: Vec<Vec<Vec<Parcel>>>,
 }
 
 impl Model for Home {
@@ -100,26 +97,6 @@ impl Model for Home {
         × (h.soonest ≡ soonest_in h.pass.me.view.client.put) };
 }
 
-impl Ticket {
-    /// An empty list, in the memory that was kept.
-    pub(crate) fn list(&mut self) -> Vec<Parcel>
-        ensures ticket { self.new ≡ self.old }
-        ensures list { result.items ≡ [] }
-    {
-        let none = Vec::new(*self.room.allocator());
-        let mut list = replace(&mut self.room, none);
-        list.clear();
-        list
-    }
-
-    /// Keeps the memory of a list.
-    pub(crate) fn keep(&mut self, list: Vec<Parcel>)
-        ensures { self.new ≡ self.old }
-    {
-        self.room = list;
-    }
-}
-
 impl Home {
     /// The least tick of what was posted by tickets that came back, if anything was.
     pub(crate) fn soonest(&self) -> Option<u32>
@@ -138,7 +115,7 @@ impl Mailbox {
         let home = Home {
             pass,
             soonest: None,
-            rooms: Vec::new(alloc),
+            kept: Vec::new(alloc),
         };
         Ok((Mailbox { queue }, home))
     }
@@ -149,17 +126,13 @@ impl Mailbox {
         ensures home { home.new ≡ one_out home.old }
         ensures ticket { result ≡ ticket_of home.old.mailbox [] }
     {
-        let none = Vec::new(*home.rooms.allocator());
-        let room = home.rooms.pop().unwrap_or(none);
         let pass = self.queue.another::<Ticketing>(&mut home.pass);
-        Ticket {
-            pass,
-            soonest: None,
-            room,
-        }
+        let soonest = None;
+        Ticket { pass, soonest }
     }
 
     /// Posts a letter. Where memory is refused it comes back, and nothing changes.
+    #[tactic(auto, using(crate::proofs::Homes::soonest_both))]
     pub(crate) fn post<R: Wait>(
         &self,
         rt: &R,
@@ -200,28 +173,24 @@ impl Mailbox {
         Ok(())
     }
 
-    /// Takes a ticket back. Its list is dropped where memory is refused.
+    /// Takes a ticket back.
+    #[tactic(auto, using(crate::proofs::Homes::soonest_both))]
     pub(crate) fn take_back(&self, home: &mut Home, ticket: Ticket)
         requires home { home.old.mailbox ≡ self.now }
         requires ticket { ticket.mailbox ≡ self.now }
         requires out { 0 < home.old.out }
         ensures { home.new ≡ one_back home.old ticket.posted }
     {
-        let Ticket {
-            pass,
-            soonest,
-            room,
-        } = ticket;
+        let Ticket { pass, soonest } = ticket;
         self.queue.absorb::<Ticketing>(&mut home.pass, pass);
         home.soonest = earlier(home.soonest, soonest);
-        let _kept = home.rooms.push(room);
     }
 
     /// Gives the letters away, in some order, once every ticket is back. The mailbox is as it was at first then.
     pub(crate) fn empty<R: Wait, T: Collects>(
         &self,
         rt: &R,
-        home: Home,
+        mut home: Home,
         to: &mut T,
     ) -> Result<Home, AllocError>
         requires home { home.mailbox ≡ self.now }
@@ -229,19 +198,10 @@ impl Mailbox {
         ensures home { IfOk result (λ h. h ≡ home_of home.mailbox 0 []) }
         ensures letters { OnOk result (HasCollected T.collected home.back to.old to.new) }
     {
-        let Home {
-            mut pass,
-            rooms,
-            ..
-        } = home;
-        drain(rt, &self.queue, &mut pass, to)?;
-        settle(&self.queue, &mut pass);
-        let soonest = None;
-        Ok(Home {
-            pass,
-            soonest,
-            rooms,
-        })
+        drain(rt, &self.queue, &mut home.pass, to)?;
+        settle(&self.queue, &mut home.pass);
+        home.soonest = None;
+        Ok(home)
     }
 }
 

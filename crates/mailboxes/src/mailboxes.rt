@@ -36,28 +36,7 @@ impl Model for Mailboxes {
         × All (λ h. (h.out ≡ m.slips) × (h.back ≡ [])) m.homes.items };
 }
 
-// The letters of a list.
-fn letters_of(alloc: Global, list: Vec<Parcel>) -> Result<Vec<Letter>, AllocError>
-    ensures { IfOk result (λ letters. letters.items ≡ list.items) }
-{
-    let mut letters = Vec::with_capacity(alloc, list.len())?;
-    for parcel in list {
-        letters.push(parcel.into_letter())?;
-    }
-    Ok(letters)
-}
-
-// The letters of an inbox, in some order.
-fn letters_from<R: Wait>(rt: &R, alloc: Global, inbox: Inbox) -> Result<Vec<Letter>, AllocError>
-    ensures { IfOk result (λ letters. IsPermutation inbox letters.items) }
-{
-    let mut parcels = Vec::new(alloc);
-    inbox.empty(rt, &mut parcels)?;
-    let letters = letters_of(alloc, parcels)?;
-    Ok(letters)
-}
-
-// The letters of each inbox.
+// The letters of each inbox, in some order.
 fn letters_from_all<R: Wait>(
     rt: &R,
     alloc: Global,
@@ -67,7 +46,9 @@ fn letters_from_all<R: Wait>(
 {
     let mut lists = Vec::new(alloc);
     for inbox in inboxes {
-        lists.push(letters_from(rt, alloc, inbox)?)?;
+        let mut letters = Vec::new(alloc);
+        inbox.empty(rt, &mut letters)?;
+        lists.push(letters)?;
     }
     Ok(lists)
 }

@@ -28,6 +28,22 @@ impl Model for SharedMailboxes {
     ghost view = { λ m. m.boxes.items };
 }
 
+// Lists that were kept for their memory, if there are any.
+fn kept(homes: &mut Vec<Home>) -> Option<Vec<Vec<Parcel>>>
+    ensures { homes.new.items ≡ homes.old.items }
+{
+    homes.first_mut()?.kept.pop()
+}
+
+// Keeps the memory of lists.
+fn keep(homes: &mut Vec<Home>, lists: Vec<Vec<Parcel>>)
+    ensures { homes.new.items ≡ homes.old.items }
+{
+    if let Some(home) = homes.first_mut() {
+        let _kept = home.kept.push(lists);
+    }
+}
+
 impl SharedMailboxes {
     /// Posts a letter to its receiver, 1 to n. Where memory is refused the letter comes back, and the slip and the
     /// mailboxes are as they were.
@@ -138,7 +154,8 @@ impl SharedMailboxes {
             let ticket = self.boxes[at].ticket(&mut homes[at]);
             tickets.push_reserved(ticket);
         }
-        Ok(Slip { tickets })
+        let kept = kept(homes).unwrap_or(Vec::new(alloc));
+        Ok(Slip { tickets, kept })
     }
 
     /// Takes a slip back.
@@ -149,11 +166,12 @@ impl SharedMailboxes {
         ensures homes { homes.new.items ≡ all_back homes.old.items slip.posted }
         ensures lists { length slip.posted ≡ vec_len homes.old }
     {
-        let Slip { tickets } = slip;
+        let Slip { tickets, kept } = slip;
         let mut at = 0;
         for ticket in tickets {
             self.boxes[at].take_back(&mut homes[at], ticket);
             at += 1;
         }
+        keep(homes, kept);
     }
 }

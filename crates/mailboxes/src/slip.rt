@@ -15,6 +15,8 @@ use trace_laws::Parcel;
 pub struct Slip {
     /// A ticket of each mailbox, by receiver.
     pub(crate) tickets: Vec<Ticket>,
+    // lists of a tray, kept for their memory: what they hold means nothing
+    pub(crate) kept: Vec<Vec<Parcel>>,
 }
 
 impl Model for Slip {
@@ -30,33 +32,6 @@ impl Model for Slip {
     ghost view = { λ s. slip_of (map (λ t. t.mailbox) s.tickets.items) (map (λ t. t.posted) s.tickets.items) };
 }
 
-// An empty list for each ticket, in the memory that it kept.
-#[tactic(auto, using(crate::proofs::Rows::set_same))]
-fn lists_of(tickets: &mut Vec<Ticket>) -> Result<Vec<Vec<Parcel>>, AllocError>
-    ensures tickets { tickets.new.items ≡ tickets.old.items }
-    ensures lists { IfOk result (λ lists. letters_in lists.items ≡ replicate (vec_len tickets.old) []) }
-{
-    let mut lists = Vec::with_capacity(*tickets.allocator(), tickets.len())?;
-    for at in 0..tickets.len() {
-        lists.push_reserved(tickets[at].list());
-    }
-    Ok(lists)
-}
-
-// Each ticket keeps the memory of the list at its place.
-#[tactic(auto, using(crate::proofs::Rows::set_same))]
-fn keep_lists(tickets: &mut Vec<Ticket>, lists: Vec<Vec<Parcel>>)
-    ensures { tickets.new.items ≡ tickets.old.items }
-{
-    let mut at = 0;
-    for list in lists {
-        if at < tickets.len() {
-            tickets[at].keep(list);
-            at += 1;
-        }
-    }
-}
-
 impl Slip {
     /// An empty tray, for letters that are posted by the slip with [`crate::SharedMailboxes::post_all`]. Its lists have
     /// the memory that the slip kept. The error is that memory was refused.
@@ -65,7 +40,14 @@ impl Slip {
         ensures fits { length self.old.posted ≡ length self.old.mailboxes }
         ensures empty { IfOk result (λ tray. tray ≡ replicate (length self.old.mailboxes) []) }
     {
-        let lists = lists_of(&mut self.tickets)?;
+        let Slip { tickets, kept } = self;
+        let alloc = *tickets.allocator();
+        let mut lists = Vec::with_capacity(alloc, tickets.len())?;
+        for _ in 0..tickets.len() {
+            let mut list = kept.pop().unwrap_or(Vec::new(alloc));
+            list.clear();
+            lists.push_reserved(list);
+        }
         Ok(Tray { lists })
     }
 
@@ -73,7 +55,6 @@ impl Slip {
     pub fn keep(&mut self, tray: Tray)
         ensures { self.new ≡ self.old }
     {
-        let Tray { lists } = tray;
-        keep_lists(&mut self.tickets, lists);
+        self.kept = tray.lists;
     }
 }

@@ -85,14 +85,9 @@ fn letters_of_slips(rt: HostRuntime) {
 fn has_numbers<R: Abort + Wait>(rt: &R, alloc: Global, inbox: Inbox, wanted: &[u64]) {
     let tick = if wanted.is_empty() { None } else { Some(7) };
     same(rt, &inbox.soonest(), &tick);
-    let mut parcels = Vec::new(alloc);
-    let inbox = inbox.empty(rt, &mut parcels).expect(rt, NO_MEMORY);
-    same(rt, &inbox.soonest(), &None);
     let mut letters = Vec::new(alloc);
-    for parcel in parcels {
-        let pushed = letters.push(parcel.into_letter());
-        pushed.expect(rt, NO_MEMORY);
-    }
+    let inbox = inbox.empty(rt, &mut letters).expect(rt, NO_MEMORY);
+    same(rt, &inbox.soonest(), &None);
     let came = numbers(alloc, &letters).expect(rt, NO_MEMORY);
     same(rt, &came.as_slice(), &wanted);
 }

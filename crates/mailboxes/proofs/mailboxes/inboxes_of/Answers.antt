@@ -1,19 +1,6 @@
-use Rattle.mailboxes.proofs.Words.{◌≡◌, ◌∙◌, ◌++◌, ◌∷◌, [], ap, map, drop, length, sym, subst, append_assoc, append-nil, All, into_iter_items, length-map, nil_from_length, All-tail}
+use Rattle.mailboxes.proofs.Words.{◌≡◌, ◌∙◌, ◌++◌, ◌∷◌, [], ap, map, drop, length, sym, subst, append_assoc, All, into_iter_items, length-map, All-tail}
 use Rattle.mailboxes.proofs.Homes.{back_of, mailbox_of, IsIn}
 use Rattle.mailboxes.proofs.mailboxes.inboxes_of.Goals as goal
-
-pub loop-home-init : goal.loop-home-init
-loop-home-init c =
-    let all : into_iter_items c.into_iter-home-iterator.result ≡ c.args.homes.items = c.into_iter-home-iterator.ensures.into_iter_gives.0 in
-    let left : into_iter_items c.into_iter-boxes.result ≡ c.args.boxes.items = c.into_iter-boxes.ensures.rest in
-    let none = c.in_ok-inboxes.ensures.items in
-    let boxes = left ∙ (c.requires.homes ∙ ap (map mailbox_of) (sym all)) in
-    record {
-      boxes = boxes;
-      out = subst (All IsIn) (sym all) c.requires.out;
-      letters = λ i. none i ++ map back_of (all i);
-      same = ap length boxes ∙ length-map _ mailbox_of;
-    }
 
 pub loop-home-preserved : goal.loop-home-preserved
 loop-home-preserved c =
@@ -30,9 +17,3 @@ loop-home-preserved c =
           ∙ (append_assoc done (h.back ∷ []) (map back_of rest) ∙ (ap (λ xs. done ++ map back_of xs) (sym e) ∙ i.letters));
       same = ap length boxes ∙ length-map rest mailbox_of;
     }
-
-pub returns : goal.returns
-returns c =
-    let done = c.loop-home.inboxes.items in
-    let none = nil_from_length (into_iter_items c.loop-home.home-iterator) (sym c.loop-home.home-iterator.rest.ok.0 ∙ c.in-None.ensures.steps.0) in
-    sym (append-nil done) ∙ (ap (λ xs. done ++ map back_of xs) (sym none) ∙ c.loop-home.invariant.letters)

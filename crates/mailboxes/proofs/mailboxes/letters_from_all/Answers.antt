@@ -1,4 +1,5 @@
-use Rattle.mailboxes.proofs.Words.{◌∙◌, ◌++◌, ap, sym, subst, append-nil, into_iter_items, nil_from_length, letters_in, Shuffled, Shuffled-refl}
+use Rattle.mailboxes.proofs.Words.{◌++◌, [], sym, subst, into_iter_items, letters_in, Shuffled, Shuffled-refl}
+use Rattle.std.specs.List.Sorted.{IsPermutation}
 use Rattle.mailboxes.proofs.Homes.{taken_more}
 use Rattle.mailboxes.proofs.mailboxes.letters_from_all.Goals as goal
 
@@ -11,11 +12,7 @@ loop-inbox-init g c =
 pub loop-inbox-preserved : goal.loop-inbox-preserved
 loop-inbox-preserved g c =
     let lists = c.loop-inbox.lists.items in
-    taken_more c.args.inboxes.items lists c.push.new.self.items c.in-Some.inbox (into_iter_items c.next.new.self) c.in_ok-letters_from.field-0 c.in_ok-push.ensures.items c.in_ok-letters_from.ensures
+    let came = c.in_ok-empty.ensures.letters in
+    taken_more c.args.inboxes.items lists c.push.new.self.items c.in-Some.inbox (into_iter_items c.next.new.self) c.empty.new.to c.in_ok-push.ensures.items
+    (subst (IsPermutation c.in-Some.inbox) (sym (came.2 c.new-letters.result [] c.new-letters.ensures.items)) came.1)
     (subst (λ xs. Shuffled c.args.inboxes.items (letters_in lists ++ xs)) c.in-Some.ensures.steps.0 c.loop-inbox.invariant)
-
-pub returns : goal.returns
-returns g c =
-    let lists = c.loop-inbox.lists.items in
-    let none = nil_from_length (into_iter_items c.loop-inbox.inbox-iterator) (sym c.loop-inbox.inbox-iterator.rest.ok.0 ∙ c.in-None.ensures.steps.0) in
-    subst (Shuffled c.args.inboxes.items) (ap (λ xs. letters_in lists ++ xs) none ∙ append-nil (letters_in lists)) c.loop-inbox.invariant

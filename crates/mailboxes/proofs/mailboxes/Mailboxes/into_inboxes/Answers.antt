@@ -1,4 +1,4 @@
-use Rattle.mailboxes.proofs.Words.{◌≡◌, ◌<◌, ◌-◌, ◌++◌, ◌∷◌, ℕ, List, [], length, map, get_or, sym, ap, ◌∙◌, subst, arith, append_assoc, append-nil, All, flat_map, into_iter_items, nil_from_length, All-head, All-tail, All-weaker, Letter, HomeView, MailboxesView, SlipView, IsSlipOf}
+use Rattle.mailboxes.proofs.Words.{◌≡◌, ◌++◌, ◌∷◌, ℕ, List, [], length, map, get_or, sym, ap, ◌∙◌, subst, arith, append_assoc, All, flat_map, into_iter_items, All-tail, All-weaker, Letter, MailboxesView, SlipView, IsSlipOf}
 use Rattle.mailboxes.proofs.Homes.{mailbox_of, back_of, back-mailboxes, back-out, back-posted, none_back, Even}
 use Rattle.mailboxes.proofs.mailboxes.Mailboxes.into_inboxes.Goals as goal
 
@@ -18,13 +18,6 @@ loop-slip-init c =
       letters = λ k. ap (λ l. l ++ sent k (into_iter_items c.into_iter-slip-iterator.result)) (none_back k hs (All-weaker (Even c.self.inside.slips) (λ h. h.back ≡ []) (λ h even. even.1) hs c.self.invariant.1)) ∙ ap (sent k) all;
     }
 
-pub take_back-requires-clause-slip : goal.take_back-requires-clause-slip
-take_back-requires-clause-slip c = All-head (IsSlipOf c.self.inside.shared) c.in-Some.slip (into_iter_items c.next.new.self) (subst (All (IsSlipOf c.self.inside.shared)) c.in-Some.ensures.steps.0 c.loop-slip.invariant.slips)
-
-pub take_back-requires-clause-out : goal.take_back-requires-clause-out
-take_back-requires-clause-out c =
-    All-weaker (λ (h : HomeView). h.out ≡ length (into_iter_items c.loop-slip.slip-iterator)) (λ h. 0 < h.out) (λ h is. omega (arith, is, ap length c.in-Some.ensures.steps.0)) c.loop-slip.homes.items c.loop-slip.invariant.out
-
 pub loop-slip-preserved : goal.loop-slip-preserved
 loop-slip-preserved c =
     let i = c.loop-slip.invariant in
@@ -42,18 +35,3 @@ loop-slip-preserved c =
           ap (λ l. get_or (map back_of l) k [] ++ sent k rest) is ∙ ap (λ l. l ++ sent k rest) (back-posted k hs s.posted fits)
           ∙ append_assoc (get_or (map back_of hs) k []) (get_or s.posted k []) (sent k rest) ∙ ap (λ l. get_or (map back_of hs) k [] ++ sent k l) (sym e) ∙ i.letters k;
     }
-
-pub inboxes_of-requires-clause-homes : goal.inboxes_of-requires-clause-homes
-inboxes_of-requires-clause-homes c = c.shared-2.view_is ∙ c.loop-slip.invariant.of
-
-pub inboxes_of-requires-clause-out : goal.inboxes_of-requires-clause-out
-inboxes_of-requires-clause-out c =
-    let none : into_iter_items c.loop-slip.slip-iterator ≡ [] = nil_from_length _ (sym c.loop-slip.slip-iterator.rest.ok.0 ∙ c.in-None.ensures.steps.0) in
-    subst (λ l. All (λ (h : HomeView). h.out ≡ length l) c.loop-slip.homes.items) none c.loop-slip.invariant.out
-
-pub returns-clause-letters : goal.returns-clause-letters
-returns-clause-letters c r =
-    let homes = c.loop-slip.homes.items in
-    let none : into_iter_items c.loop-slip.slip-iterator ≡ [] = nil_from_length _ (sym c.loop-slip.slip-iterator.rest.ok.0 ∙ c.in-None.ensures.steps.0) in
-    ap (λ l. get_or l (r - 1) []) c.in_ok-inboxes_of.ensures
-    ∙ (sym (append-nil _) ∙ (ap (λ l. get_or (map back_of homes) (r - 1) [] ++ sent (r - 1) l) (sym none) ∙ c.loop-slip.invariant.letters (r - 1)))

@@ -1,18 +1,6 @@
-use Rattle.mailboxes.proofs.Words.{◌≡◌, ◌∙◌, ◌++◌, ◌∷◌, [], ap, map, length, length-append, sym, subst, arith, All, into_iter_items, map-append, All-head, All-nil, All-push, All-same, All-tail}
+use Rattle.mailboxes.proofs.Words.{◌≡◌, ◌∙◌, ◌++◌, ◌∷◌, [], ap, map, length, length-append, sym, subst, arith, All, into_iter_items, map-append, All-head, All-push, All-same, All-tail}
 use Rattle.mailboxes.proofs.Homes.{mailbox_of, Even, IsEmpty}
 use Rattle.mailboxes.proofs.mailboxes.Mailboxes.of_inboxes.Goals as goal
-
-pub loop-inbox-init : goal.loop-inbox-init
-loop-inbox-init c =
-    let all : into_iter_items c.into_iter-inbox-iterator.result ≡ c.args.inboxes.items = c.into_iter-inbox-iterator.ensures.into_iter_gives.0 in
-    let no_boxes = c.in_ok-boxes.ensures.items in
-    let no_homes = c.in_ok-homes.ensures.items in
-    record {
-      boxes = no_boxes ∙ ap (map mailbox_of) (sym no_homes);
-      even = All-same (Even 0) _ [] no_homes (All-nil (Even 0));
-      empty = subst (All IsEmpty) (sym all) c.requires;
-      count = omega (arith, ap length no_boxes, ap length all);
-    }
 
 pub loop-inbox-preserved : goal.loop-inbox-preserved
 loop-inbox-preserved c =

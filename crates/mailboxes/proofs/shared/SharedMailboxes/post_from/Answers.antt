@@ -1,13 +1,7 @@
-use Rattle.mailboxes.proofs.Words.{rules, ◌≡◌, ◌<◌, [], ◌++◌, length, refl, ap, ◌∙◌, add-one, arith, length-map, letters_in}
-use Rattle.std.proofs.Common.{⊎_elim}
-use Rattle.std.proofs.lemmas.Bool.{cases_lt}
-use Rattle.std.proofs.lemmas.List.{get_or_past}
-use Rattle.mailboxes.proofs.Homes.{whose, posted_by, items_of}
+use Rattle.mailboxes.proofs.Words.{rules, ◌≡◌, ◌<◌, ◌++◌, length, ap, ◌∙◌, add-one, arith, length-map}
+use Rattle.mailboxes.proofs.Homes.{whose, posted_by}
 use Rattle.mailboxes.proofs.Rows.{whose_same, total_next, empty_next}
 use Rattle.mailboxes.proofs.shared.SharedMailboxes.post_from.Goals as goal
-
-pub loop-at-init : goal.loop-at-init
-loop-at-init g c = (refl, refl, λ k low high. absurd (omega (arith, low, high)), refl)
 
 pub returns-in_err-post_list-clause-tickets : goal.returns-in_err-post_list-clause-tickets
 returns-in_err-post_list-clause-tickets g c =
@@ -36,10 +30,3 @@ loop-at-preserved g c =
       empty_next ts ls i t u v w lt le is.empty c.args.from inv.2,
       inv.3,
     )
-
-pub returns-clause-empty : goal.returns-clause-empty
-returns-clause-empty g c k low =
-    let ls = c.loop-at.lists.items in
-    ⊎_elim (λ before. c.loop-at.invariant.2 k low before)
-    (λ past. get_or_past (letters_in ls) k [] (omega (arith, past, length-map ls items_of, c.loop-at.lists.ok.0, c.loop-at.invariant.3, c.loop-at-test.false, c.len-at-end.ensures, c.args.lists.now.ok.0)))
-    (cases_lt k c.loop-at.at)

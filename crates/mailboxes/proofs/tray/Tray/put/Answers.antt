@@ -1,4 +1,4 @@
-use Rattle.mailboxes.proofs.Words.{◌≡◌, ◌+◌, ◌-◌, ◌<◌, ◌++◌, ◌∷◌, [], length, set, get_or, sym, ap, ◌∙◌, arith, length-map, length-set, Key}
+use Rattle.mailboxes.proofs.Words.{◌≡◌, ◌+◌, ◌-◌, ◌<◌, ◌++◌, ◌∷◌, [], length, set, get_or, ap, ◌∙◌, arith, length-map, Key}
 use Rattle.mailboxes.proofs.Homes.{items_of}
 use Rattle.mailboxes.proofs.Rows.{row_more}
 use Rattle.mailboxes.proofs.tray.Tray.put.Goals as goal
@@ -14,9 +14,3 @@ returns-clause-filed c =
     let lt : i < length lists = omega (arith, place, c.requires, length-map lists items_of, ap length rows) in
     row_more items_of lists i c.index_mut.result.now c.push.new.self c.index_mut.ensures.value lt (x ∷ []) c.in_ok-push.ensures.items
     ∙ (λ j. set (rows j) (at j) (get_or (rows j) (at j) [] ++ x ∷ []))
-
-pub returns-clause-count : goal.returns-clause-count
-returns-clause-count c =
-    let lists = c.self.inside.lists.items in
-    let i = c.place_of-at.result in
-    length-map (set lists i c.push.new.self) items_of ∙ (length-set lists i c.push.new.self ∙ (sym (length-map lists items_of) ∙ ap length c.self.view_is))
