@@ -8,7 +8,7 @@ use Rattle.scenario_record.specs.Record.{Record}
 use Rattle.steps.specs.Seat.{own_of}
 use Rattle.trace_laws.specs.History.{IsIn}
 use Rattle.mailboxes.specs.Mailbox.{MailboxId}
-use Rattle.mailboxes.specs.Mailboxes.{SlipView, IsSlipOf, unused, list_of, posted_to}
+use Rattle.mailboxes.specs.Mailboxes.{SlipView, IsSlipOf, unused, posted_to}
 use Rattle.windows.specs.Berth.{IsBerth, IsBerthOf, IsLong, RanTo, with_letters}
 use Rattle.deques.specs.Deques.{DequeId, HandView, RestView, all_put}
 use Rattle.windows.specs.declared.berth.Berth.{Berth}
@@ -95,14 +95,13 @@ module _ {M : Type 0} where
       pub of_mailboxes : All (IsSlipOf mailboxes) slips
       pub posted : (r : ℕ) → 1 ≤ r → r ≤ s.processes → posted_to slips r ≡ filter (is_to r) (sent_in stays)
 
-    -- The same in the order of the processes. The list of receiver r has just the letters to it
-    pub record IsOutcome (end : ℕ) (olds news : List (Berth M)) (lists : List (List Letter)) : Type 0 where
+    -- the same in the order of the processes
+    pub record IsOutcome (end : ℕ) (olds news : List (Berth M)) (slips : List SlipView) : Type 0 where
       pub stays : List (Stay M)
       pub each : All (IsStay end) stays
       pub olds_are : taken_in stays ≡ olds
       pub news_are : left_in stays ≡ news
-      pub count : length lists ≡ s.processes
-      pub letters : (r : ℕ) → 1 ≤ r → r ≤ s.processes → (x : Letter) → IsIn x (list_of lists r) ↔ IsSent stays r x
+      pub letters : (r : ℕ) → 1 ≤ r → r ≤ s.processes → (x : Letter) → IsIn x (posted_to slips r) ↔ IsSent stays r x
 
   -- all that was dealt to these workers
   abbrev pub dealt_to : List (Start M) → List (Berth M)
