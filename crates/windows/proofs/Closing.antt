@@ -1,5 +1,5 @@
 -- What the processes of a window make of a stage, and what the closing of the window leaves.
-use Rattle.windows.proofs.Words.{◌≡◌, ◌⊎◌, ◌↔◌, ℕ, zero, suc, ◌+◌, ◌-◌, ◌*◌, ◌<◌, ◌≤◌, inl, inr, refl, sym, ap, ◌∙◌, subst, List, [], ◌∷◌, ◌++◌, Some, length, map, slice_get, arith, append_assoc, append-nil, length-append, true, false, cond, not, nat_eq, IsTrue, All, slice_get_within, get_or_from_slice_get, length-map, length-filter_both, All-append, All-weaker, length_permutation, IsPermutation-sym, most_step_actions, EntryRecord, Mind, is_rising, Key, Letter, StepInput, IsInRange, Record, IsIn, Pair, pairs_of, setting_of, process_of, own_of, IsSeated, Setting, IsSound, IsProcess, Event, Events, Process, World, IsWorld, Has, NoneBelow, Run, taken, joined, entries, opening_process, IsTrace, closed_of_run, reached_next, reached_end, run_exists, one_run, joined_cases, one_input, same_Some, setting_sound, posted_to, SlipView, Vec, kept_in, IsPermutation, AreParts, IsMerged, all_of, AreDisjoint, event_of, StageRecord, Act, StandsFor, IsRun, end_of, first_status, IsMerge, of_process, stage_of, AreHome, IsStageAfter, IsClosed, IsNextStart, IsWindowRun, IsCountOfWorkers, IsStage, IsNextWindow, BerthRun, IsPosted, AreBerths, IsSameStage, AreOne, Stay, IsReady, IsStay, HasLong, IsOutcome, RiseBy, Berth, Stage, in_map, map_in, joined_back, run_on, one_merge, h_stands, berths_run}
+use Rattle.windows.proofs.Words.{◌≡◌, ◌⊎◌, ◌↔◌, ℕ, zero, suc, ◌+◌, ◌-◌, ◌*◌, ◌<◌, ◌≤◌, inl, inr, refl, sym, ap, ◌∙◌, subst, List, [], ◌∷◌, ◌++◌, Some, length, map, slice_get, arith, append_assoc, append-nil, length-append, true, false, cond, not, nat_eq, IsTrue, All, slice_get_within, get_or_from_slice_get, length-map, length-filter_both, All-append, All-weaker, length_permutation, IsPermutation-sym, most_step_actions, EntryRecord, Mind, is_rising, Key, Letter, StepInput, IsInRange, Record, IsIn, Pair, pairs_of, setting_of, process_of, own_of, IsSeated, Setting, IsSound, IsProcess, Event, Events, Process, World, IsWorld, Has, NoneBelow, Run, taken, joined, entries, opening_process, IsTrace, closed_of_run, reached_next, reached_end, reached_front, length-take, joined_cases, one_input, same_Some, setting_sound, posted_to, SlipView, Vec, kept_in, IsPermutation, AreParts, IsMerged, all_of, AreDisjoint, event_of, StageRecord, Act, StandsFor, IsRun, end_of, first_status, IsMerge, of_process, stage_of, AreHome, IsStageAfter, IsClosed, IsNextStart, IsWindowRun, IsCountOfWorkers, IsStage, IsNextWindow, BerthRun, IsPosted, AreBerths, IsSameStage, AreOne, Stay, IsReady, IsStay, HasLong, IsOutcome, RiseBy, Berth, Stage, in_map, map_in, slice_get-get_or, joined_back, one_merge, h_stands, berths_run}
 use Rattle.std.specs.FinMap as finmap
 use Rattle.trace_laws.specs.Reached.{IsReached}
 use Rattle.trace_laws.proofs.Pairs.{in_pairs}
@@ -9,7 +9,7 @@ use Rattle.steps.specs.declared.seat.Seat.{Seat}
 use Rattle.windows.proofs.Places.{there, there_map, from_map, place_in, at_map, list_at, by_place, each_process, no_event, at_nobody, at_delivered, length-delivered, all_at, all_place, disjoint_from, no_more, in_all, all_in, part_few, in_place}
 use Rattle.windows.proofs.Cut.{run_before}
 use Rattle.windows.specs.Plan.{PlanRecord, IsPlanFor}
-use Rattle.windows.proofs.Ranked.{contains_in, in_permutation, rises_counted}
+use Rattle.windows.proofs.Ranked.{contains_in, in_permutation}
 
 pairs_rise : (p : ℕ) (l : List Pair) → IsRising l → IsRising (pairs_of p l)
 pairs_rise p [] r = tt
@@ -36,17 +36,6 @@ module _ {Mind : Type 0} (S : Setting Mind) where
   reached_run end le (s ∷ list) w after trace was run =
       let next : IsReached S (taken S w s.0.key s.1) (trace ++ s.0 ∷ []) = subst (λ e. IsReached S (taken S w s.0.key s.1) (trace ++ e ∷ [])) (sym run.2) (reached_next S w trace s.0.key s.1 run.0 (omega (arith, run.1)) was) in
       subst (IsReached S after) (append_assoc trace (s.0 ∷ []) (entries list)) (reached_run end le list (taken S w s.0.key s.1) after (trace ++ s.0 ∷ []) next run.3)
-
-  -- every trace has the entries so far, and those of a run from there
-  reached_far : IsSound S → (end : ℕ) → end ≤ S.horizon → (list : List Pair) (w after : World Mind) (trace : List EntryRecord) → IsReached S w trace → IsWorld S after → Run S end w list after
-      → (all : List EntryRecord) → IsTrace S all → length trace + length list ≤ length all
-  reached_far sound end le list w after trace was after_world run all is =
-      let before = was.comes_by is.0 is.1 is.2 in
-      let more = run_exists S sound S.horizon after after_world in
-      let same : before.0 ≡ list ++ more.0 = (one_run S S.horizon w before.0 (list ++ more.0) is.1 more.1 before.2 (run_on S end S.horizon le list more.0 w after more.1 run more.2)).0 in
-      let n : length all ≡ length (was.history ++ (list ++ more.0)) = ap length (is.3 ∙ ap entries (before.1 ∙ ap (λ h. was.history ++ h) same)) ∙ length-map _ _ in
-      let m : length trace ≡ length was.history = ap length was.trace_is ∙ length-map _ _ in
-      omega (arith, n, m, length-append was.history (list ++ more.0), length-append list more.0)
 
 -- what put at most so much on each link put at most more
 more_put : {M : Type 0} (mind : M → Mind) (s : Record) (less more : ℕ) (seat : Seat M) → less ≤ more → IsSeated mind s less seat → IsSeated mind s more seat
@@ -85,7 +74,8 @@ module _ {M : Type 0} (mind : M → Mind) (old : Stage M) (ranges : IsInRange ol
       ((suc i, record { seated = more_put mind s _ _ b.seat (omega (arith, is.within, ranges.limit_high)) home.seated; is = home.is; own = home.own }), part_at i b at))
 
   pub stage_rises : RiseBy (λ (b : Berth M). own_of mind b.seat) olds
-  stage_rises = rises_counted (λ (b : Berth M). own_of mind b.seat) 1 olds (λ i b at. (is.home i b at).is ∙ omega arith)
+  stage_rises i j d lt inside =
+      omega (arith, lt, (is.home i _ (slice_get-get_or olds i d (omega (arith, lt, inside)))).is, (is.home j _ (slice_get-get_or olds j d inside)).is)
 
   module _ (window : ℕ) (short : window ≤ s.lookahead) where
     abbrev g : StageRecord Mind
@@ -111,7 +101,10 @@ module _ {M : Type 0} (mind : M → Mind) (old : Stage M) (ranges : IsInRange ol
 
     -- every trace has the entries so far, and those of the window
     far : (trace : List EntryRecord) → IsTrace S trace → length trace_so_far + length list ≤ length trace
-    far = reached_far S sound end to_end list is.world after trace_so_far is.reached all.2.family.whole all.2.run
+    far trace is_trace =
+        let all_far = trace_so_far ++ entries list in
+        let front = reached_front S after all_far (reached_run S end to_end list is.world after trace_so_far is.reached all.2.run) trace is_trace in
+        omega (arith, ap length front, length-take (length all_far) trace, length-append trace_so_far (entries list), length-map list (λ t. t.0))
 
     -- the process of a berth, and its events, in the stage
     in_stage : (i : ℕ) (b : Berth M) → slice_get olds i ≡ Some b → (process_of mind b.seat ≡ g.process (suc i)) × (b.pending ≡ g.own (suc i))

@@ -1,5 +1,5 @@
 -- Parts of a window that wait to be merged and handed on.
-use Rattle.windows.proofs.Words.{IsMergeOf, ◌≡◌, ◌≤◌, ◌⊎◌, ◌+◌, inl, inr, refl, ℕ, sym, ap, ◌∙◌, subst, List, [], ◌∷◌, ◌++◌, append_assoc, append-nil, length, map, IsTrue, Result, Ok, Err, IfOk, IfErr, arith, Vec, All, IsPermutation, nil_from_length, All-nil, length_permutation, EntryRecord, Mind, is_rising, RunError, IsInRange, Record, setting_of, IsTrace, all_of, end_to_end, IsRefusal, TookAll, IsStageAfter, Stage, AreParts, IsMerged, TookAllBut, TookFrontOf, TookTrace, TookFront, TookClosed, writes_of}
+use Rattle.windows.proofs.Words.{IsMergeOf, ◌≡◌, ◌≤◌, ◌⊎◌, inl, inr, refl, sym, ap, ◌∙◌, subst, List, [], ◌∷◌, ◌++◌, append_assoc, append-nil, length, map, IsTrue, Result, Ok, Err, IfOk, IfErr, arith, Vec, All, IsPermutation, nil_from_length, All-nil, length_permutation, EntryRecord, Mind, is_rising, RunError, IsInRange, Record, setting_of, IsTrace, all_of, end_to_end, IsRefusal, TookAll, IsStageAfter, Stage, AreParts, IsMerged, TookAllBut, TookFrontOf, TookTrace, TookFront, TookClosed, writes_of}
 use Rattle.trace_merge.proofs.Distinct.{all_differ}
 use Rattle.trace_merge.proofs.Exists.{has_merge, nothing_merges}
 use Rattle.windows.proofs.Closing.{stage_trace}
@@ -21,9 +21,6 @@ no_parts = record { rising = All-nil (λ (v : Vec EntryRecord). IsTrue (is_risin
 
 pub none_merged : {parts : List (List EntryRecord)} (rest : List EntryRecord) → all_of parts ≡ [] → IsMergeOf parts rest → rest ≡ []
 none_merged rest none is = nil_from_length rest (length_permutation [] rest (subst (λ es. IsPermutation es rest) none is.same))
-
-pub plus_same : (x a m n : ℕ) → x ≡ a + m → m ≡ n → x ≡ a + n
-plus_same x a m n e is = e ∙ ap (λ k. a + k) is
 
 end_to_end_append : (xs ys : List (List EntryRecord)) → end_to_end (xs ++ ys) ≡ end_to_end xs ++ end_to_end ys
 end_to_end_append [] ys = refl

@@ -96,37 +96,8 @@ fn bring_together<M: Process, G: Gate, R: Wait>(
     Ok((done, slips))
 }
 
-/// The workers that begin so take the berths that were dealt, and the starter, by a slip of its own, what is left. The
-/// starter does its chore meanwhile. Answers the berths that were run, and all slips.
-fn run_dealt<M: Process, G: Gate, C: Chore, R: Threads + Wait + Sync>(
-    rt: &R,
-    shared: &Shared<'_, M, G>,
-    starts: Vec<Start<M>>,
-    slip: Slip,
-    chore: &mut C,
-) -> Result<(Vec<Berth<M>>, Vec<Slip>), RunError>
-    requires deques { shared.now.fronts.now.items ≡ deques_of (map (λ b. b.hand.own) starts.items) }
-    requires slip { slip ≡ unused shared.now.mailboxes.now }
-    requires ready { AreReady M.mind shared.now.window.now (dealt_to starts.items) }
-    requires fresh { All (IsFreshIn shared.now) starts.items }
-    requires known { All (λ s. s.hand.known ≡ dealt_to starts.items) starts.items }
-    requires few { vec_len starts ≤ most_workers }
-    requires chore { C.waits chore.old }
-
-    ensures slips { IfOk result (λ r. vec_len r.1 ≡ vec_len starts + 1) }
-    ensures run { IfOk result (λ r.
-        HadWindow M.mind shared.now.window.now shared.now.mailboxes.now (dealt_to starts.items) r.0.items r.1.items) }
-    ensures chore { C.done chore.old chore.new }
-    ensures place { C.place chore.new ≡ C.place chore.old }
-    ensures errors { IfErr result IsRefusal }
-    ensures limit { IsErrOf result RunError.Limit
-        → IsOneTooLong M.mind shared.now.window.now (dealt_to starts.items) }
-{
-    let works = in_threads(rt, shared, starts, chore);
-    bring_together(rt, shared, works?, slip)
-}
-
-/// Runs the processes with an event below the window's end, by at most so many workers. Answers all berths, in some
+/// Runs the processes with an event below the window's end, by at most so many workers. These take the berths that were
+/// dealt, and the starter, by a slip of its own, what is left. It does its chore meanwhile. Answers all berths, in some
 /// order, and the slips: one for each worker, and the starter's.
 fn run_berths_of<M: Process, G: Gate, C: Chore, R: Threads + Wait + Sync>(
     rt: &R,
@@ -167,7 +138,8 @@ fn run_berths_of<M: Process, G: Gate, C: Chore, R: Threads + Wait + Sync>(
         fronts: &fronts,
         mailboxes: mailboxes.shared(),
     };
-    let (mut done, slips) = run_dealt(rt, &shared, starts, slip, chore)?;
+    let works = in_threads(rt, &shared, starts, chore);
+    let (mut done, slips) = bring_together(rt, &shared, works?, slip)?;
     done.append(&mut idle)?;
     Ok((done, slips))
 }

@@ -1,6 +1,6 @@
 -- What the workers of a window do.
-use Rattle.std.specs.Prelude.{◌≡◌, ◌↔◌, ◌<◌, ◌≤◌, ◌-◌, ◌++◌, ℕ, Bool, nat_eq, filter, List, [], ◌∷◌, length, map}
-use Rattle.std.specs.List.{All, Contains, flat_map}
+use Rattle.std.specs.Prelude.{◌≡◌, ◌↔◌, ◌<◌, ◌≤◌, ◌-◌, ◌++◌, ℕ, Bool, nat_eq, filter, List, [], length, map}
+use Rattle.std.specs.List.{All, AllPairs, Contains, flat_map}
 use Rattle.std.specs.List.Sorted.{IsPermutation}
 use Rattle.process_api.specs.Mind.{Mind}
 use Rattle.process_api.specs.declared.message.Letter.{Letter}
@@ -126,13 +126,6 @@ module _ {M : Type 0} where
     pub none_taken : hand.taken ≡ []
     pub none_posted : slip ≡ unused mailboxes
 
-module _ {X : Type 0} (key : X → ℕ) where
-  -- each key is above k
-  abbrev pub AllAbove : ℕ → List X → Type 0
-  AllAbove k [] = Unit {0}
-  AllAbove k (x ∷ xs) = (k < key x) × AllAbove k xs
-
-  -- each key is below those after it
-  abbrev pub RiseBy : List X → Type 0
-  RiseBy [] = Unit {0}
-  RiseBy (x ∷ xs) = AllAbove (key x) xs × RiseBy xs
+-- each key is below those after it
+abbrev pub RiseBy : {X : Type 0} → (X → ℕ) → List X → Type 0
+RiseBy key xs = AllPairs (λ x y. key x < key y) xs
