@@ -232,9 +232,6 @@ module _ {M : Type 0} (mind : M → Mind) (old : Stage M) (ranges : IsInRange ol
         abbrev h : StageRecord Mind
         h = stage_of mind window new
 
-        nobody : {X : Type 0} (f : Berth M → X) (none : X) (p : ℕ) → ¬ (IsProcess S p) → of_process p (map f berths) none ≡ none
-        nobody f none p not = at_nobody p (map f berths) none (λ i. not (i.0, omega (arith, i.1, length-map berths f, count_new)))
-
         -- what is left to a process, and the events of its letters
         abbrev rest : ℕ → Events
         rest p = of_process p (map (λ (t : Stay M). t.after.pending) o.stays) finmap.empty
@@ -332,7 +329,7 @@ module _ {M : Type 0} (mind : M → Mind) (old : Stage M) (ranges : IsInRange ol
         are_berths = record {
           berth = run_at;
           own = own_is;
-          others = λ p not k y i. no_event k y (subst (λ m. Has m k y) (nobody (λ b. b.pending) finmap.empty p not) i);
+          others = λ p not k y i. no_event k y (subst (λ m. Has m k y) (at_nobody p (map (λ b. b.pending) berths) finmap.empty (λ j. not (j.0, omega (arith, j.1, length-map berths (λ b. b.pending), count_new)))) i);
           from_end = from_end;
           to_horizon = omega (arith, closed.start.to_horizon, same_horizon);
           late = none_late;

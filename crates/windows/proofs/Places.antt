@@ -1,5 +1,6 @@
 -- Lists that have process 1 first.
-use Rattle.windows.proofs.Words.{◌≡◌, ◌≢◌, ℕ, zero, suc, ◌+◌, ◌-◌, ◌<◌, ◌≤◌, inl, inr, refl, sym, ap, ◌∙◌, subst, List, [], ◌∷◌, Some, length, map, slice_get, get_or, option_map, arith, Bool, true, false, cond, nat_eq, not, filter, All, AllByRecursion, eqb-true, cases_lt, get_or_past, length-map, length-append, length-filter_both, slice_get-map, slice_get-get_or, slice_get_cases, slice_get_within, get_or_from_slice_get, EntryRecord, Letter, IsIn, Pair, pairs_of, list_of, joined, entries, not_None, same_Some, in_append, in_left, in_right, all_of, AreDisjoint, event_of, of_process, delivered, ◌++◌, append-nil, nil_from_length, key_cmp, Key, StepInput, Has, Berth}
+use Rattle.windows.proofs.Words.{◌≡◌, ◌≢◌, ℕ, zero, suc, ◌+◌, ◌-◌, ◌<◌, ◌≤◌, inl, inr, refl, sym, ap, ◌∙◌, subst, List, [], ◌∷◌, Some, length, map, slice_get, get_or, option_map, arith, cond, nat_eq, not, filter, All, AllByRecursion, eq-eqb, ne_eqb, cases_eq, cases_lt, get_or_past, length-map, length-append, length-filter_both, slice_get-map, slice_get-get_or, slice_get_cases, slice_get_within, get_or_from_slice_get, EntryRecord, Letter, IsIn, Pair, pairs_of, list_of, joined, entries, not_None, same_Some, in_append, in_left, in_right, all_of, AreDisjoint, event_of, of_process, delivered, ◌++◌, append-nil, nil_from_length, key_cmp, Key, StepInput, Has, Berth}
+use Rattle.trace_laws.proofs.Pairs.{pairs_other}
 use Rattle.windows.proofs.Ranked.{contains_in, in_contains}
 use Rattle.std.specs.FinMap as finmap
 
@@ -110,18 +111,14 @@ module _ where
 
   still : (p q : ℕ) → q ≢ p → (list : List Pair) → pairs_of q (others p list) ≡ pairs_of q list
   still p q n [] = refl
-  still p q n (s ∷ list) = go (nat_eq s.0.key.receiver p) refl (still p q n list)
-    where
-      skip : nat_eq s.0.key.receiver p ≡ true → nat_eq s.0.key.receiver q ≡ false
-      skip is = differ (nat_eq s.0.key.receiver q) refl
-        where
-          differ : (b : Bool) → nat_eq s.0.key.receiver q ≡ b → nat_eq s.0.key.receiver q ≡ false
-          differ true h = absurd (n (sym (eqb-true s.0.key.receiver q h) ∙ eqb-true s.0.key.receiver p is))
-          differ false h = h
-
-      go : (b : Bool) → nat_eq s.0.key.receiver p ≡ b → pairs_of q (others p list) ≡ pairs_of q list → pairs_of q (cond (not b) (s ∷ others p list) (others p list)) ≡ pairs_of q (s ∷ list)
-      go true is h = h ∙ ap (λ c. cond c (s ∷ pairs_of q list) (pairs_of q list)) (sym (skip is))
-      go false is h = ap (λ l. cond (nat_eq s.0.key.receiver q) (s ∷ l) l) h
+  still p q n (s ∷ list) = elim (cases_eq s.0.key.receiver p) [
+    | inl is ↦
+        ap (λ b. pairs_of q (cond (not b) (s ∷ others p list) (others p list))) (eq-eqb _ _ is)
+        ∙ (still p q n list ∙ sym (pairs_other s list q (λ e. n (sym e ∙ is))))
+    | inr other ↦
+        ap (λ b. pairs_of q (cond (not b) (s ∷ others p list) (others p list))) (ne_eqb _ _ other)
+        ∙ ap (λ l. cond (nat_eq s.0.key.receiver q) (s ∷ l) l) (still p q n list)
+  ]
 
   -- parts that are of different processes have no more entries together than the list
   pub no_more : (k : ℕ) (parts : List (List EntryRecord)) (list : List Pair) → ((i : ℕ) (part : List EntryRecord) → slice_get parts i ≡ Some part → part ≡ entries (pairs_of (k + i) list)) → length (all_of parts) ≤ length list

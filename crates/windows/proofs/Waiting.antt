@@ -1,10 +1,9 @@
 -- Parts of a window that wait to be merged and handed on.
-use Rattle.windows.proofs.Words.{IsMergeOf, ◌≡◌, ◌≤◌, ◌⊎◌, inl, inr, refl, sym, ap, ◌∙◌, subst, List, [], ◌∷◌, ◌++◌, append_assoc, append-nil, length, map, IsTrue, Result, Ok, Err, IfOk, IfErr, arith, Vec, All, IsPermutation, nil_from_length, All-nil, length_permutation, EntryRecord, Mind, is_rising, RunError, IsInRange, Record, setting_of, IsTrace, all_of, end_to_end, IsRefusal, TookAll, IsStageAfter, Stage, AreParts, IsMerged, TookAllBut, TookFrontOf, TookTrace, TookFront, TookClosed, writes_of}
+use Rattle.windows.proofs.Words.{IsMergeOf, ◌≡◌, ◌≤◌, ◌⊎◌, inl, inr, refl, sym, ap, ◌∙◌, subst, List, [], ◌∷◌, ◌++◌, append_assoc, append-nil, length, map, IsTrue, Result, Ok, Err, IfOk, IfErr, arith, Vec, All, IsPermutation, nil_from_length, All-nil, length_permutation, EntryRecord, Mind, is_rising, RunError, IsInRange, Record, setting_of, IsTrace, one_trace, all_of, end_to_end, IsRefusal, TookAll, IsStageAfter, Stage, AreParts, IsMerged, TookAllBut, TookFrontOf, TookTrace, TookFront, TookClosed, writes_of}
 use Rattle.trace_merge.proofs.Distinct.{all_differ}
 use Rattle.trace_merge.proofs.Exists.{has_merge, nothing_merges}
 use Rattle.windows.proofs.Closing.{stage_trace}
 use Rattle.windows.proofs.Cut.{stage_cut}
-use Rattle.windows.proofs.Handed.{trace_within}
 use Rattle.windows.specs.Inside.Closing.{HasNextWindow, IsNextWindow}
 use Rattle.windows.specs.Plan.{PlanRecord, IsPlanFor}
 
@@ -142,7 +141,7 @@ module _ {K : Type 0} {took : K → List EntryRecord → K → Type 0} {M : Type
       whole_told = record { parts = u.told; took_all = u.took_all; is_trace = is_whole }
 
       pub few_told : (whole : List EntryRecord) → IsTrace (setting_of s) whole → length whole ≤ s.limit
-      few_told = trace_within s (end_to_end u.told) s.limit is_whole (subst (λ (z : Record). length (end_to_end u.told) ≤ z.limit) u.scenario (omega (arith, so_far.within, so_far.so_far)))
+      few_told whole t = omega (arith, ap length (one_trace (setting_of s) (end_to_end u.told) whole is_whole t), so_far.within, so_far.so_far, ap (λ (z : Record). z.limit) u.scenario)
 
 -- ---- for the code
 

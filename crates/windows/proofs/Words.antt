@@ -59,8 +59,8 @@ pub use Rattle.windows.specs.Berth.{IsBerth, all_filed, made_in, most_in_part, w
 pub use Rattle.windows.specs.Inside.Agenda.{AreFrom, AreLists, AreOne, IsParted, all_ahead, all_in, first_tick, in_box}
 pub use Rattle.windows.specs.Inside.Closing.{HasNextWindow, IsNextWindow, IsOverLimit}
 pub use Rattle.windows.specs.Inside.Last.{AreParts, IsMerged, TookAllBut, TookFrontOf}
-pub use Rattle.windows.specs.Inside.Shared.{AreAnswers, ArePosting, AreReady, HadWindow, IsAnswerTo, IsOneTooLong, IsStart, IsWorkBy, IsWorkIn, KnowOneTooLong}
-pub use Rattle.windows.specs.Inside.Workers.{AreRun, AreRunBy, BringsTogether, HasLong, IsFresh, IsOutcome, IsReady, IsRest, IsSent, IsStay, IsWork, RiseBy, Stay, dealt_to, given_to, is_to, left_in, sent_in, stay, taken_in}
+pub use Rattle.windows.specs.Inside.Shared.{AreAnswers, ArePosting, AreReady, HadWindow, IsAnswerTo, IsOneTooLong, IsStart, IsWorkBy, IsWorkIn}
+pub use Rattle.windows.specs.Inside.Workers.{AreRun, AreRunBy, BringsTogether, HasLong, IsFresh, IsOutcome, IsReady, IsRest, IsSent, IsStay, IsWork, RiseBy, Stay, given_to, is_to, left_in, sent_in, stay, taken_in}
 pub use Rattle.windows.specs.Refusals.{AreThere, IsFirstRefusal, IsRefusal, IsRefusalOfOne}
 pub use Rattle.windows.specs.Sink.{IsRefusalOfSink, TookAll, TookClosed, TookFront, TookTrace, writes_of}
 pub use Rattle.windows.specs.Stage.{AreHome, IsClosed, IsCountOfWorkers, kept_in, IsNextStart, IsOpened, IsStage, IsStageAfter, IsWindowRun, delivered, of_process, stage_of, start_event}

@@ -12,10 +12,10 @@ ghost use Rattle.deques.specs.Deques.{deques_of};
 ghost use Rattle.windows.specs.Plan.{IsPlanFor, most_workers};
 ghost use Rattle.window_laws.specs.Machine.{end_of};
 ghost use Rattle.windows.specs.Refusals.{IsRefusal, IsRefusalOfOne};
-ghost use Rattle.windows.specs.Inside.Shared.{AreReady, IsOneTooLong, IsFreshIn, IsStart, IsWorkIn, AreAnswers};
+ghost use Rattle.windows.specs.Inside.Shared.{AreReady, IsOneTooLong, IsStart, IsWorkIn, AreAnswers};
 ghost use Rattle.windows.specs.Inside.Shared.{HadWindow};
 ghost use Rattle.windows.specs.Stage.{IsCountOfWorkers, IsStage, IsStageAfter, IsWindowRun};
-ghost use Rattle.windows.specs.Inside.Workers.{IsOutcome, RiseBy, dealt_to, given_to};
+ghost use Rattle.windows.specs.Inside.Workers.{IsOutcome, RiseBy, given_to};
 
 use crate::berth::Berth;
 use crate::chore::Chore;

@@ -12,7 +12,6 @@ use Rattle.mailboxes.specs.Mailboxes.{SlipView, IsSlipOf, unused, posted_to}
 use Rattle.windows.specs.Berth.{IsBerth, IsBerthOf, IsLong, RanTo, with_letters}
 use Rattle.deques.specs.Deques.{DequeId, HandView, RestView, all_put}
 use Rattle.windows.specs.declared.berth.Berth.{Berth}
-use Rattle.windows.specs.declared.workers.Start.{Start}
 use Rattle.windows.specs.declared.workers.Work.{Work}
 
 -- one run of a berth: the berth as it was taken, the berth as it was left, and the letters that were posted, in order
@@ -102,10 +101,6 @@ module _ {M : Type 0} where
       pub olds_are : taken_in stays ≡ olds
       pub news_are : left_in stays ≡ news
       pub letters : (r : ℕ) → 1 ≤ r → r ≤ s.processes → (x : Letter) → IsIn x (posted_to slips r) ↔ IsSent stays r x
-
-  -- all that was dealt to these workers
-  abbrev pub dealt_to : List (Start M) → List (Berth M)
-  dealt_to starts = all_put (map (λ b. b.hand.own) starts)
 
   -- all that had been dealt to these workers once they are joined
   abbrev pub given_to : List (Work M) → List (Berth M)

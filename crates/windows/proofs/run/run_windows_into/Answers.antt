@@ -1,16 +1,10 @@
-use Rattle.windows.proofs.Words.{rules, ◌≡◌, [], ◌∙◌, refl, inl, true, false, sym, ap, subst, arith, eqb-true, eqb-false, Result, Ok, Err, OnErr, IfErr, RunError, Record, TookFrontOf, IsRefusal, IsRefusalOfSink, writes_of, on_ok_weaker, IfOk-at_ok, IfErr-at_err}
-use Rattle.std.proofs.Common.{IsErrAnd}
+use Rattle.windows.proofs.Words.{rules, ◌≡◌, [], ◌∙◌, refl, inl, true, false, sym, ap, subst, arith, eqb-true, eqb-false, OnErr, IfErr, Record, TookFrontOf, IsRefusal, writes_of, on_ok_weaker, IfOk-at_ok}
 use Rattle.std.proofs.lemmas.Result.{on_err_weaker}
 use Rattle.windows.proofs.Cut.{not_of_sink}
 use Rattle.windows.proofs.Handed.{on_err}
 use Rattle.windows.proofs.Waiting.{begins, closed_so_far, few_told, front_of, front_so_far, handed, has_next, merged_of, no_parts, no_write, ran, stage_is, whole_told}
 use Rattle.windows.specs.Inside.Closing.{IsOverLimit}
 use Rattle.windows.proofs.run.run_windows_into.Goals as goal
-
--- a refusal that was passed on
-passed_on : {A : Type 0} (P : RunError → Type 0) (r : Result A RunError) (x : RunError) → IsErrAnd r (λ y. y ≡ x) → P x → IfErr r P
-passed_on P (Ok a) x e p = tt
-passed_on P (Err y) x e p = subst P (sym e) p
 
 pub returns-in_err-stage-clause-front : goal.returns-in_err-stage-clause-front
 returns-in_err-stage-clause-front g c =
@@ -39,13 +33,13 @@ returns-in_err-told-clause-front g c =
 
 pub returns-in_err-told-clause-closed : goal.returns-in_err-told-clause-closed
 returns-in_err-told-clause-closed g c is =
-    let of_sink = passed_on IsRefusalOfSink c.from_residual-in_err-told.result _ c.from_residual-in_err-told.ensures.1 (IfErr-at_err _ c.in_err-told.was c.run_and_hand_on-ran.ensures.handed.errors) in
-    absurd (not_of_sink c.from_residual-in_err-told.result of_sink is)
+    let refused = c.run_and_hand_on-ran.ensures.handed.errors in
+    absurd (not_of_sink c.from_residual-in_err-told.result (search (rules, refused)) is)
 
 pub returns-in_err-told-clause-limit : goal.returns-in_err-told-clause-limit
 returns-in_err-told-clause-limit g c is =
-    let of_sink = passed_on IsRefusalOfSink c.from_residual-in_err-told.result _ c.from_residual-in_err-told.ensures.1 (IfErr-at_err _ c.in_err-told.was c.run_and_hand_on-ran.ensures.handed.errors) in
-    absurd (not_of_sink c.from_residual-in_err-told.result of_sink (inl is))
+    let refused = c.run_and_hand_on-ran.ensures.handed.errors in
+    absurd (not_of_sink c.from_residual-in_err-told.result (search (rules, refused)) (inl is))
 
 pub hand_on-requires-clause-parts : goal.hand_on-requires-clause-parts
 hand_on-requires-clause-parts g c = c.run_and_hand_on-ran.ensures.handed.waiting
@@ -81,7 +75,7 @@ pub returns-in_err-parts-clause-count : goal.returns-in_err-parts-clause-count
 returns-in_err-parts-clause-count g c =
     let fine : writes_of c.run_and_hand_on-ran.result.1.told ≡ 0 = ap writes_of c.in_ok-told.was in
     let good : writes_of c.hand_on.result ≡ 0 = ap writes_of c.in_ok-hand_on.was in
-    let refused : IfErr c.from_residual-in_err-parts.result IsRefusal = passed_on IsRefusal c.from_residual-in_err-parts.result _ c.from_residual-in_err-parts.ensures.1 (IfErr-at_err _ c.in_err-parts.was c.run_and_hand_on-ran.ensures.errors) in
+    let refused : IfErr c.from_residual-in_err-parts.result IsRefusal = search rules in
     omega (arith, c.run_and_hand_on-ran.ensures.handed.count, fine, c.hand_on.ensures.count, good, no_write c.from_residual-in_err-parts.result refused, c.loop-stage.invariant.1)
 
 pub returns-in_err-parts-clause-limit : goal.returns-in_err-parts-clause-limit
