@@ -182,20 +182,50 @@ module _ {M : Type 0} (mind : M → Mind) (old : Stage M) (ranges : IsInRange ol
       pub outcome_limit : (left : ℕ) → left + old.so_far ≡ s.limit → left < length (all_of parts) → (trace : List EntryRecord) → IsTrace S trace → s.limit < length trace
       outcome_limit left sum long trace is_trace = omega (arith, long, no_more 1 parts list parts_at, far trace is_trace, sum, is.so_far)
 
-      -- letters to one receiver with one key become one event, as both are pending in the list's world
-      sent_pending : (r : ℕ) → 1 ≤ r → r ≤ s.processes → (x : Letter) → IsIn x (posted_to slips r) → Has after.pending x.key (event_of x).1
-      sent_pending r low high x i =
-          let sent = (o.letters r low high x).0 i in
-          let at = in_place o.stays sent.0 sent.1 in
-          let mine = letters (suc at.0) in
-          letter_in S sound window short is.world is.is_world g (is.stands window) list after all.2 (suc at.0) (pairs_of (suc at.0) list) (process_of mind sent.0.after.seat) sent.0.after.pending (map event_of mine)
-          (ran at.0 sent.0 at.1).0 x.key (event_of x).1 (map_in event_of mine x (subst (IsIn x) (sym (letters_at at.0 sent.0 at.1)) sent.2))
+      abbrev events_of : ℕ → List Event
+      events_of p = map event_of (letters p)
 
-      pub outcome_one : (r : ℕ) → 1 ≤ r → r ≤ s.processes → AreOne (posted_to slips r)
-      outcome_one r low high x y i j same =
-          let a = subst (λ q. Has after.pending q (event_of x).1) same (sent_pending r low high x i) in
-          let input = one_input after.pending y.key (event_of x).1 (event_of y).1 a (sent_pending r low high y j) in
-          λ t. (same t, input t)
+      posted_in : (p : ℕ) → IsProcess S p → (k : Key) (y : StepInput) → IsIn (k, y) (events_of p) → Has after.pending k y
+      posted_in = by_place s.processes (λ p. (k : Key) (y : StepInput) → IsIn (k, y) (events_of p) → Has after.pending k y) (λ i inside.
+          let t = stay_at i inside in
+          letter_in S sound window short is.world is.is_world g (is.stands window) list after all.2 (suc i) (pairs_of (suc i) list) (process_of mind t.0.after.seat) t.0.after.pending (events_of (suc i)) (ran i t.0 t.1).0)
+
+      -- the letters that a process takes are those that were posted to it
+      module _ (i : ℕ) (inside : i < s.processes) where
+        own : IsProcess S (suc i)
+        own = own_at i inside
+
+        abbrev mail : List Event
+        mail = map event_of (posted_to slips (suc i))
+
+        taken_posted : (e : Event) → IsIn e mail → IsPosted S events_of (suc i) e.0 e.1
+        taken_posted e j =
+            let x = in_map event_of (posted_to slips (suc i)) e j in
+            let sent = (o.letters (suc i) own.0 own.1 x.0).0 x.1 in
+            let at = in_place o.stays sent.0 sent.1 in
+            let theirs = own_at at.0 (omega (arith, slice_get_within o.stays at.0 sent.0 at.1, stays_many)) in
+            let in_theirs : IsIn e (events_of (suc at.0)) = subst (λ z. IsIn z (events_of (suc at.0))) (sym x.2) (map_in event_of (letters (suc at.0)) x.0 (subst (IsIn x.0) (sym (letters_at at.0 sent.0 at.1)) sent.2)) in
+            let to : e.0.receiver ≡ x.0.key.receiver = ap (λ (z : Event). z.0.receiver) x.2 in
+            let low = (all.2.family.whole.received e.0 e.1 (posted_in (suc at.0) theirs e.0 e.1 in_theirs)).0 in
+            (suc at.0, theirs, in_theirs, omega (arith, to, low, sent.3))
+
+        posted_taken : (k : Key) (y : StepInput) → IsPosted S events_of (suc i) k y → IsIn (k, y) mail
+        posted_taken k y (zero, theirs, j, to) = let low = theirs.0 in absurd (omega arith)
+        posted_taken k y (suc q, theirs, j, to) =
+            let t = stay_at q (omega (arith, theirs.1)) in
+            let x = in_map event_of (letters (suc q)) (k, y) j in
+            let to_i : x.0.key.receiver - 1 ≡ suc i - 1 = ap (λ n. n - 1) (sym (ap (λ (z : Event). z.0.receiver) x.2) ∙ to) in
+            let sent = (o.letters (suc i) own.0 own.1 x.0).1 (t.0, place_in o.stays q t.0 t.1, subst (IsIn x.0) (letters_at q t.0 t.1) x.1, to_i) in
+            subst (λ z. IsIn z mail) (sym x.2) (map_in event_of (posted_to slips (suc i)) x.0 sent)
+
+      -- letters to one receiver with one key become one event, as both are pending in the list's world
+      pub outcome_one : (r : ℕ) → IsProcess S r → AreOne (posted_to slips r)
+      outcome_one = by_place s.processes (λ r. AreOne (posted_to slips r)) (λ i inside x y in_x in_y same.
+          let a = taken_posted i inside (event_of x) (map_in event_of (posted_to slips (suc i)) x in_x) in
+          let b = taken_posted i inside (event_of y) (map_in event_of (posted_to slips (suc i)) y in_y) in
+          let there = subst (λ q. Has after.pending q (event_of x).1) same (posted_in a.0 a.1 x.key (event_of x).1 a.2) in
+          let input = one_input after.pending y.key (event_of x).1 (event_of y).1 there (posted_in b.0 b.1 y.key (event_of y).1 b.2) in
+          λ t. (same t, input t))
 
       -- ---- the window is closed
 
@@ -232,12 +262,9 @@ module _ {M : Type 0} (mind : M → Mind) (old : Stage M) (ranges : IsInRange ol
         abbrev h : StageRecord Mind
         h = stage_of mind window new
 
-        -- what is left to a process, and the events of its letters
+        -- what is left to a process
         abbrev rest : ℕ → Events
         rest p = of_process p (map (λ (t : Stay M). t.after.pending) o.stays) finmap.empty
-
-        abbrev events_of : ℕ → List Event
-        events_of p = map event_of (letters p)
 
         run_at : (p : ℕ) → IsProcess S p → BerthRun S p end (g.process p) (g.own p) (pairs_of p list) (h.process p) (rest p) (events_of p)
         run_at = by_place s.processes (λ p. BerthRun S p end (g.process p) (g.own p) (pairs_of p list) (h.process p) (rest p) (events_of p)) (λ i inside.
@@ -249,51 +276,22 @@ module _ {M : Type 0} (mind : M → Mind) (old : Stage M) (ranges : IsInRange ol
         left_in : (p : ℕ) → IsProcess S p → (k : Key) (y : StepInput) → Has (rest p) k y → Has after.pending k y × (k.receiver ≡ p)
         left_in p own = rest_in S sound window short is.world is.is_world g (is.stands window) list after all.2 p (pairs_of p list) (h.process p) (rest p) (events_of p) (run_at p own)
 
-        posted_in : (p : ℕ) → IsProcess S p → (k : Key) (y : StepInput) → IsIn (k, y) (events_of p) → Has after.pending k y
-        posted_in p own = letter_in S sound window short is.world is.is_world g (is.stands window) list after all.2 p (pairs_of p list) (h.process p) (rest p) (events_of p) (run_at p own)
-
-        -- the letters that a process takes are those that were posted to it
+        -- the events of a process, as the next window opens
         module _ (i : ℕ) (inside : i < s.processes) where
-          own : IsProcess S (suc i)
-          own = own_at i inside
-
-          abbrev mail : List Event
-          mail = map event_of (posted_to slips (suc i))
-
-          taken_posted : (e : Event) → IsIn e mail → IsPosted S events_of (suc i) e.0 e.1
-          taken_posted e j =
-              let x = in_map event_of (posted_to slips (suc i)) e j in
-              let sent = (o.letters (suc i) own.0 own.1 x.0).0 x.1 in
-              let at = in_place o.stays sent.0 sent.1 in
-              let theirs = own_at at.0 (omega (arith, slice_get_within o.stays at.0 sent.0 at.1, stays_many)) in
-              let in_theirs : IsIn e (events_of (suc at.0)) = subst (λ z. IsIn z (events_of (suc at.0))) (sym x.2) (map_in event_of (letters (suc at.0)) x.0 (subst (IsIn x.0) (sym (letters_at at.0 sent.0 at.1)) sent.2)) in
-              let to : e.0.receiver ≡ x.0.key.receiver = ap (λ (z : Event). z.0.receiver) x.2 in
-              let low = (all.2.family.whole.received e.0 e.1 (posted_in (suc at.0) theirs e.0 e.1 in_theirs)).0 in
-              (suc at.0, theirs, in_theirs, omega (arith, to, low, sent.3))
-
-          posted_taken : (k : Key) (y : StepInput) → IsPosted S events_of (suc i) k y → IsIn (k, y) mail
-          posted_taken k y (zero, theirs, j, to) = let low = theirs.0 in absurd (omega arith)
-          posted_taken k y (suc q, theirs, j, to) =
-              let t = stay_at q (omega (arith, theirs.1)) in
-              let x = in_map event_of (letters (suc q)) (k, y) j in
-              let to_i : x.0.key.receiver - 1 ≡ suc i - 1 = ap (λ n. n - 1) (sym (ap (λ (z : Event). z.0.receiver) x.2) ∙ to) in
-              let sent = (o.letters (suc i) own.0 own.1 x.0).1 (t.0, place_in o.stays q t.0 t.1, subst (IsIn x.0) (letters_at q t.0 t.1) x.1, to_i) in
-              subst (λ z. IsIn z mail) (sym x.2) (map_in event_of (posted_to slips (suc i)) x.0 sent)
-
-          own_here : h.own (suc i) ≡ joined (rest (suc i)) mail
+          own_here : h.own (suc i) ≡ joined (rest (suc i)) (mail i inside)
           own_here =
               let r = row i inside in
-              at_map (λ b. b.pending) berths finmap.empty i r.1 r.3 ∙ (ap (λ k. k.1) r.4 ∙ ap (λ m. joined m mail) (sym (at_map (λ t. t.after.pending) o.stays finmap.empty i r.0 r.2)))
+              at_map (λ b. b.pending) berths finmap.empty i r.1 r.3 ∙ (ap (λ k. k.1) r.4 ∙ ap (λ m. joined m (mail i inside)) (sym (at_map (λ t. t.after.pending) o.stays finmap.empty i r.0 r.2)))
 
           own_pending : (k : Key) (y : StepInput) → Has (rest (suc i)) k y ⊎ IsPosted S events_of (suc i) k y → Has after.pending k y
-          own_pending k y c = elim c [ inl m ↦ (left_in (suc i) own k y m).0 | inr u ↦ posted_in u.0 u.1 k y u.2 ]
+          own_pending k y c = elim c [ inl m ↦ (left_in (suc i) (own_at i inside) k y m).0 | inr u ↦ posted_in u.0 u.1 k y u.2 ]
 
           own_each : (k : Key) (y : StepInput) → Has (h.own (suc i)) k y ↔ (Has (rest (suc i)) k y ⊎ IsPosted S events_of (suc i) k y)
           own_each k y = (
-            (λ j. elim (joined_cases mail (rest (suc i)) k y (subst (λ m. Has m k y) own_here j)) [ inl i' ↦ inr (taken_posted (k, y) i') | inr m ↦ inl m ]),
-            (λ c. subst (λ m. Has m k y) (sym own_here) (joined_back mail (rest (suc i)) k y (λ e j same.
-                let u = taken_posted e j in one_input after.pending k e.1 y (subst (λ z. Has after.pending z e.1) same (posted_in u.0 u.1 e.0 e.1 u.2)) (own_pending k y c))
-                (elim c [ inl m ↦ inr m | inr u ↦ inl (posted_taken k y u) ]))),
+            (λ j. elim (joined_cases (mail i inside) (rest (suc i)) k y (subst (λ m. Has m k y) own_here j)) [ inl i' ↦ inr (taken_posted i inside (k, y) i') | inr m ↦ inl m ]),
+            (λ c. subst (λ m. Has m k y) (sym own_here) (joined_back (mail i inside) (rest (suc i)) k y (λ e j same.
+                let u = taken_posted i inside e j in one_input after.pending k e.1 y (subst (λ z. Has after.pending z e.1) same (posted_in u.0 u.1 e.0 e.1 u.2)) (own_pending k y c))
+                (elim c [ inl m ↦ inr m | inr u ↦ inl (posted_taken i inside k y u) ]))),
           )
 
         own_is : (p : ℕ) → IsProcess S p → (k : Key) (y : StepInput) → Has (h.own p) k y ↔ (Has (rest p) k y ⊎ IsPosted S events_of p k y)

@@ -48,7 +48,7 @@ close-requires-clause-one g c κs within r low high =
     let end : c.min-end.result ≡ end_of (setting_of old.scenario.now) c.args.plan.now.window old.start = c.min-end.ensures ∙ (λ i. min (old.start + c.window.ensures.value i) (c.horizon.ensures.value i)) in
     let by = of_same (λ s e bs. IsOutcome g.M.Process.mind s e bs ran.berths.items ran.slips.items) c.new-streams.ensures end (ap (λ (v : Vec _). v.items) c.replace-berths.ensures.value) c.in_ok-ran.ensures.outcome in
     let many = outcome_many g.M.Process.mind old c.processes-processes.ensures.ranges stage.0 stage.1 c.args.plan.now.window c.requires.window.plan_is _ _ by in
-    outcome_one g.M.Process.mind old c.processes-processes.ensures.ranges stage.0 stage.1 c.args.plan.now.window c.requires.window.plan_is _ _ by r low (omega (arith, high, many, ran.berths.ok.0))
+    outcome_one g.M.Process.mind old c.processes-processes.ensures.ranges stage.0 stage.1 c.args.plan.now.window c.requires.window.plan_is _ _ by r (low, omega (arith, high, many, ran.berths.ok.0))
 
 pub returns : goal.returns
 returns g c =
