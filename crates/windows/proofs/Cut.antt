@@ -1,5 +1,5 @@
 -- What the list does before a tick, and what it does from there on.
-use Rattle.windows.proofs.Words.{◌≡◌, ◌≢◌, ◌⊎◌, ℕ, ◌<◌, ◌≤◌, inl, inr, List, [], ◌∷◌, ◌++◌, sym, ap, ◌∙◌, subst, arith, Result, Ok, Err, IfErr, IsErrOf, All, map-append, All-nil, All-cons, EntryRecord, Key, StepInput, RunError, Limit, Spawn, IsInRange, Record, Mind, IsIn, Pair, setting_of, Setting, IsSound, World, IsWorld, Has, NoneBelow, Run, made, taken, entries, IsTrace, setting_sound, IsRefusalOfSink, IsStageAfter, Stage}
+use Rattle.windows.proofs.Words.{◌≡◌, ◌⊎◌, ℕ, ◌<◌, ◌≤◌, inl, inr, List, [], ◌∷◌, ◌++◌, sym, ap, ◌∙◌, subst, arith, Result, Ok, Err, IfErr, IsErrOf, All, map-append, All-nil, All-cons, EntryRecord, Key, StepInput, RunError, Limit, Spawn, IsInRange, Record, Mind, Pair, setting_of, Setting, IsSound, World, IsWorld, Has, NoneBelow, Run, taken, entries, IsTrace, setting_sound, IsRefusalOfSink, IsStageAfter, Stage}
 use Rattle.trace_laws.proofs.Worlds.{taken_cases, made_sent, taken_world}
 
 module _ {Mind : Type 0} (S : Setting Mind) where
@@ -10,11 +10,10 @@ module _ {Mind : Type 0} (S : Setting Mind) where
 
   module _ (sound : IsSound S) (tick : ℕ) where
     none_earlier : (w : World Mind) (k : Key) (x : StepInput) → IsWorld S w → NoneBelow tick w.pending → Has w.pending k x → NoneBelow tick (taken S w k x).pending
-    none_earlier w k x is none there q y h = go (taken_cases S w k x q y h)
-      where
-        go : IsIn (q, y) (made S w k x).added ⊎ ((q ≢ k) × Has w.pending q y) → tick ≤ q.tick
-        go (inl i) = omega (arith, none k x there, (made_sent S w k x sound is there (q, y) i).later)
-        go (inr old) = none q y old.1
+    none_earlier w k x is none there q y h = elim (taken_cases S w k x q y h) [
+      | inl i ↦ omega (arith, none k x there, (made_sent S w k x sound is there (q, y) i).later)
+      | inr old ↦ none q y old.1
+    ]
 
     -- where nothing is pending below a tick, nothing is taken below it
     pub run_after : (end : ℕ) (h : List Pair) (w last : World Mind) → IsWorld S w → NoneBelow tick w.pending → Run S end w h last → All (λ (e : EntryRecord). tick ≤ e.key.tick) (entries h)

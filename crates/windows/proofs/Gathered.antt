@@ -1,5 +1,5 @@
 -- What is brought together after a window.
-use Rattle.windows.proofs.Words.{◌≡◌, ◌⊎◌, ◌↔◌, ℕ, zero, suc, ◌-◌, ◌<◌, ◌≤◌, inl, inr, List, [], ◌∷◌, ◌++◌, length, map, replicate, set, get_or, refl, sym, ap, ◌∙◌, subst, append_assoc, append-nil, arith, cond, filter, ⊎_elim, All, swap, IsPermutation, IsNonDecreasingBy, apply_swaps, SwapsInRange, cases_eq, eq-eqb, ne_eqb, eqb-true, map-append, map-set, length-map, length-set, length-replicate, get_or-set_other, get_or-map, get_or-replicate, flat_map-append, All-nil, All-push, All-append, All-map, All-take, All-drop, Contains-append_left, filter-append, IsPermutation-refl, IsPermutation-trans, IsPermutation-sym, IsPermutation-middle, IsPermutation-append, IsPermutation-append_left, IsPermutation-push_more, IsPermutation-map, All-permutation, Contains-permutation, Mind, Letter, Record, MailboxId, SlipView, IsSlipOf, unused, filed, list_of, posted_to, IsIn, own_of, NoneBelow, in_filter, filter_in, in_append, in_left, in_right, all_filed, with_letters, DequeId, RestView, all_put, Stay, stay, taken_in, is_to, sent_in, IsSent, IsStay, IsReady, IsFresh, AreRunBy, AreRun, IsRest, HasLong, IsOutcome, RiseBy, Start, Berth, slip_of, HandView, TookOne, IsWork}
+use Rattle.windows.proofs.Words.{◌≡◌, ◌⊎◌, ◌↔◌, ℕ, zero, suc, ◌-◌, ◌<◌, inl, inr, List, [], ◌∷◌, ◌++◌, length, map, replicate, set, get_or, refl, sym, ap, ◌∙◌, subst, append_assoc, append-nil, arith, cond, filter, ⊎_elim, All, swap, IsPermutation, IsNonDecreasingBy, apply_swaps, SwapsInRange, cases_eq, eq-eqb, ne_eqb, eqb-true, map-append, map-set, length-map, length-set, length-replicate, get_or-set_other, get_or-map, get_or-replicate, flat_map-append, All-nil, All-push, All-append, All-map, All-take, All-drop, Contains-append_left, filter-append, IsPermutation-refl, IsPermutation-trans, IsPermutation-sym, IsPermutation-middle, IsPermutation-append, IsPermutation-append_left, IsPermutation-push_more, IsPermutation-map, All-permutation, Contains-permutation, Mind, Letter, Record, MailboxId, SlipView, IsSlipOf, unused, filed, list_of, posted_to, IsIn, own_of, NoneBelow, in_filter, filter_in, in_append, in_left, in_right, all_filed, with_letters, DequeId, RestView, all_put, Stay, stay, taken_in, is_to, sent_in, IsSent, IsStay, IsReady, IsFresh, AreRunBy, AreRun, IsRest, HasLong, IsOutcome, RiseBy, Start, Berth, slip_of, HandView, TookOne, IsWork}
 use Rattle.std.proofs.Math.Seq.{take-append_seam, drop-append_seam}
 use Rattle.std.proofs.lemmas.Grind.{get_or-set_at}
 use Rattle.windows.proofs.Ranked.{in_permutation, same_order, sorted_is}
@@ -152,10 +152,10 @@ module _ {M : Type 0} (mind : M → Mind) (s : Record) (end : ℕ) (mailboxes : 
   same_owner : (t : Stay M) → IsReady mind s t.before → IsStay mind s end t → own_of mind t.after.seat ≡ own_of mind t.before.seat
   same_owner t ready ran = (ran.1 ready.0.0 _ ready.0.1).is ∙ sym ready.0.1.is
 
-  pub outcome : (olds done news : List (Berth M)) (slips : List SlipView) (lists : List (List Letter)) → AreRun mind s end mailboxes olds done slips
+  pub outcome : (olds done news : List (Berth M)) (slips : List SlipView) → AreRun mind s end mailboxes olds done slips
       → All (IsReady mind s) olds → RiseBy (λ b. own_of mind b.seat) olds → IsPermutation done news → IsNonDecreasingBy (λ b. own_of mind b.seat) news
-      → length lists ≡ s.processes → ((r : ℕ) → 1 ≤ r → r ≤ s.processes → IsPermutation (posted_to slips r) (list_of lists r)) → IsOutcome mind s end olds news lists
-  outcome olds done news slips lists run ready rises order up count gives =
+      → IsOutcome mind s end olds news slips
+  outcome olds done news slips run ready rises order up =
       let own : Berth M → ℕ = λ b. own_of mind b.seat in
       let l = lifted (λ (t : Stay M). t.after) run.stays news (subst (λ bs. IsPermutation bs news) (sym run.news_are) order) in
       let stays : List (Stay M) = l.0 in
@@ -169,11 +169,10 @@ module _ {M : Type 0} (mind : M → Mind) (s : Record) (end : ℕ) (mailboxes : 
         each = each;
         olds_are = sorted_is own olds (taken_in stays) rises mixed (same_order own (λ (t : Stay M). t.before) (λ (t : Stay M). t.after) stays same (subst (IsNonDecreasingBy own) (sym l.2) up));
         news_are = l.2;
-        count = count;
         letters = λ r low high x.
             let there = is_sent r run.stays x in (
-              (λ i. moved run.stays stays l.1 r x (there.0 (subst (IsIn x) (run.posted r low high) (in_permutation _ _ (IsPermutation-sym _ _ (gives r low high)) x i)))),
-              (λ e. in_permutation _ _ (gives r low high) x (subst (IsIn x) (sym (run.posted r low high)) (there.1 (moved stays run.stays (IsPermutation-sym _ _ l.1) r x e)))),
+              (λ i. moved run.stays stays l.1 r x (there.0 (subst (IsIn x) (run.posted r low high) i))),
+              (λ e. subst (IsIn x) (sym (run.posted r low high)) (there.1 (moved stays run.stays (IsPermutation-sym _ _ l.1) r x e))),
             );
       }
     where

@@ -1,14 +1,10 @@
 -- What a sink took, part by part.
-use Rattle.windows.proofs.Words.{◌≡◌, ◌≤◌, ℕ, sym, ap, ◌∙◌, List, [], ◌∷◌, ◌++◌, length, append_assoc, append-nil, arith, Result, Ok, Err, OnErr, EntryRecord, Record, setting_of, IsTrace, one_trace, TookAll, end_to_end}
+use Rattle.windows.proofs.Words.{◌≡◌, sym, ap, ◌∙◌, List, [], ◌∷◌, ◌++◌, append_assoc, append-nil, Result, Ok, Err, OnErr, EntryRecord, TookAll, end_to_end}
 
 -- what holds anyhow holds of a refusal
 pub on_err : {A E : Type 0} (r : Result A E) (P : Type 0) → P → OnErr r P
 on_err (Ok x) P p = tt
 on_err (Err e) P p = p
-
--- where one trace is no longer than this, each is
-pub trace_within : (s : Record) (trace : List EntryRecord) (limit : ℕ) → IsTrace (setting_of s) trace → length trace ≤ limit → (whole : List EntryRecord) → IsTrace (setting_of s) whole → length whole ≤ limit
-trace_within s trace limit is few whole t = omega (arith, ap length (one_trace (setting_of s) trace whole is t), few)
 
 -- a keeping sink has the parts end to end
 pub kept_all : {K : Type 0} (items : K → List EntryRecord) (took : K → List EntryRecord → K → Type 0) → ((a b : K) (part : List EntryRecord) → took a part b → items b ≡ items a ++ part) → (old new : K) (parts : List (List EntryRecord)) → TookAll took old parts new → items new ≡ items old ++ end_to_end parts

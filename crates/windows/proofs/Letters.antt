@@ -1,5 +1,5 @@
 -- Events that a process causes in a window, as they are handed on.
-use Rattle.windows.proofs.Words.{◌≡◌, ◌≢◌, ℕ, refl, ap, sym, ◌∙◌, cond, not, List, [], ◌∷◌, ◌++◌, nat_eq, length, eq-eqb, ne_eqb, filter-append, Letter, Event, Events, joined, filed, all_filed, for_self, for_others, ◌+◌, ◌<◌, map, subst, length-append, arith, map-append, EntryRecord, Key, StepInput, Setting, Process, step, IsLeast, event_of, BerthStands, berth_next}
+use Rattle.windows.proofs.Words.{◌≡◌, ◌≢◌, ℕ, refl, ap, sym, ◌∙◌, cond, not, List, [], ◌∷◌, ◌++◌, length, eq-eqb, ne_eqb, filter-append, append-nil, Letter, Event, Events, joined, filed, all_filed, for_self, for_others, ◌+◌, ◌<◌, map, subst, length-append, arith, map-append, EntryRecord, Key, StepInput, Setting, Process, step, IsLeast, event_of, BerthStands, berth_next}
 use Rattle.std.specs.FinMap as events
 use Rattle.trace_laws.specs.Joins.{HaveJoined, Serves, StillServes}
 use Rattle.windows.specs.Inside.Outbox.{HandedOn, IsFor}
@@ -10,20 +10,19 @@ pub joined_both : (m : Events) (xs ys : List Event) → joined (joined m xs) ys 
 joined_both m [] ys = refl
 joined_both m (x ∷ xs) ys = joined_both (events.insert m x.0 x.1) xs ys
 
--- what was handed on with one event more
-pub self_then : (p : ℕ) (es : List Event) (x : Event) (m : Events) → joined m (for_self p (es ++ x ∷ [])) ≡ joined (joined m (for_self p es)) (for_self p (x ∷ []))
-self_then p es x m = ap (joined m) (filter-append (λ (e : Event). nat_eq e.0.receiver p) es (x ∷ [])) ∙ sym (joined_both m (for_self p es) (for_self p (x ∷ [])))
+-- what was handed on with one event more, of the process itself or of another
+module _ (p : ℕ) (es : List Event) (x : Event) where
+  pub own_more : x.0.receiver ≡ p → (for_self p (es ++ x ∷ []) ≡ for_self p es ++ x ∷ []) × (for_others p (es ++ x ∷ []) ≡ for_others p es)
+  own_more is = let same = eq-eqb x.0.receiver p is in (
+    filter-append _ es (x ∷ []) ∙ ap (λ b. for_self p es ++ cond b (x ∷ []) []) same,
+    filter-append _ es (x ∷ []) ∙ (ap (λ b. for_others p es ++ cond (not b) (x ∷ []) []) same ∙ append-nil (for_others p es)),
+  )
 
-pub others_then : (p : ℕ) (es : List Event) (x : Event) → for_others p (es ++ x ∷ []) ≡ for_others p es ++ for_others p (x ∷ [])
-others_then p es x = filter-append (λ (e : Event). not (nat_eq e.0.receiver p)) es (x ∷ [])
-
--- one event, for the process itself or for another
-module _ (p : ℕ) (x : Event) where
-  pub one_own : x.0.receiver ≡ p → (for_self p (x ∷ []) ≡ x ∷ []) × (for_others p (x ∷ []) ≡ [])
-  one_own is = let same = eq-eqb x.0.receiver p is in (ap (λ b. cond b (x ∷ []) []) same, ap (λ b. cond (not b) (x ∷ []) []) same)
-
-  pub one_other : x.0.receiver ≢ p → (for_self p (x ∷ []) ≡ []) × (for_others p (x ∷ []) ≡ x ∷ [])
-  one_other apart = let other = ne_eqb x.0.receiver p apart in (ap (λ b. cond b (x ∷ []) []) other, ap (λ b. cond (not b) (x ∷ []) []) other)
+  pub other_more : x.0.receiver ≢ p → (for_self p (es ++ x ∷ []) ≡ for_self p es) × (for_others p (es ++ x ∷ []) ≡ for_others p es ++ x ∷ [])
+  other_more apart = let other = ne_eqb x.0.receiver p apart in (
+    filter-append _ es (x ∷ []) ∙ (ap (λ b. for_self p es ++ cond b (x ∷ []) []) other ∙ append-nil (for_self p es)),
+    filter-append _ es (x ∷ []) ∙ ap (λ b. for_others p es ++ cond (not b) (x ∷ []) []) other,
+  )
 
 -- letters filed after others
 pub filed_more : (lists : List (List Letter)) (xs ys : List Letter) → all_filed (all_filed lists xs) ys ≡ all_filed lists (xs ++ ys)

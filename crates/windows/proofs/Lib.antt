@@ -9,7 +9,6 @@ pub mod Joined
 pub mod Ranked
 pub mod Handed
 pub mod Agendas
-pub mod Posted
 pub mod Cut
 pub mod Waiting
 pub mod Words

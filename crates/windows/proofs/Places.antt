@@ -1,12 +1,8 @@
 -- Lists that have process 1 first.
-use Rattle.windows.proofs.Words.{◌≡◌, ◌≢◌, ◌⊎◌, ℕ, zero, suc, ◌+◌, ◌-◌, ◌<◌, ◌≤◌, inl, inr, refl, sym, ap, ◌∙◌, subst, List, [], ◌∷◌, Some, length, map, slice_get, option_map, arith, Bool, true, false, cond, nat_eq, not, filter, ⊎_elim, All, AllByRecursion, eqb-true, cases_lt, get_or_past, length-map, length-append, length-filter_both, All-from_recursion, All-get_or, slice_get-map, slice_get_within, get_or_from_slice_get, EntryRecord, Letter, IsIn, Pair, pairs_of, Events, joined, entries, not_None, same_Some, in_append, in_left, in_right, all_of, AreApart, AreDisjoint, event_of, of_process, delivered, ◌++◌, append-nil, nil_from_length, key_cmp, Key, StepInput, Has}
+use Rattle.windows.proofs.Words.{◌≡◌, ◌≢◌, ℕ, zero, suc, ◌+◌, ◌-◌, ◌<◌, ◌≤◌, inl, inr, refl, sym, ap, ◌∙◌, subst, List, [], ◌∷◌, Some, length, map, slice_get, get_or, option_map, arith, cond, nat_eq, not, filter, All, AllByRecursion, eq-eqb, ne_eqb, cases_eq, cases_lt, get_or_past, length-map, length-append, length-filter_both, slice_get-map, slice_get-get_or, slice_get_cases, slice_get_within, get_or_from_slice_get, EntryRecord, Letter, IsIn, Pair, pairs_of, list_of, joined, entries, not_None, same_Some, in_append, in_left, in_right, all_of, AreDisjoint, event_of, of_process, delivered, ◌++◌, append-nil, nil_from_length, key_cmp, Key, StepInput, Has, Berth}
+use Rattle.trace_laws.proofs.Pairs.{pairs_other}
+use Rattle.windows.proofs.Ranked.{contains_in, in_contains}
 use Rattle.std.specs.FinMap as finmap
-
-none_inside : (i : ℕ) → i < 0 → ⊥
-none_inside i h = omega arith
-
-one_less : (i n : ℕ) → suc i < suc n → i < n
-one_less i n h = omega arith
 
 pub no_event : (k : Key) (y : StepInput) → Has finmap.empty k y → ⊥
 no_event k y i = not_None y (sym (finmap.get-empty key_cmp k) ∙ i)
@@ -14,39 +10,29 @@ no_event k y i = not_None y (sym (finmap.get-empty key_cmp k) ∙ i)
 -- ---- what stands at a place
 
 pub there : {X : Type 0} (xs : List X) (i : ℕ) → i < length xs → (x : X) × (slice_get xs i ≡ Some x)
-there [] i h = absurd (none_inside i h)
-there (x ∷ xs) zero h = (x, refl)
-there (x ∷ xs) (suc i) h = there xs i (one_less i (length xs) h)
+there xs i h = elim (slice_get_cases xs i).1 [ inl x ↦ (x.0, x.2) | inr past ↦ absurd (omega (arith, h, past.0)) ]
 
 pub there_map : {X Y : Type 0} (f : X → Y) (xs : List X) (i : ℕ) (x : X) → slice_get xs i ≡ Some x → slice_get (map f xs) i ≡ Some (f x)
 there_map f xs i x h = slice_get-map f xs i ∙ ap (option_map f) h
 
 pub from_map : {X Y : Type 0} (f : X → Y) (xs : List X) (i : ℕ) (y : Y) → slice_get (map f xs) i ≡ Some y → (x : X) × (slice_get xs i ≡ Some x) × (f x ≡ y)
-from_map f [] i y h = absurd (not_None y h)
-from_map f (x ∷ xs) zero y h = (x, refl, same_Some (f x) y h)
-from_map f (x ∷ xs) (suc i) y h = from_map f xs i y h
-
--- where two lists have the same images, what stands at a place has the same image
-pub same_at : {X Y Z : Type 0} (f : X → Z) (g : Y → Z) (xs : List X) (ys : List Y) → map f xs ≡ map g ys → (i : ℕ) (y : Y) → slice_get ys i ≡ Some y → (x : X) × (slice_get xs i ≡ Some x) × (f x ≡ g y)
-same_at f g xs ys same i y h = from_map f xs i (g y) (ap (λ zs. slice_get zs i) same ∙ there_map g ys i y h)
+from_map f xs i y h =
+    let x = there xs i (subst (λ n. i < n) (length-map xs f) (slice_get_within (map f xs) i y h)) in
+    (x.0, x.1, same_Some (f x.0) y (sym (there_map f xs i x.0 x.1) ∙ h))
 
 -- where an element stands
 pub in_place : {X : Type 0} (xs : List X) (x : X) → IsIn x xs → (i : ℕ) × (slice_get xs i ≡ Some x)
-in_place [] x i = absurd i
-in_place (y ∷ ys) x (inl e) = (0, ap Some (sym e))
-in_place (y ∷ ys) x (inr i) = let r = in_place ys x i in (suc r.0, r.1)
+in_place xs x i = let c = in_contains xs x i in (c.0, slice_get-get_or xs c.0 x c.1 ∙ ap Some c.2)
 
 pub place_in : {X : Type 0} (xs : List X) (i : ℕ) (x : X) → slice_get xs i ≡ Some x → IsIn x xs
-place_in [] i x at = absurd (not_None x at)
-place_in (y ∷ ys) zero x at = inl (sym (same_Some y x at))
-place_in (y ∷ ys) (suc i) x at = inr (place_in ys i x at)
+place_in xs i x at = contains_in xs x (i, slice_get_within xs i x at, get_or_from_slice_get xs i x x at)
 
 -- process 1 is at place 0
-pub at_index : {X : Type 0} (i : ℕ) (xs : List X) (x none : X) → slice_get xs i ≡ Some x → of_process (suc i) xs none ≡ x
-at_index i xs x none h = get_or_from_slice_get xs i x none h
+pub at_map : {X Y : Type 0} (f : X → Y) (xs : List X) (none : Y) (i : ℕ) (x : X) → slice_get xs i ≡ Some x → of_process (suc i) (map f xs) none ≡ f x
+at_map f xs none i x h = get_or_from_slice_get (map f xs) i (f x) none (there_map f xs i x h)
 
-pub before_suc : (i : ℕ) → suc i - 1 ≡ i
-before_suc i = omega arith
+pub list_at : (lists : List (List Letter)) (i : ℕ) (l : List Letter) → slice_get lists i ≡ Some l → list_of lists (suc i) ≡ l
+list_at lists i l at = get_or_from_slice_get lists (suc i - 1) l [] (subst (λ n. slice_get lists n ≡ Some l) (omega arith) at)
 
 -- what holds at each place holds of each process
 pub by_place : (n : ℕ) (P : ℕ → Type 0) → ((i : ℕ) → i < n → P (suc i)) → (p : ℕ) → (1 ≤ p) × (p ≤ n) → P p
@@ -55,10 +41,7 @@ by_place n P each (suc i) own = each i (omega (arith, own.1))
 
 pub at_nobody : {X : Type 0} (p : ℕ) (xs : List X) (none : X) → ¬ ((1 ≤ p) × (p ≤ length xs)) → of_process p xs none ≡ none
 at_nobody zero xs none h = refl
-at_nobody (suc q) xs none h = get_or_past xs q none (past q (length xs) h)
-  where
-    past : (q n : ℕ) → ¬ ((1 ≤ suc q) × (suc q ≤ n)) → n ≤ q
-    past q n h = ⊎_elim (λ (below : q < n). absurd (h (omega arith, omega (arith, below)))) (λ (high : n ≤ q). high) (cases_lt q n)
+at_nobody (suc q) xs none h = get_or_past xs q none (elim (cases_lt q (length xs)) [ inl below ↦ absurd (h (omega arith, omega (arith, below))) | inr high ↦ high ])
 
 -- what holds of each value, and of what is given for others, holds of each process
 pub each_process : {X Y : Type 0} (f : X → Y) (none : Y) (P : Y → Type 0) (xs : List X) → ((i : ℕ) (x : X) → slice_get xs i ≡ Some x → P (f x)) → P none → (p : ℕ) → P (of_process p (map f xs) none)
@@ -67,21 +50,23 @@ each_process f none P [] each other (suc q) = other
 each_process f none P (x ∷ xs) each other (suc zero) = each 0 x refl
 each_process f none P (x ∷ xs) each other (suc (suc q)) = each_process f none P xs (λ i y at. each (suc i) y at) other (suc q)
 
-pub at_delivered : (ms : List Events) (ls : List (List Letter)) (i : ℕ) (m : Events) (l : List Letter) → slice_get ms i ≡ Some m → slice_get ls i ≡ Some l → slice_get (delivered ms ls) i ≡ Some (joined m (map event_of l))
-at_delivered [] ls i m l a b = absurd (not_None m a)
-at_delivered (n ∷ ms) [] i m l a b = absurd (not_None l b)
-at_delivered (n ∷ ms) (k ∷ ls) zero m l a b = λ i. Some (joined (same_Some n m a i) (map event_of (same_Some k l b i)))
-at_delivered (n ∷ ms) (k ∷ ls) (suc i) m l a b = at_delivered ms ls i m l a b
+module _ {M : Type 0} where
+  pub at_delivered : (bs : List (Berth M)) (ls : List (List Letter)) (i : ℕ) (b : Berth M) (l : List Letter) → slice_get bs i ≡ Some b → slice_get ls i ≡ Some l → slice_get (delivered bs ls) i ≡ Some (b.seat, joined b.pending (map event_of l), [])
+  at_delivered [] ls i b l at here = absurd (not_None b at)
+  at_delivered (c ∷ bs) [] i b l at here = absurd (not_None l here)
+  at_delivered (c ∷ bs) (k ∷ ls) zero b l at here = λ i. Some ((same_Some c b at i).seat, joined (same_Some c b at i).pending (map event_of (same_Some k l here i)), [])
+  at_delivered (c ∷ bs) (k ∷ ls) (suc i) b l at here = at_delivered bs ls i b l at here
 
-all_by_place : {X : Type 0} (P : X → Type 0) (xs : List X) → ((i : ℕ) (x : X) → slice_get xs i ≡ Some x → P x) → AllByRecursion P xs
-all_by_place P [] each = tt
-all_by_place P (x ∷ xs) each = (each 0 x refl, all_by_place P xs (λ i y h. each (suc i) y h))
+  pub length-delivered : (bs : List (Berth M)) (ls : List (List Letter)) → length ls ≡ length bs → length (delivered bs ls) ≡ length bs
+  length-delivered [] ls e = refl
+  length-delivered (b ∷ bs) [] e = absurd (omega (arith, e))
+  length-delivered (b ∷ bs) (l ∷ ls) e = ap suc (length-delivered bs ls (omega (arith, e)))
 
 pub all_at : {X : Type 0} (P : X → Type 0) (xs : List X) → ((i : ℕ) (x : X) → slice_get xs i ≡ Some x → P x) → All P xs
-all_at P xs each = All-from_recursion P xs (all_by_place P xs each)
+all_at P xs each i d inside = each i (get_or xs i d) (slice_get-get_or xs i d inside)
 
 pub all_place : {X : Type 0} (P : X → Type 0) (xs : List X) → All P xs → (i : ℕ) (x : X) → slice_get xs i ≡ Some x → P x
-all_place P xs each i x at = subst P (get_or_from_slice_get xs i x x at) (All-get_or P xs i x (slice_get_within xs i x at) each)
+all_place P xs each i x at = subst P (get_or_from_slice_get xs i x x at) (each i x (slice_get_within xs i x at))
 
 -- ---- parts whose entries are received by one process each
 
@@ -97,24 +82,19 @@ module _ where
 
   above : (k : ℕ) (parts : List (List EntryRecord)) → AreReceivedFrom k parts → (e : EntryRecord) → IsIn e (all_of parts) → k ≤ e.key.receiver
   above k [] all e i = absurd i
-  above k (part ∷ parts) all e i = go (above (suc k) parts (later k part parts all) e) (in_append e part (all_of parts) i)
-    where
-      go : (IsIn e (all_of parts) → suc k ≤ e.key.receiver) → IsIn e part ⊎ IsIn e (all_of parts) → k ≤ e.key.receiver
-      go deeper (inl j) = omega (arith, all 0 part refl e j)
-      go deeper (inr j) = omega (arith, deeper j)
+  above k (part ∷ parts) all e i = elim (in_append e part (all_of parts) i) [
+    | inl j ↦ omega (arith, all 0 part refl e j)
+    | inr j ↦ omega (arith, above (suc k) parts (later k part parts all) e j)
+  ]
 
-  one_apart : (x : EntryRecord) (ys : List EntryRecord) → ((y : EntryRecord) → IsIn y ys → x.key ≢ y.key) → AllByRecursion (λ y. x.key ≢ y.key) ys
-  one_apart x [] each = tt
-  one_apart x (y ∷ ys) each = (each y (inl refl), one_apart x ys (λ z i. each z (inr i)))
-
-  apart_of : (xs ys : List EntryRecord) → ((x y : EntryRecord) → IsIn x xs → IsIn y ys → x.key ≢ y.key) → AreApart xs ys
-  apart_of [] ys each = tt
-  apart_of (x ∷ xs) ys each = (one_apart x ys (λ y j. each x y (inl refl) j), apart_of xs ys (λ z y i j. each z y (inr i) j))
+  by_each : {X : Type 0} (P : X → Type 0) (xs : List X) → ((x : X) → IsIn x xs → P x) → AllByRecursion P xs
+  by_each P [] each = tt
+  by_each P (x ∷ xs) each = (each x (inl refl), by_each P xs (λ z i. each z (inr i)))
 
   pub disjoint_from : (k : ℕ) (parts : List (List EntryRecord)) → AreReceivedFrom k parts → AreDisjoint parts
   disjoint_from k [] all = tt
   disjoint_from k (part ∷ parts) all =
-      (apart_of part (all_of parts) differ, disjoint_from (suc k) parts (later k part parts all))
+      (by_each _ part (λ x i. by_each _ (all_of parts) (λ y. differ x y i)), disjoint_from (suc k) parts (later k part parts all))
     where
       differ : (x y : EntryRecord) → IsIn x part → IsIn y (all_of parts) → x.key ≢ y.key
       differ x y i j same =
@@ -131,18 +111,14 @@ module _ where
 
   still : (p q : ℕ) → q ≢ p → (list : List Pair) → pairs_of q (others p list) ≡ pairs_of q list
   still p q n [] = refl
-  still p q n (s ∷ list) = go (nat_eq s.0.key.receiver p) refl (still p q n list)
-    where
-      skip : nat_eq s.0.key.receiver p ≡ true → nat_eq s.0.key.receiver q ≡ false
-      skip is = differ (nat_eq s.0.key.receiver q) refl
-        where
-          differ : (b : Bool) → nat_eq s.0.key.receiver q ≡ b → nat_eq s.0.key.receiver q ≡ false
-          differ true h = absurd (n (sym (eqb-true s.0.key.receiver q h) ∙ eqb-true s.0.key.receiver p is))
-          differ false h = h
-
-      go : (b : Bool) → nat_eq s.0.key.receiver p ≡ b → pairs_of q (others p list) ≡ pairs_of q list → pairs_of q (cond (not b) (s ∷ others p list) (others p list)) ≡ pairs_of q (s ∷ list)
-      go true is h = h ∙ ap (λ c. cond c (s ∷ pairs_of q list) (pairs_of q list)) (sym (skip is))
-      go false is h = ap (λ l. cond (nat_eq s.0.key.receiver q) (s ∷ l) l) h
+  still p q n (s ∷ list) = elim (cases_eq s.0.key.receiver p) [
+    | inl is ↦
+        ap (λ b. pairs_of q (cond (not b) (s ∷ others p list) (others p list))) (eq-eqb _ _ is)
+        ∙ (still p q n list ∙ sym (pairs_other s list q (λ e. n (sym e ∙ is))))
+    | inr other ↦
+        ap (λ b. pairs_of q (cond (not b) (s ∷ others p list) (others p list))) (ne_eqb _ _ other)
+        ∙ ap (λ l. cond (nat_eq s.0.key.receiver q) (s ∷ l) l) (still p q n list)
+  ]
 
   -- parts that are of different processes have no more entries together than the list
   pub no_more : (k : ℕ) (parts : List (List EntryRecord)) (list : List Pair) → ((i : ℕ) (part : List EntryRecord) → slice_get parts i ≡ Some part → part ≡ entries (pairs_of (k + i) list)) → length (all_of parts) ≤ length list
@@ -162,11 +138,7 @@ module _ where
 
 pub in_all : (parts : List (List EntryRecord)) (e : EntryRecord) → IsIn e (all_of parts) → (i : ℕ) × (part : List EntryRecord) × (slice_get parts i ≡ Some part) × IsIn e part
 in_all [] e i = absurd i
-in_all (part ∷ parts) e i = go (in_all parts e) (in_append e part (all_of parts) i)
-  where
-    go : (IsIn e (all_of parts) → (k : ℕ) × (q : List EntryRecord) × (slice_get parts k ≡ Some q) × IsIn e q) → IsIn e part ⊎ IsIn e (all_of parts) → (k : ℕ) × (q : List EntryRecord) × (slice_get (part ∷ parts) k ≡ Some q) × IsIn e q
-    go deeper (inl j) = (0, part, refl, j)
-    go deeper (inr j) = let r = deeper j in (suc r.0, r.1, r.2, r.3)
+in_all (part ∷ parts) e i = elim (in_append e part (all_of parts) i) [ inl j ↦ (0, part, refl, j) | inr j ↦ (let r = in_all parts e j in (suc r.0, r.1, r.2, r.3)) ]
 
 pub all_in : (parts : List (List EntryRecord)) (i : ℕ) (part : List EntryRecord) → slice_get parts i ≡ Some part → (e : EntryRecord) → IsIn e part → IsIn e (all_of parts)
 all_in [] i part at e j = absurd (not_None part at)

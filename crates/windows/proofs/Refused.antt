@@ -1,5 +1,5 @@
 -- Answers and refusals.
-use Rattle.windows.proofs.Words.{◌≡◌, ◌⊎◌, inl, inr, Result, Ok, Err, IfErr, IsErrOf, RunError, Limit, Memory, AreThere, IsFirstRefusal, IsRefusal, IsRefusalOfOne}
+use Rattle.windows.proofs.Words.{◌≡◌, ◌⊎◌, inl, inr, Result, Ok, Err, IfErr, IfErr-weaker, IsErrOf, RunError, Limit, Memory, AreThere, IsFirstRefusal, IsRefusal, IsRefusalOfOne}
 
 -- an answer is no refusal
 pub not_err : {A E : Type 0} (x : A) (d : E) → ◌≡◌ {A = Result A E} (Ok x) (Err d) → ⊥
@@ -7,9 +7,7 @@ not_err x d is = cc
 
 -- a refusal of one process is one of a window
 pub one_refused : {X : Type 0} (r : Result X RunError) → IfErr r IsRefusalOfOne → IfErr r IsRefusal
-one_refused (Ok x) h = h
-one_refused (Err e) (inl limit) = inl limit
-one_refused (Err e) (inr memory) = inr (inl memory)
+one_refused r h = IfErr-weaker r _ _ (λ e one. elim one [ inl limit ↦ inl limit | inr memory ↦ inr (inl memory) ]) h
 
 -- why two answers aren't put together: the first of their refusals, or that memory was refused where both are there
 module _ {X A B : Type 0} (left : Result A RunError) (right : Result B RunError) where

@@ -1,10 +1,11 @@
 -- Parts of a window that wait to be merged and handed on.
-use Rattle.windows.proofs.Words.{IsMergeOf, ◌≡◌, ◌≤◌, ◌⊎◌, ◌+◌, inl, inr, refl, ℕ, sym, ap, ◌∙◌, subst, List, [], ◌∷◌, ◌++◌, append_assoc, append-nil, length, map, IsTrue, Result, Ok, Err, IfOk, IfErr, OnErr, arith, Vec, All, IsPermutation, nil_from_length, All-nil, length_permutation, EntryRecord, Mind, is_rising, RunError, IsInRange, Record, setting_of, IsTrace, all_of, end_to_end, IsRefusal, TookAll, IsStageAfter, Stage, OnOk, AreParts, IsMerged, TookAllBut, TookFrontOf, TookTrace, TookFront, TookClosed, writes_of}
+use Rattle.windows.proofs.Words.{IsMergeOf, ◌≡◌, ◌≤◌, ◌⊎◌, inl, inr, refl, sym, ap, ◌∙◌, subst, List, [], ◌∷◌, ◌++◌, append_assoc, append-nil, length, map, IsTrue, Result, Ok, Err, IfOk, IfErr, arith, Vec, All, IsPermutation, nil_from_length, All-nil, length_permutation, EntryRecord, Mind, is_rising, RunError, IsInRange, Record, setting_of, IsTrace, one_trace, all_of, end_to_end, IsRefusal, TookAll, IsStageAfter, Stage, AreParts, IsMerged, TookAllBut, TookFrontOf, TookTrace, TookFront, TookClosed, writes_of}
 use Rattle.trace_merge.proofs.Distinct.{all_differ}
 use Rattle.trace_merge.proofs.Exists.{has_merge, nothing_merges}
 use Rattle.windows.proofs.Closing.{stage_trace}
 use Rattle.windows.proofs.Cut.{stage_cut}
-use Rattle.windows.proofs.Handed.{trace_within}
+use Rattle.windows.specs.Inside.Closing.{HasNextWindow, IsNextWindow}
+use Rattle.windows.specs.Plan.{PlanRecord, IsPlanFor}
 
 -- what parts make
 pub merged_of : (parts : List (Vec EntryRecord)) → AreParts parts → (merged : List EntryRecord) × IsMerged parts merged
@@ -19,9 +20,6 @@ no_parts = record { rising = All-nil (λ (v : Vec EntryRecord). IsTrue (is_risin
 
 pub none_merged : {parts : List (List EntryRecord)} (rest : List EntryRecord) → all_of parts ≡ [] → IsMergeOf parts rest → rest ≡ []
 none_merged rest none is = nil_from_length rest (length_permutation [] rest (subst (λ es. IsPermutation es rest) none is.same))
-
-pub plus_same : (x a m n : ℕ) → x ≡ a + m → m ≡ n → x ≡ a + n
-plus_same x a m n e is = e ∙ ap (λ k. a + k) is
 
 end_to_end_append : (xs ys : List (List EntryRecord)) → end_to_end (xs ++ ys) ≡ end_to_end xs ++ end_to_end ys
 end_to_end_append [] ys = refl
@@ -78,6 +76,10 @@ module _ {K : Type 0} {took : K → List EntryRecord → K → Type 0} {M : Type
     pub stage_is : (trace : List EntryRecord) × IsStageAfter mind trace stage
     stage_is = let m = merged_of parts u.waiting in (end_to_end u.told ++ m.0, u.after m.0 m.1)
 
+    -- below the horizon a window more may be run
+    pub has_next : (plan : PlanRecord) → IsPlanFor s plan → ¬ (stage.start ≡ stage.scenario.now.horizon) → HasNextWindow mind plan stage
+    has_next plan fits more = record { stage_is = stage_is; plan_is = subst (λ (z : Record). IsPlanFor z plan) (sym u.scenario) fits; before_horizon = omega (arith, stage_is.1.to_horizon, more) }
+
     -- what waited was handed on, but for these parts
     pub handed : (new : K) (others : List (Vec EntryRecord)) → AreParts others → TookAllBut took parts (map (λ part. part.items) others) sink new → IsUnderway took mind s first stage new others
     handed new others are more = record {
@@ -113,14 +115,13 @@ module _ {K : Type 0} {took : K → List EntryRecord → K → Type 0} {M : Type
     so_far = subst (λ es. IsStageAfter mind es stage) (append-nil (end_to_end u.told)) (u.after [] (nothing_merges [] refl))
 
     -- one window more was run
-    pub ran : (new : Stage M) (parts : List (Vec EntryRecord)) → AreParts parts → ((merged : List EntryRecord) → IsMerged parts merged → (trace : List EntryRecord) → IsStageAfter mind trace stage → IsStageAfter mind (trace ++ merged) new) → new.scenario.now ≡ stage.scenario.now
-        → IsUnderway took mind s first new sink parts
-    ran new parts are more same = record {
+    pub ran : {plan : PlanRecord} {new : Stage M} {parts : List (Vec EntryRecord)} → IsNextWindow mind plan stage parts new → IsUnderway took mind s first new sink parts
+    ran next = record {
       told = u.told;
       took_all = u.took_all;
-      waiting = are;
-      after = λ merged is. more merged is (end_to_end u.told) so_far;
-      scenario = same ∙ u.scenario;
+      waiting = next.are_parts;
+      after = λ merged is. next.stage merged is (end_to_end u.told) so_far;
+      scenario = next.scenario ∙ u.scenario;
     }
 
     pub closed_so_far : IsInRange s → TookClosed took (setting_of s) first sink
@@ -140,7 +141,7 @@ module _ {K : Type 0} {took : K → List EntryRecord → K → Type 0} {M : Type
       whole_told = record { parts = u.told; took_all = u.took_all; is_trace = is_whole }
 
       pub few_told : (whole : List EntryRecord) → IsTrace (setting_of s) whole → length whole ≤ s.limit
-      few_told = trace_within s (end_to_end u.told) s.limit is_whole (subst (λ (z : Record). length (end_to_end u.told) ≤ z.limit) u.scenario (omega (arith, so_far.within, so_far.so_far)))
+      few_told whole t = omega (arith, ap length (one_trace (setting_of s) (end_to_end u.told) whole is_whole t), so_far.within, so_far.so_far, ap (λ (z : Record). z.limit) u.scenario)
 
 -- ---- for the code
 
@@ -149,17 +150,3 @@ no_write (Ok x) h = refl
 no_write (Err e) (inl is) = ap (λ k. writes_of {X = Unit {0}} (Err k)) is
 no_write (Err e) (inr (inl is)) = ap (λ k. writes_of {X = Unit {0}} (Err k)) is
 no_write (Err e) (inr (inr is)) = ap (λ k. writes_of {X = Unit {0}} (Err k)) is
-
-pub ok_at : {A : Type 0} (r : Result A RunError) (x : A) (P : A → Type 0) → r ≡ Ok x → IfOk r P → P x
-ok_at r x P is h = subst (λ q. IfOk q P) is h
-
-pub err_at : {A : Type 0} (r : Result A RunError) (e : RunError) (P : RunError → Type 0) → r ≡ Err e → IfErr r P → P e
-err_at r e P is h = subst (λ q. IfErr q P) is h
-
-pub on_ok : {A : Type 0} (r : Result A RunError) (P Q : Type 0) → (P → Q) → OnOk r P → OnOk r Q
-on_ok (Ok x) P Q f p = f p
-on_ok (Err e) P Q f p = tt
-
-pub on_err_by : {A : Type 0} (r : Result A RunError) (P Q : Type 0) → (P → Q) → OnErr r P → OnErr r Q
-on_err_by (Ok x) P Q f p = tt
-on_err_by (Err e) P Q f p = f p

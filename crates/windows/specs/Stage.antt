@@ -1,12 +1,11 @@
 -- What a stage of the program stands for.
-use Rattle.std.specs.Prelude.{◌≡◌, ◌⊎◌, ℕ, zero, suc, ◌+◌, ◌++◌, ◌-◌, ◌*◌, ◌<◌, ◌≤◌, List, [], ◌∷◌, length, map, min, IsTrue, slice_get, slice_index_or, Some, vec_len}
+use Rattle.std.specs.Prelude.{◌≡◌, ◌⊎◌, ℕ, zero, suc, ◌+◌, ◌++◌, ◌*◌, ◌<◌, ◌≤◌, List, [], ◌∷◌, length, map, min, slice_get, slice_index_or, Some, vec_len}
 use Rattle.std.specs.FinMap as events
 use Rattle.std.specs.List.{All}
 use Rattle.std.specs.List.Sorted.{IsPermutation}
 use Rattle.process_api.specs.Bounds.{most_step_actions}
 use Rattle.process_api.specs.EntryRecord.{EntryRecord}
 use Rattle.process_api.specs.Mind.{Mind}
-use Rattle.process_api.specs.Order.{is_rising}
 use Rattle.process_api.specs.declared.message.Letter.{Letter}
 use Rattle.process_api.specs.declared.message.StepInput.TheVariants.{Start}
 use Rattle.scenario_record.specs.Record.{Record}
@@ -14,12 +13,14 @@ use Rattle.trace_laws.specs.History.{IsIn}
 use Rattle.pending_events.specs.Pending.{IsLeastTick}
 use Rattle.trace_laws.specs.ScenarioSetting.{setting_of}
 use Rattle.steps.specs.Seat.{process_of, own_of, IsSeated}
-use Rattle.trace_laws.specs.Setting.{IsProcess}
 use Rattle.trace_laws.specs.Reached.{IsReached}
 use Rattle.trace_laws.specs.Step.{Events}
 use Rattle.trace_laws.specs.World.{World, IsWorld, NoneBelow, joined, start_of, opening_process}
 use Rattle.trace_merge.specs.Parts.{all_of}
 use Rattle.trace_laws.specs.Taken.{event_of}
+use Rattle.mailboxes.specs.Mailboxes.{SlipView, list_of, posted_to}
+use Rattle.steps.specs.declared.seat.Seat.{Seat}
+use Rattle.std.specs.Global.{Vec}
 use Rattle.windows.specs.Berth.{IsBerth}
 use Rattle.window_laws.specs.Machine.{StageRecord, Act, StandsFor, IsRun, end_of, first_status}
 use Rattle.window_laws.specs.Theorems.{IsMerge}
@@ -35,12 +36,6 @@ of_process (suc q) xs none = slice_index_or xs q none
 -- the start of a process, alone
 abbrev pub start_event : ℕ → Events
 start_event p = events.insert events.empty (start_of p) Start
-
--- each set with the letters of its list
-abbrev pub delivered : List Events → List (List Letter) → List Events
-delivered [] lists = []
-delivered (m ∷ ms) [] = []
-delivered (m ∷ ms) (letters ∷ lists) = joined m (map event_of letters) ∷ delivered ms lists
 
 -- where these events are pending, the next window opens at the least tick of theirs that is below the horizon, and at
 -- the horizon where there is none
@@ -71,9 +66,9 @@ module _ {M : Type 0} (mind : M → Mind) where
 
   -- each process is in its berth, of process 1 first. It put at most 4,096 letters and wakes on each link for each
   -- entry so far
-  pub record AreHome (s : Record) (entries : ℕ) (berths : List (Berth M)) : Type 0 where
-    pub berth : (p : ℕ) → IsProcess (setting_of s) p
-        → (b : Berth M) × (slice_get berths (p - 1) ≡ Some b) × IsBerth mind s p (most_step_actions * entries) b
+  abbrev pub AreHome : Record → (entries : ℕ) → List (Berth M) → Type 0
+  AreHome s entries berths = (i : ℕ) (b : Berth M)
+      → slice_get berths i ≡ Some b → IsBerth mind s (suc i) (most_step_actions * entries) b
 
   -- a stage between two windows, after these entries: it stands for a world by which the list comes after them
   pub record IsStageAfter (trace : List EntryRecord) (stage : Stage M) : Type 0 where
@@ -92,19 +87,6 @@ module _ {M : Type 0} (mind : M → Mind) where
   abbrev pub IsStage : Stage M → Type 0
   IsStage stage = (trace : List EntryRecord) × IsStageAfter trace stage
 
-  -- The berths that a window left took these letters, of process 1 first, and gave their parts, which are merged. There
-  -- are so many entries more, and the next window starts at the least pending tick
-  pub record IsClosed (left so_far : ℕ) (berths : List (Berth M)) (letters : List (List Letter))
-      (merged : List EntryRecord) (new : Stage M) : Type 0 where
-    pub seats : map (λ b. b.seat) new.berths.items ≡ map (λ b. b.seat) berths
-    pub pending : map (λ b. b.pending) new.berths.items ≡ delivered (map (λ b. b.pending) berths) letters
-    pub parts : All (λ b. b.part.items ≡ []) new.berths.items
-    pub rising : IsTrue (is_rising merged)
-    pub same : IsPermutation (all_of (map (λ b. b.part.items) berths)) merged
-    pub few : length merged ≤ left
-    pub longer : new.so_far ≡ so_far + length merged
-    pub start : IsNextStart new.scenario.now.horizon (map (λ b. b.pending) new.berths.items) new.start
-
   -- Some run of a window leads from one stage to the other, and this is what its parts make, merged. There are so many
   -- entries more, and the next window starts at the least pending tick, which isn't before the end of this one
   abbrev pub IsWindowRun : (window : ℕ) → (old new : Stage M) → (merged : List EntryRecord) → Type 0
@@ -118,6 +100,30 @@ module _ {M : Type 0} (mind : M → Mind) where
       × IsNextStart S.horizon (map (λ b. b.pending) new.berths.items) new.start
 
 module _ {M : Type 0} where
+  -- what stays of a berth: its process, the events that are pending, and the entries of its part
+  abbrev pub kept_in : Berth M → Seat M × Events × List EntryRecord
+  kept_in b = (b.seat, b.pending, b.part.items)
+
+  -- each berth with the letters of its list, which has given its part
+  abbrev pub delivered : List (Berth M) → List (List Letter) → List (Seat M × Events × List EntryRecord)
+  delivered [] lists = []
+  delivered (b ∷ bs) [] = []
+  delivered (b ∷ bs) (letters ∷ lists) = (b.seat, joined b.pending (map event_of letters), []) ∷ delivered bs lists
+
+  -- The berths that a window of so many workers left got the letters that these slips posted to them, and gave these
+  -- parts. There are so many entries more, and the next window starts at the least pending tick
+  pub record IsClosed (left so_far workers : ℕ) (berths : List (Berth M)) (slips : List SlipView)
+      (parts : List (Vec EntryRecord)) (new : Stage M) : Type 0 where
+    pub lists : List (List Letter)
+    pub count : length lists ≡ length berths
+    pub letters : (r : ℕ) → list_of lists r ≡ posted_to slips r
+    pub berths_are : map kept_in new.berths.items ≡ delivered berths lists
+    pub parts_are : map (λ v. v.items) parts ≡ map (λ b. b.part.items) berths
+    pub few : length (all_of (map (λ v. v.items) parts)) ≤ left
+    pub longer : new.so_far ≡ so_far + length (all_of (map (λ v. v.items) parts))
+    pub start : IsNextStart new.scenario.now.horizon (map (λ b. b.pending) new.berths.items) new.start
+    pub workers_are : new.workers ≡ workers
+
   -- how many workers are started: one for each process with an event below the end, but no more than the plan has
   pub record IsCountOfWorkers (end workers : ℕ) (berths : List (Berth M)) (started : ℕ) : Type 0 where
     pub waiting : List (Berth M)

@@ -5,11 +5,11 @@ ghost use Rattle.process_api.specs.Numbers.{numbers_to};
 ghost use Rattle.scenario_record.specs.Record.{opening_mind};
 ghost use Rattle.trace_laws.specs.ScenarioSetting.{setting_of};
 ghost use Rattle.trace_laws.specs.World.{IsTrace};
-ghost use Rattle.windows.specs.Inside.Last.{AreParts, HandedOn, IsMerged, TookAllBut, TookFrontOf};
+ghost use Rattle.windows.specs.Inside.Closing.{HasNextWindow, IsNextWindow, IsOverLimit};
+ghost use Rattle.windows.specs.Inside.Last.{AreParts, HandedOn, TookAllBut, TookFrontOf};
 ghost use Rattle.windows.specs.Plan.{IsPlanFor};
 ghost use Rattle.windows.specs.Refusals.{IsRefusal};
 ghost use Rattle.windows.specs.Sink.{IsRefusalOfSink, TookTrace, TookFront, TookClosed, writes_of};
-ghost use Rattle.windows.specs.Stage.{IsStage, IsStageAfter, IsWindowRun};
 
 use crate::chore::Chore;
 use crate::gate::Gate;
@@ -92,48 +92,9 @@ impl<K: Sink> Chore for Handing<'_, K> {
     }
 }
 
-/// Runs the next window of a stage, as [`run_parts`] does. Meanwhile the starter hands on the parts that wait. Where the
-/// window was refused before a worker began, they still wait.
-///
-/// # Errors
-///
-/// As [`run_parts`].
-fn run_handing<M: Process, G: Gate, K: Sink, R: Threads + Wait + Sync>(
-    rt: &R,
-    alloc: Global,
-    stage: &mut Stage<'_, M>,
-    plan: &Plan,
-    gate: &G,
-    handing: &mut Handing<'_, K>,
-) -> Result<Vec<Vec<Entry>>, RunError>
-    requires stage { IsStage M.mind stage.old }
-    requires plan { IsPlanFor stage.old.scenario.now plan.now }
-    requires open { stage.old.start < stage.old.scenario.now.horizon }
-    requires waiting { AreParts handing.old.left.parts.items }
-    requires failures { K.failed handing.old.sink.now < 2 ^ 64 - 1 }
-    requires told { handing.old.left.told ≡ Ok tt }
-
-    ensures sink { handing.new.sink.ghost_name ≡ handing.old.sink.ghost_name }
-    ensures handed { HandedOn K.took K.took_front K.failed handing.old.left.parts.items handing.new.left.parts.items
-        handing.old.sink.now handing.new.sink.now handing.new.left.told }
-    ensures scenario { OnOk result (stage.new.scenario.now ≡ stage.old.scenario.now) }
-    ensures parts { IfOk result (λ parts. AreParts parts.items) }
-    ensures stage { IfOk result (λ parts. (merged : List EntryRecord) → IsMerged parts.items merged
-        → (trace : List EntryRecord)
-        → IsStageAfter M.mind trace stage.old → IsStageAfter M.mind (trace ++ merged) stage.new) }
-    ensures run { IfOk result (λ parts. (merged : List EntryRecord) → IsMerged parts.items merged
-        → IsWindowRun M.mind plan.now.window stage.old stage.new merged) }
-    ensures errors { IfErr result IsRefusal }
-    ensures limit { IsErrOf result RunError.Limit → (whole : List EntryRecord)
-        → IsTrace (setting_of stage.old.scenario.now) whole → stage.old.scenario.now.limit < length whole }
-{
-    let mut rooms = replace(&mut handing.left.rooms, Vec::new(alloc));
-    run_parts(rt, alloc, stage, plan, gate, handing, &mut rooms)
-}
-
-/// Runs the next window of a stage, as [`run_parts`] does. Meanwhile the starter hands what is left to the sink. Answers
-/// what `run_parts` does, the parts that still wait, since the window was refused before a worker began, and what the
-/// sink answered.
+/// Runs the next window of a stage, as [`run_parts`] does. Meanwhile the starter hands the parts that wait to the sink.
+/// Answers what `run_parts` does, and what is left: the parts that still wait, where the window was refused before a
+/// worker began, and what the sink answered.
 fn run_and_hand_on<M: Process, G: Gate, K: Sink, R: Threads + Wait + Sync>(
     rt: &R,
     alloc: Global,
@@ -141,30 +102,26 @@ fn run_and_hand_on<M: Process, G: Gate, K: Sink, R: Threads + Wait + Sync>(
     plan: &Plan,
     gate: &G,
     sink: &mut K,
-    left: Left,
+    parts: Vec<Vec<Entry>>,
+    mut rooms: Vec<Vec<Entry>>,
 ) -> (Result<Vec<Vec<Entry>>, RunError>, Left)
-    requires stage { IsStage M.mind stage.old }
-    requires plan { IsPlanFor stage.old.scenario.now plan.now }
-    requires open { stage.old.start < stage.old.scenario.now.horizon }
-    requires waiting { AreParts left.parts.items }
+    requires window { HasNextWindow M.mind plan.now stage.old }
+    requires waiting { AreParts parts.items }
     requires failures { K.failed sink.old < 2 ^ 64 - 1 }
-    requires told { left.told ≡ Ok tt }
 
-    ensures handed { HandedOn K.took K.took_front K.failed left.parts.items result.1.parts.items sink.old sink.new
+    ensures handed { HandedOn K.took K.took_front K.failed parts.items result.1.parts.items sink.old sink.new
         result.1.told }
-    ensures scenario { OnOk result.0 (stage.new.scenario.now ≡ stage.old.scenario.now) }
-    ensures parts { IfOk result.0 (λ parts. AreParts parts.items) }
-    ensures stage { IfOk result.0 (λ parts. (merged : List EntryRecord) → IsMerged parts.items merged
-        → (trace : List EntryRecord)
-        → IsStageAfter M.mind trace stage.old → IsStageAfter M.mind (trace ++ merged) stage.new) }
-    ensures run { IfOk result.0 (λ parts. (merged : List EntryRecord) → IsMerged parts.items merged
-        → IsWindowRun M.mind plan.now.window stage.old stage.new merged) }
+    ensures window { IfOk result.0 (λ parts. IsNextWindow M.mind plan.now stage.old parts.items stage.new) }
     ensures errors { IfErr result.0 IsRefusal }
-    ensures limit { IsErrOf result.0 RunError.Limit → (whole : List EntryRecord)
-        → IsTrace (setting_of stage.old.scenario.now) whole → stage.old.scenario.now.limit < length whole }
+    ensures limit { IsErrOf result.0 RunError.Limit → IsOverLimit stage.old.scenario.now }
 {
+    let left = Left {
+        parts,
+        rooms: Vec::new(alloc),
+        told: Ok(()),
+    };
     let mut handing = Handing { left, sink };
-    let ran = run_handing(rt, alloc, stage, plan, gate, &mut handing);
+    let ran = run_parts(rt, alloc, stage, plan, gate, &mut handing, &mut rooms);
     let Handing { left, sink: _sink } = handing;
     (ran, left)
 }
@@ -210,9 +167,7 @@ pub fn run_windows_into<M: Process, G: Gate, K: Sink, R: Threads + Wait + Sync>(
     let mut parts = Vec::new(alloc);
     let mut rooms = Vec::new(alloc);
     while !stage.finished() {
-        let told = Ok(());
-        let left = Left { parts, rooms, told };
-        let (ran, left) = run_and_hand_on(rt, alloc, &mut stage, plan, gate, sink, left);
+        let (ran, left) = run_and_hand_on(rt, alloc, &mut stage, plan, gate, sink, parts, rooms);
         let Left {
             parts: waiting,
             rooms: mut kept,

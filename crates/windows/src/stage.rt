@@ -1,21 +1,17 @@
 //! All processes between two windows.
-ghost use Rattle.std.specs.Prelude.{◌≡◌, ◌≤◌, ◌<◌, ◌+◌, ◌^◌, ◌++◌, [], ℕ, List, map, vec_len, length, IfErr, IfOk, OnOk, IsErrOf, IsTrue, MatchOption, nat_eq};
+ghost use Rattle.std.specs.Prelude.{◌≡◌, ◌≤◌, ◌<◌, ◌+◌, ◌^◌, [], ℕ, map, vec_len, length, IfErr, IfOk, OnOk, IsErrOf, MatchOption, nat_eq};
 ghost use Rattle.std.specs.List.{All};
 ghost use Rattle.process_api.specs.Numbers.{numbers_to};
-ghost use Rattle.process_api.specs.Order.{is_rising};
 ghost use Rattle.scenario_record.specs.Record.{opening_mind};
 ghost use Rattle.trace_laws.specs.ScenarioSetting.{setting_of};
 ghost use Rattle.steps.specs.Seat.{process_of, own_of, IsMindIn, IsSeated};
 ghost use Rattle.trace_laws.specs.World.{opened, opening};
 ghost use Rattle.mailboxes.specs.Mailboxes.{IsSlipOf, posted_to};
-ghost use Rattle.trace_merge.specs.Parts.{all_of, AreDisjoint};
+ghost use Rattle.trace_merge.specs.Parts.{all_of};
 ghost use Rattle.windows.specs.Inside.Agenda.{AreOne, in_box};
-ghost use Rattle.process_api.specs.EntryRecord.{EntryRecord};
-ghost use Rattle.windows.specs.Inside.Closing.{IsClosedBy};
-ghost use Rattle.windows.specs.Inside.Last.{AreParts, IsMerged};
 ghost use Rattle.window_laws.specs.Machine.{StandsFor};
 ghost use Rattle.windows.specs.Refusals.{IsRefusalOfOne};
-ghost use Rattle.windows.specs.Stage.{stage_of, start_event, delivered, IsOpened, IsNextStart, IsStageAfter};
+ghost use Rattle.windows.specs.Stage.{stage_of, start_event, delivered, kept_in, IsClosed, IsOpened, IsNextStart, IsStageAfter};
 
 use crate::agenda::Agenda;
 use crate::berth::Berth;
@@ -111,10 +107,7 @@ fn hand_over<M: Process, R: Wait>(
 ) -> Result<(Vec<Berth<M>>, Vec<Vec<Entry>>, Vec<Inbox>), AllocError>
     requires count { vec_len inboxes ≡ vec_len berths }
     requires one { All AreOne inboxes.items }
-    ensures seats { IfOk result (λ r. map (λ b. b.seat) r.0.items ≡ map (λ b. b.seat) berths.items) }
-    ensures pending { IfOk result (λ r.
-        map (λ b. b.pending) r.0.items ≡ delivered (map (λ b. b.pending) berths.items) inboxes.items) }
-    ensures empty { IfOk result (λ r. All (λ b. b.part.items ≡ []) r.0.items) }
+    ensures berths { IfOk result (λ r. map kept_in r.0.items ≡ delivered berths.items inboxes.items) }
     ensures parts { IfOk result (λ r. map (λ v. v.items) r.1.items ≡ map (λ b. b.part.items) berths.items) }
     ensures emptied { IfOk result (λ r. All (λ i. i ≡ []) r.2.items) }
 {
@@ -252,16 +245,12 @@ impl<'s, M: Process> Stage<'s, M> {
         requires all { vec_len ran.slips ≡ ran.mailboxes.slips }
         requires slips { All (IsSlipOf ran.mailboxes.mailboxes) ran.slips.items }
         requires boxes { length ran.mailboxes.mailboxes ≡ vec_len ran.berths }
-        requires rising { All (λ b. IsTrue (is_rising b.part.items)) ran.berths.items }
-        requires disjoint { AreDisjoint (map (λ b. b.part.items) ran.berths.items) }
         requires one { (r : ℕ) → 1 ≤ r → r ≤ vec_len ran.berths → AreOne (posted_to ran.slips.items r) }
         requires room { self.old.so_far + left < 2 ^ 64 }
 
         ensures scenario { self.new.scenario.now ≡ self.old.scenario.now }
-        ensures parts { IfOk result (λ parts. AreParts parts.items) }
-        ensures closed { IfOk result (λ parts. (merged : List EntryRecord) → IsMerged parts.items merged
-            → IsClosedBy M.mind left self.old.so_far ran.berths.items ran.slips.items merged self.new) }
-        ensures workers { IfOk result (λ _. self.new.workers ≡ ran.workers) }
+        ensures closed { IfOk result (λ parts.
+            IsClosed left self.old.so_far ran.workers ran.berths.items ran.slips.items parts.items self.new) }
         ensures errors { IfErr result IsRefusalOfOne }
         ensures limit { IsErrOf result RunError.Limit
             → left < length (all_of (map (λ b. b.part.items) ran.berths.items)) }

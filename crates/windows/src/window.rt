@@ -7,16 +7,15 @@ ghost use Rattle.trace_laws.specs.ScenarioSetting.{setting_of};
 ghost use Rattle.steps.specs.Seat.{own_of};
 ghost use Rattle.trace_laws.specs.World.{IsTrace};
 ghost use Rattle.mailboxes.specs.Mailboxes.{IsSlipOf, unused};
-ghost use Rattle.windows.specs.Inside.Closing.{IsOutcomeBy};
-ghost use Rattle.windows.specs.Inside.Last.{AreParts, IsMerged};
+ghost use Rattle.windows.specs.Inside.Closing.{HasNextWindow, IsNextWindow, IsOverLimit};
 ghost use Rattle.deques.specs.Deques.{deques_of};
 ghost use Rattle.windows.specs.Plan.{IsPlanFor, most_workers};
 ghost use Rattle.window_laws.specs.Machine.{end_of};
 ghost use Rattle.windows.specs.Refusals.{IsRefusal, IsRefusalOfOne};
-ghost use Rattle.windows.specs.Inside.Shared.{AreReady, IsOneTooLong, IsFreshIn, IsStart, IsWorkIn, AreAnswers};
+ghost use Rattle.windows.specs.Inside.Shared.{AreReady, IsOneTooLong, IsStart, IsWorkIn, AreAnswers};
 ghost use Rattle.windows.specs.Inside.Shared.{HadWindow};
 ghost use Rattle.windows.specs.Stage.{IsCountOfWorkers, IsStage, IsStageAfter, IsWindowRun};
-ghost use Rattle.windows.specs.Inside.Workers.{RiseBy, dealt_to, given_to};
+ghost use Rattle.windows.specs.Inside.Workers.{IsOutcome, RiseBy, given_to};
 
 use crate::berth::Berth;
 use crate::chore::Chore;
@@ -97,37 +96,8 @@ fn bring_together<M: Process, G: Gate, R: Wait>(
     Ok((done, slips))
 }
 
-/// The workers that begin so take the berths that were dealt, and the starter, by a slip of its own, what is left. The
-/// starter does its chore meanwhile. Answers the berths that were run, and all slips.
-fn run_dealt<M: Process, G: Gate, C: Chore, R: Threads + Wait + Sync>(
-    rt: &R,
-    shared: &Shared<'_, M, G>,
-    starts: Vec<Start<M>>,
-    slip: Slip,
-    chore: &mut C,
-) -> Result<(Vec<Berth<M>>, Vec<Slip>), RunError>
-    requires deques { shared.now.fronts.now.items ≡ deques_of (map (λ b. b.hand.own) starts.items) }
-    requires slip { slip ≡ unused shared.now.mailboxes.now }
-    requires ready { AreReady M.mind shared.now.window.now (dealt_to starts.items) }
-    requires fresh { All (IsFreshIn shared.now) starts.items }
-    requires known { All (λ s. s.hand.known ≡ dealt_to starts.items) starts.items }
-    requires few { vec_len starts ≤ most_workers }
-    requires chore { C.waits chore.old }
-
-    ensures slips { IfOk result (λ r. vec_len r.1 ≡ vec_len starts + 1) }
-    ensures run { IfOk result (λ r.
-        HadWindow M.mind shared.now.window.now shared.now.mailboxes.now (dealt_to starts.items) r.0.items r.1.items) }
-    ensures chore { C.done chore.old chore.new }
-    ensures place { C.place chore.new ≡ C.place chore.old }
-    ensures errors { IfErr result IsRefusal }
-    ensures limit { IsErrOf result RunError.Limit
-        → IsOneTooLong M.mind shared.now.window.now (dealt_to starts.items) }
-{
-    let works = in_threads(rt, shared, starts, chore);
-    bring_together(rt, shared, works?, slip)
-}
-
-/// Runs the processes with an event below the window's end, by at most so many workers. Answers all berths, in some
+/// Runs the processes with an event below the window's end, by at most so many workers. These take the berths that were
+/// dealt, and the starter, by a slip of its own, what is left. It does its chore meanwhile. Answers all berths, in some
 /// order, and the slips: one for each worker, and the starter's.
 fn run_berths_of<M: Process, G: Gate, C: Chore, R: Threads + Wait + Sync>(
     rt: &R,
@@ -168,7 +138,8 @@ fn run_berths_of<M: Process, G: Gate, C: Chore, R: Threads + Wait + Sync>(
         fronts: &fronts,
         mailboxes: mailboxes.shared(),
     };
-    let (mut done, slips) = run_dealt(rt, &shared, starts, slip, chore)?;
+    let works = in_threads(rt, &shared, starts, chore);
+    let (mut done, slips) = bring_together(rt, &shared, works?, slip)?;
     done.append(&mut idle)?;
     Ok((done, slips))
 }
@@ -212,7 +183,7 @@ fn run_all<M: Process, G: Gate, C: Chore, R: Threads + Wait + Sync>(
     ensures few { IfOk result (λ r. r.workers + 1 ≡ vec_len r.slips) }
     ensures slips { IfOk result (λ r. All (IsSlipOf r.mailboxes.mailboxes) r.slips.items) }
     ensures outcome { IfOk result (λ r.
-        IsOutcomeBy M.mind window.now.streams window.now.end berths.items r.berths.items r.slips.items) }
+        IsOutcome M.mind window.now.streams window.now.end berths.items r.berths.items r.slips.items) }
     ensures chore { (chore.new ≡ chore.old) ⊎ C.done chore.old chore.new }
     ensures place { C.place chore.new ≡ C.place chore.old }
     ensures errors { IfErr result IsRefusal }
@@ -244,26 +215,14 @@ pub(crate) fn run_parts<M: Process, G: Gate, C: Chore, R: Threads + Wait + Sync>
     chore: &mut C,
     rooms: &mut Vec<Vec<Entry>>,
 ) -> Result<Vec<Vec<Entry>>, RunError>
-    requires stage { IsStage M.mind stage.old }
-    requires plan { IsPlanFor stage.old.scenario.now plan.now }
-    requires open { stage.old.start < stage.old.scenario.now.horizon }
+    requires window { HasNextWindow M.mind plan.now stage.old }
     requires chore { C.waits chore.old }
 
-    ensures scenario { OnOk result (stage.new.scenario.now ≡ stage.old.scenario.now) }
-    ensures parts { IfOk result (λ parts. AreParts parts.items) }
-    ensures stage { IfOk result (λ parts. (merged : List EntryRecord) → IsMerged parts.items merged
-        → (trace : List EntryRecord)
-        → IsStageAfter M.mind trace stage.old → IsStageAfter M.mind (trace ++ merged) stage.new) }
-    ensures run { IfOk result (λ parts. (merged : List EntryRecord) → IsMerged parts.items merged
-        → IsWindowRun M.mind plan.now.window stage.old stage.new merged) }
-    ensures workers { IfOk result (λ _. IsCountOfWorkers
-        (end_of (setting_of stage.old.scenario.now) plan.now.window stage.old.start) plan.now.workers
-        stage.old.berths.items stage.new.workers) }
+    ensures window { IfOk result (λ parts. IsNextWindow M.mind plan.now stage.old parts.items stage.new) }
     ensures chore { (chore.new ≡ chore.old) ⊎ C.done chore.old chore.new }
     ensures place { C.place chore.new ≡ C.place chore.old }
     ensures errors { IfErr result IsRefusal }
-    ensures limit { IsErrOf result RunError.Limit → (whole : List EntryRecord)
-        → IsTrace (setting_of stage.old.scenario.now) whole → stage.old.scenario.now.limit < length whole }
+    ensures limit { IsErrOf result RunError.Limit → IsOverLimit stage.old.scenario.now }
 {
     let scenario = stage.scenario;
     let processes = scenario.processes();

@@ -1,29 +1,34 @@
--- A window's close: its letters, in whatever order each list has them, and its parts, which are merged later.
-use Rattle.std.specs.Prelude.{◌≡◌, ℕ, ◌≤◌, List, length}
-use Rattle.std.specs.List.Sorted.{IsPermutation}
+-- A window that is run and closed, whose parts are merged later.
+use Rattle.std.specs.Prelude.{◌≡◌, ◌++◌, ◌<◌, List, length}
+use Rattle.std.specs.Global.{Vec}
 use Rattle.process_api.specs.EntryRecord.{EntryRecord}
 use Rattle.process_api.specs.Mind.{Mind}
-use Rattle.process_api.specs.declared.message.Letter.{Letter}
 use Rattle.scenario_record.specs.Record.{Record}
-use Rattle.mailboxes.specs.Mailboxes.{SlipView, list_of, posted_to}
-use Rattle.windows.specs.Stage.{IsClosed}
-use Rattle.windows.specs.Inside.Workers.{IsOutcome}
-use Rattle.windows.specs.declared.berth.Berth.{Berth}
+use Rattle.trace_laws.specs.ScenarioSetting.{setting_of}
+use Rattle.trace_laws.specs.World.{IsTrace}
+use Rattle.window_laws.specs.Machine.{end_of}
+use Rattle.windows.specs.Plan.{PlanRecord, IsPlanFor}
+use Rattle.windows.specs.Stage.{IsCountOfWorkers, IsStage, IsStageAfter, IsWindowRun}
+use Rattle.windows.specs.Inside.Last.{AreParts, IsMerged}
 use Rattle.windows.specs.declared.stage.Stage.{Stage}
 
--- a list for each receiver, 1 to n, with the letters that these slips posted to it, each as often
-pub record AreLettersOf (slips : List SlipView) (n : ℕ) (lists : List (List Letter)) : Type 0 where
-  pub count : length lists ≡ n
-  pub each : (r : ℕ) → 1 ≤ r → r ≤ n → IsPermutation (posted_to slips r) (list_of lists r)
+-- every trace of the scenario has more entries than its limit
+abbrev pub IsOverLimit : Record → Type 0
+IsOverLimit s = (whole : List EntryRecord) → IsTrace (setting_of s) whole → s.limit < length whole
 
-module _ {M : Type 0} (mind : M → Mind) where
-  -- each process had its window, and the letters are those that these slips posted
-  abbrev pub IsOutcomeBy : Record → (end : ℕ) → (olds news : List (Berth M)) → List SlipView → Type 0
-  IsOutcomeBy s end olds news slips =
-      (lists : List (List Letter)) → AreLettersOf slips s.processes lists → IsOutcome mind s end olds news lists
+module _ {M : Type 0} (mind : M → Mind) (plan : PlanRecord) where
+  -- the next window of a stage may be run by this plan
+  pub record HasNextWindow (stage : Stage M) : Type 0 where
+    pub stage_is : IsStage mind stage
+    pub plan_is : IsPlanFor stage.scenario.now plan
+    pub before_horizon : stage.start < stage.scenario.now.horizon
 
-  -- the window is closed with the letters that these slips posted
-  abbrev pub IsClosedBy : (left so_far : ℕ) → List (Berth M) → List SlipView → List EntryRecord → Stage M → Type 0
-  IsClosedBy left so_far berths slips merged new =
-      (lists : List (List Letter)) × AreLettersOf slips (length berths) lists
-      × IsClosed mind left so_far berths lists merged new
+  -- the next window of a stage left these parts and the new stage, by the plan's workers
+  pub record IsNextWindow (old : Stage M) (parts : List (Vec EntryRecord)) (new : Stage M) : Type 0 where
+    pub scenario : new.scenario.now ≡ old.scenario.now
+    pub are_parts : AreParts parts
+    pub stage : (merged : List EntryRecord) → IsMerged parts merged → (trace : List EntryRecord)
+        → IsStageAfter mind trace old → IsStageAfter mind (trace ++ merged) new
+    pub run : (merged : List EntryRecord) → IsMerged parts merged → IsWindowRun mind plan.window old new merged
+    pub workers : IsCountOfWorkers (end_of (setting_of old.scenario.now) plan.window old.start) plan.workers
+        old.berths.items new.workers

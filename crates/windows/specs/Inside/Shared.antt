@@ -17,10 +17,6 @@ use Rattle.windows.specs.declared.shared.Window.{Window}
 use Rattle.windows.specs.declared.workers.Start.{Start}
 use Rattle.windows.specs.declared.workers.Work.{Work}
 
--- a worker's hand and its slip are of this window, and unused
-abbrev pub IsFreshIn : {M G : Type 0} → Shared M G → Start M → Type 0
-IsFreshIn w s = IsFresh w.fronts.now.items w.mailboxes.now s.hand s.slip
-
 -- of these mailboxes are a slip and a tray, whose letters wait to be posted by the slip
 pub record ArePosting (mailboxes : List MailboxId) (slip : SlipView) (tray : List (List Letter)) : Type 0 where
   pub by_slip : IsSlipOf mailboxes slip
@@ -37,9 +33,10 @@ module _ {M : Type 0} (mind : M → Mind) where
   IsOneTooLong w berths = HasLong mind w.streams w.end w.left berths
 
   module _ {G : Type 0} (w : Shared M G) where
-    -- a worker's beginning, by which it may take what was put in, where all of that is ready
+    -- a worker's beginning: its hand and its slip are of this window, and unused. It may take what was put in, and all of
+    -- that is ready
     abbrev pub IsStart : Start M → Type 0
-    IsStart s = IsFreshIn w s × AreReady w.window.now s.hand.known
+    IsStart s = IsFresh w.fronts.now.items w.mailboxes.now s.hand s.slip × AreReady w.window.now s.hand.known
 
     -- by this hand and this slip a worker did this work in this window
     abbrev pub IsWorkBy : HandView (Berth M) → SlipView → List (Berth M) → Type 0
@@ -64,18 +61,15 @@ module _ {M : Type 0} (mind : M → Mind) where
       pub errors : IfErr r IsRefusalOfOne
       pub limit : IsErrOf r Limit → IsOneTooLong w.window.now s.hand.known
 
-    -- one of the berths that all of these workers know is too long
-    abbrev pub KnowOneTooLong : List (Start M) → Type 0
-    KnowOneTooLong starts =
-        (known : List (Berth M)) → All (λ b. b.hand.known ≡ known) starts → IsOneTooLong w.window.now known
-
-    -- what the workers that began so answer together: the work of each, or why there is none
+    -- What the workers that began so answer together: the work of each, or why there is none. It is the limit only where
+    -- one of the berths that all of them know is too long
     pub record AreAnswers (starts : List (Start M)) (r : Result (Vec (Work M)) RunError) : Type 0 where
       pub count : IfOk r (λ works. vec_len works ≡ length starts)
       pub own : IfOk r (λ works. map (λ x. x.hand.own) works.items ≡ map (λ b. b.hand.own) starts)
       pub works : IfOk r (λ works. All IsWorkIn works.items)
       pub errors : IfErr r IsRefusal
-      pub limit : IsErrOf r Limit → KnowOneTooLong starts
+      pub limit : IsErrOf r Limit → (known : List (Berth M))
+          → All (λ b. b.hand.known ≡ known) starts → IsOneTooLong w.window.now known
 
     -- what the starter ran itself, after the workers
     abbrev pub IsRestIn : (old new : RestView (Berth M)) → SlipView → List (Berth M) → Type 0

@@ -1,6 +1,6 @@
 -- What the workers of a window do.
-use Rattle.std.specs.Prelude.{◌≡◌, ◌↔◌, ◌<◌, ◌≤◌, ◌-◌, ◌++◌, ℕ, Bool, nat_eq, filter, List, [], ◌∷◌, length, map}
-use Rattle.std.specs.List.{All, Contains, flat_map}
+use Rattle.std.specs.Prelude.{◌≡◌, ◌↔◌, ◌<◌, ◌≤◌, ◌-◌, ◌++◌, ℕ, Bool, nat_eq, filter, List, [], length, map}
+use Rattle.std.specs.List.{All, AllPairs, Contains, flat_map}
 use Rattle.std.specs.List.Sorted.{IsPermutation}
 use Rattle.process_api.specs.Mind.{Mind}
 use Rattle.process_api.specs.declared.message.Letter.{Letter}
@@ -8,11 +8,10 @@ use Rattle.scenario_record.specs.Record.{Record}
 use Rattle.steps.specs.Seat.{own_of}
 use Rattle.trace_laws.specs.History.{IsIn}
 use Rattle.mailboxes.specs.Mailbox.{MailboxId}
-use Rattle.mailboxes.specs.Mailboxes.{SlipView, IsSlipOf, unused, list_of, posted_to}
+use Rattle.mailboxes.specs.Mailboxes.{SlipView, IsSlipOf, unused, posted_to}
 use Rattle.windows.specs.Berth.{IsBerth, IsBerthOf, IsLong, RanTo, with_letters}
 use Rattle.deques.specs.Deques.{DequeId, HandView, RestView, all_put}
 use Rattle.windows.specs.declared.berth.Berth.{Berth}
-use Rattle.windows.specs.declared.workers.Start.{Start}
 use Rattle.windows.specs.declared.workers.Work.{Work}
 
 -- one run of a berth: the berth as it was taken, the berth as it was left, and the letters that were posted, in order
@@ -95,18 +94,13 @@ module _ {M : Type 0} where
       pub of_mailboxes : All (IsSlipOf mailboxes) slips
       pub posted : (r : ℕ) → 1 ≤ r → r ≤ s.processes → posted_to slips r ≡ filter (is_to r) (sent_in stays)
 
-    -- The same in the order of the processes. The list of receiver r has just the letters to it
-    pub record IsOutcome (end : ℕ) (olds news : List (Berth M)) (lists : List (List Letter)) : Type 0 where
+    -- the same in the order of the processes
+    pub record IsOutcome (end : ℕ) (olds news : List (Berth M)) (slips : List SlipView) : Type 0 where
       pub stays : List (Stay M)
       pub each : All (IsStay end) stays
       pub olds_are : taken_in stays ≡ olds
       pub news_are : left_in stays ≡ news
-      pub count : length lists ≡ s.processes
-      pub letters : (r : ℕ) → 1 ≤ r → r ≤ s.processes → (x : Letter) → IsIn x (list_of lists r) ↔ IsSent stays r x
-
-  -- all that was dealt to these workers
-  abbrev pub dealt_to : List (Start M) → List (Berth M)
-  dealt_to starts = all_put (map (λ b. b.hand.own) starts)
+      pub letters : (r : ℕ) → 1 ≤ r → r ≤ s.processes → (x : Letter) → IsIn x (posted_to slips r) ↔ IsSent stays r x
 
   -- all that had been dealt to these workers once they are joined
   abbrev pub given_to : List (Work M) → List (Berth M)
@@ -127,13 +121,6 @@ module _ {M : Type 0} where
     pub none_taken : hand.taken ≡ []
     pub none_posted : slip ≡ unused mailboxes
 
-module _ {X : Type 0} (key : X → ℕ) where
-  -- each key is above k
-  abbrev pub AllAbove : ℕ → List X → Type 0
-  AllAbove k [] = Unit {0}
-  AllAbove k (x ∷ xs) = (k < key x) × AllAbove k xs
-
-  -- each key is below those after it
-  abbrev pub RiseBy : List X → Type 0
-  RiseBy [] = Unit {0}
-  RiseBy (x ∷ xs) = AllAbove (key x) xs × RiseBy xs
+-- each key is below those after it
+abbrev pub RiseBy : {X : Type 0} → (X → ℕ) → List X → Type 0
+RiseBy key xs = AllPairs (λ x y. key x < key y) xs

@@ -12,10 +12,10 @@ pub returns-clause-slips : goal.returns-clause-slips
 returns-clause-slips g c = subst (λ m. All (IsSlipOf m) c.in_ok-done.slips.items) (sym c.in_ok-done.ensures.mailboxes) c.in_ok-done.ensures.run.of_mailboxes
 
 pub returns-clause-outcome : goal.returns-clause-outcome
-returns-clause-outcome g c lists are =
-    outcome g.M.Process.mind c.args.window.now.streams c.args.window.now.end _ c.args.berths.items c.in_ok-done.done.items _ c.in_ok-done.slips.items lists c.in_ok-done.ensures.run
+returns-clause-outcome g c =
+    outcome g.M.Process.mind c.args.window.now.streams c.args.window.now.end _ c.args.berths.items c.in_ok-done.done.items _ c.in_ok-done.slips.items c.in_ok-done.ensures.run
     c.requires.ready c.requires.rising c.sort_unstable_by_key.ensures.permutation
-    (IsNonDecreasingBy-from_sort_by_key (λ (b : Berth _). own_of g.M.Process.mind b.seat) _ c.sort_unstable_by_key.ensures.sorted (λ a r q k. search rules)) are.count are.each
+    (IsNonDecreasingBy-from_sort_by_key (λ (b : Berth _). own_of g.M.Process.mind b.seat) _ c.sort_unstable_by_key.ensures.sorted (λ a r q k. search rules))
 
 pub returns-clause-workers : goal.returns-clause-workers
 returns-clause-workers g c = let w = c.in_ok-done.ensures.workers in subst (IsCountOfWorkers c.args.window.now.end c.args.crew.now.workers c.args.berths.items) (omega (arith, w.2, c.len.ensures)) w.1
