@@ -279,6 +279,49 @@ module _ {T : Type 0} where
         same = IsPermutation-trans _ _ _ (IsPermutation-sym _ _ put) (IsPermutation-trans _ _ _ b.same (IsPermutation-append_left items _ _ taken));
       }
 
+  -- one pass more that rests
+  pub admits : (items : List T) (views : List (Account T)) → EachOnce items views → EachOnce items (views ++ given_back ∷ [])
+  admits items views b =
+      let r : Account T = given_back in
+      let follow = new_each (λ _ u. u.parts ≢ 0 → Knows views u.told) views r (λ _ lives. absurd (lives refl)) (λ j u here lives. (j, u, here, lives, refl)) in
+      let put : put_by_all (views ++ r ∷ []) ≡ put_by_all views = flat_map-append (λ (u : Account T). u.put) views (r ∷ []) ∙ append-nil (put_by_all views) in
+      let taken : taken_by_all (views ++ r ∷ []) ≡ taken_by_all views = flat_map-append (λ (u : Account T). u.taken) views (r ∷ []) ∙ append-nil (taken_by_all views) in
+      let before = b.counted in
+      record {
+        counted = omega (arith, sum_by-append (λ (u : Account T). u.parts) views (r ∷ []), sum_by-append (λ (u : Account T). u.made) views (r ∷ []), sum_by-cons (λ (u : Account T). u.parts) r [], sum_by-cons (λ (u : Account T). u.made) r []);
+        first = new_each (λ j u. j ≢ 0 → u.made ≡ 0) views r (λ _ _. refl) b.first;
+        idle = new_each (λ _ u. u.parts ≡ 0 → (u.put ≡ []) × (u.taken ≡ [])) views r (λ _ _. (refl, refl)) b.idle;
+        alike = alike_kept _ _ follow b.alike;
+        told = told_kept _ _ follow (by_same _ _ (sym put)) b.told;
+        same = subst (λ (p : List T × List T). IsPermutation p.0 (p.1 ++ items)) (λ i. (sym put i, sym taken i)) b.same;
+      }
+
+  -- the first pass, which rests, begins to count
+  counts : (items : List T) (views : List (Account T)) → EachOnce items views → get_elem? views 0 ≡ some given_back → EachOnce items (set views 0 first_pass)
+  counts items views b at =
+      let w : Account T = first_pass in
+      let parts = total_set (λ (u : Account T). u.parts) views 0 given_back w at in
+      let whole = total_set (λ (u : Account T). u.made) views 0 given_back w at in
+      let before = b.counted in
+      let put : put_by_all (set views 0 w) ≡ put_by_all views = gather_same (λ (u : Account T). u.put) views 0 given_back w at refl in
+      let taken : taken_by_all (set views 0 w) ≡ taken_by_all views = gather_same (λ (u : Account T). u.taken) views 0 given_back w at refl in
+      let untold = set_each (λ _ u. u.parts ≢ 0 → u.told ≡ None) views 0 w (λ _. refl) (λ j u n here lives. absurd (lives (others_idle views given_back refl items b at j u here n))) in
+      record {
+        counted = omega arith;
+        first = first_set views 0 w (λ n. absurd (n refl)) b.first;
+        idle = idle_set views 0 w (λ none. absurd (omega (arith, none))) b.idle;
+        alike = λ i j a c at' at'' la lc. untold i a at' la ∙ sym (untold j c at'' lc);
+        told = λ j u all here lives is. absurd (none-some all (sym (untold j u here lives) ∙ is));
+        same = subst (λ (p : List T × List T). IsPermutation p.0 (p.1 ++ items)) (λ i. (sym put i, sym taken i)) b.same;
+      }
+
+  -- the same, and another that rests comes of it
+  pub opens : (port : ℕ) (v : Account T) → port ≡ 0 → v ≡ given_back → (items : List T) (views : List (Account T)) → EachOnce items views → get_elem? views port ≡ some v
+      → EachOnce items (set views port first_pass ++ given_back ∷ [])
+  opens port v first rests items views b at =
+      subst (λ k. EachOnce items (set views k first_pass ++ given_back ∷ [])) (sym first)
+      (admits items _ (counts items views b ((λ i. get_elem? views (sym first i)) ∙ at ∙ ap some rests)))
+
   -- the rule holds of an empty queue
   is_first : (j : ℕ) (u : Account T) → get_elem? (first_pass ∷ []) j ≡ some u → (j ≡ 0) × (first_pass ≡ u)
   is_first zero u at = (refl, some-injective first_pass u at)

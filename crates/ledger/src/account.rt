@@ -17,6 +17,18 @@ pub struct Account<T> {
     pub told: Option<LinkedList<T>>,
 }
 
+/// A first pass that rests, as one that was given back does, begins to count. Another that rests comes of it. Where a
+/// queue itself makes passes, such as for items that are popped together, each of these rests, and so does its first.
+pub struct Opening;
+
+impl<T> Split<Account<T>> for Opening {
+    ghost use Rattle.ledger.specs.Ledger.{first_pass, given_back};
+
+    ghost left = { λ _. first_pass };
+
+    ghost right = { λ _. given_back };
+}
+
 /// The first pass makes one pass more, which is told what it was told, or takes one back with what it has put and
 /// taken.
 pub struct Ticketing;

@@ -16,4 +16,4 @@
 
 mod account;
 
-pub use account::{Account, Settling, Telling, Ticketing};
+pub use account::{Account, Opening, Settling, Telling, Ticketing};

@@ -6,7 +6,7 @@ pub use Rattle.std.proofs.lemmas.Simd.{map-map, splat_is_map}
 pub use Rattle.std.specs.Global.{Vec}
 pub use Rattle.std.specs.List.{All, flat_map}
 pub use Rattle.std.specs.Vec.Iter.{into_iter_items}
-pub use Rattle.ledger.proofs.Ledgers.{learns, merges, puts, settles, splits, takes}
+pub use Rattle.ledger.proofs.Ledgers.{admits, learns, merges, opens, puts, settles, splits, takes}
 pub use Rattle.ledger.proofs.Lists.{Shuffled, Shuffled-next, Shuffled-refl, below_parts, length_more, map_take_more, mixed_at, mixed_more, parts_agree, turn_at, turn_more, with-length, with-map, with-nil}
 pub use Rattle.ledger.specs.Ledger.{has_put, has_taken}
 pub use Rattle.ledger.specs.declared.account.Account.{Account}

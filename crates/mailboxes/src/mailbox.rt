@@ -1,6 +1,7 @@
 //! The mailbox of one receiver: its queue, which threads share; the tickets by which they post; and the owner's pass.
-ghost use Rattle.std.specs.Prelude.{◌≡◌, ◌≢◌, ◌<◌, ◌+◌, List, [], ◌∷◌, ◌++◌, None, IfOk, IfErr, OnOk, OnErr};
+ghost use Rattle.std.specs.Prelude.{◌≡◌, ◌≢◌, ◌<◌, ◌+◌, List, [], ◌∷◌, ◌++◌, None, IfOk, IfErr, Ok, OnOk, OnErr};
 ghost use Rattle.std.specs.List.Sorted.{IsPermutation};
+ghost use Rattle.crossbeam_queue.specs.SegBatches.{Holds};
 ghost use Rattle.crossbeam_queue.specs.SegTies.{IsSegPassOf};
 ghost use Rattle.ledger.specs.Ledger.{account, has_taken};
 ghost use Rattle.process_api.specs.declared.message.Letter.{Letter};
@@ -10,8 +11,8 @@ ghost use Rattle.mailboxes.specs.Mailbox.{ticket_of, home_of, one_out, one_back,
 use crate::collects::Collects;
 use crate::rule::{EachOnce, Pop, Push};
 use crate::soonest::earlier;
-use crossbeam_queue::{RuledSegQueue, SegPass};
-use ledger::{Account, Settling, Ticketing};
+use crossbeam_queue::{RuledSegQueue, SegBatch, SegPass};
+use ledger::{Account, Opening, Settling, Ticketing};
 use std::alloc::{AllocError, Global};
 use std::marker::Model;
 use std::sync::Wait;
@@ -20,6 +21,11 @@ use trace_laws::Parcel;
 type Queue = RuledSegQueue<Parcel, Account<Parcel>, EachOnce>;
 
 type Pass = SegPass<Parcel, Account<Parcel>>;
+
+type Batch = SegBatch<Parcel, Account<Parcel>, Global>;
+
+/// As many letters as a block of the queue has.
+const MOST_AT_ONCE: u64 = 31;
 
 /// The queue of one receiver. Contracts see which it is.
 pub(crate) struct Mailbox {
@@ -111,7 +117,8 @@ impl Mailbox {
     pub(crate) fn open(alloc: Global) -> Result<(Mailbox, Home), AllocError>
         ensures { IfOk result (λ made. made.1 ≡ home_of made.0 0 []) }
     {
-        let (queue, pass) = Queue::with_rule(alloc)?;
+        let (queue, mut pass) = Queue::with_rule(alloc)?;
+        let _rests = queue.another::<Opening>(&mut pass);
         let home = Home {
             pass,
             soonest: None,
@@ -224,12 +231,53 @@ fn drain<R: Wait, T: Collects>(
         → T.collected first to.new (so_far ++ pass.new.me.view.client.taken)) }
 {
     for _ in rt.forever() {
-        match queue.pop_as::<Pop, R>(rt, pass) {
-            Some(letter) => to.collect(letter)?,
-            None => break,
+        let head = queue.head(pass);
+        match queue.try_pop_batch::<Pop, R>(rt, pass, head, MOST_AT_ONCE) {
+            Ok(Some(batch)) => collect_all(rt, queue, pass, batch, to)?,
+            Ok(None) => break,
+            // another thread was in the way, or the last slot of a block was taken
+            Err(()) => {}
         }
     }
     Ok(())
+}
+
+// Gives the letters of a batch away. Where one is refused the others are dropped.
+fn collect_all<R: Wait, T: Collects>(
+    rt: &R,
+    queue: &Queue,
+    pass: &mut Pass,
+    mut batch: Batch,
+    to: &mut T,
+) -> Result<(), AllocError>
+    requires { IsSegPassOf queue.now pass.old × ((letters : List Letter) × Holds queue.now pass.old batch letters) }
+    ensures pass { IsSegPassOf queue.now pass.new × (pass.new.id ≡ pass.old.id) }
+    ensures view { pass.new.me.view.client ≡ pass.old.me.view.client }
+    ensures to { OnOk result ((letters : List Letter) → Holds queue.now pass.old batch letters
+        → (first : T) (so_far : List Letter) → T.collected first to.old so_far
+        → T.collected first to.new (so_far ++ letters)) }
+{
+    let mut told = Ok(());
+    while batch.len() > 0 {
+        let letter = queue.next_of(rt, pass, &mut batch);
+        told = collect_after(told, letter, to);
+    }
+    batch.finish();
+    told
+}
+
+// Gives one letter away, unless another was refused before.
+#[inline(always)]
+fn collect_after<T: Collects>(
+    told: Result<(), AllocError>,
+    letter: Parcel,
+    to: &mut T,
+) -> Result<(), AllocError>
+    ensures { OnOk result ((told ≡ Ok tt) × ((first : T) (so_far : List Letter)
+        → T.collected first to.old so_far → T.collected first to.new (so_far ++ letter ∷ []))) }
+{
+    told?;
+    to.collect(letter)
 }
 
 // The pass that stands for all, and has taken all that was put, forgets it.

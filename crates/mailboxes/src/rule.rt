@@ -1,17 +1,18 @@
 //! The ledger of a mailbox's queue, whose kinds of step are push and pop.
 
-use crossbeam_queue::protocol::{Lesson, Outcome, Protocol};
+use crossbeam_queue::protocol::{Lesson, Outcome, Outcomes, Protocol};
 use ledger::Account;
 
 /// Every letter that was put was taken, or is there, as often as it was put.
 pub(crate) struct EachOnce;
 
 impl<T> Protocol<T, Account<T>> for EachOnce {
-    ghost use Rattle.ledger.specs.Ledger.{first_pass, EachOnce};
+    ghost use Rattle.ledger.specs.Ledger.{given_back, EachOnce};
 
     ghost holds = { EachOnce };
 
-    ghost first = { first_pass };
+    // the queue makes passes by itself, one for each item of a batch, and these rest
+    ghost first = { given_back };
 }
 
 /// A push: its pass has put one item more.
@@ -30,14 +31,14 @@ impl<T> Lesson<T, Account<T>> for Push {
     ghost fact = { λ _ _. ⊤ };
 }
 
-/// A pop: its pass has taken one item more.
+/// A pop of some items: its pass has taken these more.
 pub(crate) struct Pop;
 
-impl<T> Outcome<T, Account<T>> for Pop {
-    ghost use Rattle.std.specs.Prelude.{◌≡◌, [], ◌∷◌};
+impl<T> Outcomes<T, Account<T>> for Pop {
+    ghost use Rattle.std.specs.Prelude.{◌≡◌};
     ghost use Rattle.ledger.specs.Ledger.{has_taken};
 
-    ghost then = { λ a x b. b ≡ has_taken a (x ∷ []) };
+    ghost then_all = { λ a xs b. b ≡ has_taken a xs };
 }
 
 /// A pop that finds the queue empty, by a pass that stands for all: what was put is what was taken and what is there.
