@@ -1,5 +1,5 @@
 -- Events in a ring and a map, by their ticks.
-use Rattle.pending_events.proofs.Words.{◌≡◌, ◌≢◌, ◌≤◌, ◌<◌, inl, inr, refl, sym, ap, ◌∙◌, subst, arith, Bool, true, false, cond, List, [], ◌∷◌, ◌++◌, length, map, Option, Some, None, true≢false, ℕ, nat_cmp, length-append, ◌+◌, ◌-◌, ◌%◌, slice_set, min, MatchOption, get_or, Result, Ok, Err, eq_by_cmp, AllByRecursion, AllocError, cases_eq, nat_tests, Calendar, bucket, IsCleared, IsFull, IsPut, IsVacant, IsCalendar, IsTaken, NoneAhead, ahead, came, due, lane, Event, both}
+use Rattle.pending_events.proofs.Words.{◌≡◌, ◌≢◌, ◌≤◌, ◌<◌, inl, inr, refl, sym, ap, ◌∙◌, subst, arith, Bool, true, false, cond, List, [], ◌∷◌, ◌++◌, length, map, Option, Some, None, true≢false, ℕ, nat_cmp, ◌+◌, ◌-◌, ◌%◌, slice_set, min, get_or, Result, Ok, Err, eq_by_cmp, AllByRecursion, AllocError, cases_eq, nat_tests, Calendar, bucket, IsCleared, IsFull, IsPut, IsVacant, IsCalendar, IsTaken, ahead, came, due, lane, Event, both}
 use Rattle.std.proofs.Common.{All, suc, zero, IsSome, unwrap_or, option_map, nat_le, nat_lt, ◌&&◌, append_assoc}
 use Rattle.std.specs.Global.{Vec}
 use Rattle.std.specs.BTreeMap as tree
@@ -7,7 +7,6 @@ use Rattle.std.specs.Map.{lookup}
 use Rattle.std.proofs.lemmas.List.{append-nil, get_or-map, get_or-set_same, get_or-set_other, length-map, map-set}
 use Rattle.std.proofs.lemmas.Bool.{cases_lt}
 use Rattle.std.proofs.lemmas.List.Elements.{All-head, All-tail}
-use Rattle.std.proofs.lemmas.Map.Keys.{le_from_not_gt}
 use Rattle.pending_events.specs.Inside.Buckets.{Buckets, HasTick}
 use Rattle.pending_events.specs.Inside.Calendar.{IsFirst}
 
@@ -126,35 +125,6 @@ module _ (c : Calendar) (h : IsCalendar c) (tick : ℕ) (low : c.from ≤ tick) 
     full = full;
     long = long ∙ h.long;
     room = h.room;
-  }
-
--- ---- the first tick
-
-abbrev IsListedFirst : Buckets → Option ℕ → Type 0
-IsListedFirst m o = MatchOption o ((t : ℕ) → HasTick m t → ⊥) (λ tick. HasTick m tick × tree.IsLowerBound nat_cmp m tick)
-
-module _ (c : Calendar) (h : IsCalendar c) where
-  pub first_near : (o : Option ℕ) → IsListedFirst c.map o → (end : ℕ) → end ≡ min (c.from + 1024) (unwrap_or o 4294967295) → (tick : ℕ) → c.from ≤ tick → tick < end → NoneAhead c.ring.items c.from tick
-      → 0 < length (lane c.ring.items (tick % 1024)) → IsFirst c tick
-  first_near o listed end is tick low less none some = record {
-    none_before = λ t before. none_due c t (later o listed is t before) (λ l _. none t l before);
-    some = omega (arith, some, length-append (bucket c.map tick) (ahead c tick), ap length (in_year c tick low (omega (arith, less, is))));
-    from = low;
-  }
-    where
-      later : (o : Option ℕ) → IsListedFirst c.map o → end ≡ min (c.from + 1024) (unwrap_or o 4294967295) → (t : ℕ) → t < tick → HasTick c.map t → ⊥
-      later None never is t before there = never t there
-      later (Some first) listed is t before there = let least = le_from_not_gt first t (listed.1 t there) in omega (arith, least, before, less, is)
-
-  pub first_listed : (o : Option ℕ) → IsListedFirst c.map o → (end : ℕ) → end ≡ min (c.from + 1024) (unwrap_or o 4294967295) → NoneAhead c.ring.items c.from end → MatchOption o (IsVacant c) (IsFirst c)
-  first_listed None never end is none = λ t. none_due c t (never t) (λ low high. none t low (omega (arith, high, is, h.room)))
-  first_listed (Some first) listed end is none = record {
-    none_before = λ t before. none_due c t (λ there. let least = le_from_not_gt first t (listed.1 t there) in omega (arith, least, before)) (λ low high. none t low (omega (arith, before, high, is)));
-    some = omega (arith, h.full first listed.0, length-append (bucket c.map first) (ahead c first));
-    from = elim (cases_lt first c.from) [
-      | inl before ↦ absurd (omega (arith, h.full first listed.0, length-append (bucket c.map first) (ahead c first), ap length (h.soon first before)))
-      | inr up ↦ up
-    ];
   }
 
 -- ---- the events of the first tick go
