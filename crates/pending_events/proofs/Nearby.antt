@@ -27,6 +27,8 @@ lane_kept ls i v j n = ap (λ xs. get_or xs j []) (map-set items ls i v) ∙ get
 pub lane_there : (ls : List (Vec Event)) (i : ℕ) (d : Vec Event) → i < length ls → (get_or ls i d).items ≡ lane ls i
 lane_there ls i d low = sym (get_or-map items ls i d [] low)
 
+pub ruleset lanes = (lane_set, lane_kept, lane_there)
+
 pub empty_lanes : (ls : List (Vec Event)) → All (λ v. v.items ≡ []) ls → (p : ℕ) → lane ls p ≡ []
 empty_lanes [] all p = refl
 empty_lanes (v ∷ vs) all zero = All-head (λ v. items v ≡ []) v vs all
@@ -190,3 +192,9 @@ module _ (c : Calendar) (h : IsCalendar c) (tick : ℕ) (first : IsFirst c tick)
 
     pub next_taken : (es : List Event) → es ≡ due c tick → IsTaken c new tick es
     next_taken es all = record { first = first; all = all; gone = gone; others = λ t n. elim (cases_lt tick t) [ inl after ↦ kept t after | inr before ↦ gone t before ∙ sym (first.none_before t (omega (arith, before, n))) ]; from = omega (arith, is) }
+
+pub ruleset opened = (empty_lanes, new_calendar, no_rows, vacant_of)
+
+pub ruleset came_to = (all_came, far_put, near_put, put_calendar)
+
+pub ruleset went = (next_calendar, next_taken, whole)
