@@ -1,13 +1,11 @@
 -- Events in a ring and a map, by their ticks.
-use Rattle.pending_events.proofs.Words.{◌≡◌, ◌≢◌, ◌≤◌, ◌<◌, inl, inr, refl, sym, ap, ◌∙◌, subst, arith, Bool, true, false, cond, List, [], ◌∷◌, ◌++◌, length, map, Option, Some, None, true≢false, ℕ, nat_cmp, ◌+◌, ◌-◌, ◌%◌, slice_set, min, get_or, Result, Ok, Err, eq_by_cmp, AllByRecursion, AllocError, cases_eq, nat_tests, Calendar, bucket, IsCleared, IsFull, IsPut, IsVacant, IsCalendar, IsTaken, ahead, came, due, lane, Event, both}
-use Rattle.std.proofs.Common.{All, suc, zero, IsSome, unwrap_or, option_map, nat_le, nat_lt, ◌&&◌, append_assoc}
+use Rattle.pending_events.proofs.Words.{◌≡◌, ◌≢◌, ◌≤◌, ◌<◌, inl, inr, refl, sym, ap, ◌∙◌, subst, arith, Bool, true, false, cond, List, [], ◌∷◌, ◌++◌, length, map, Option, ℕ, ◌+◌, ◌-◌, ◌%◌, slice_set, min, get_or, Result, Ok, Err, AllByRecursion, AllocError, cases_eq, nat_tests, Calendar, bucket, IsCleared, IsFull, IsPut, IsCalendar, IsTaken, ahead, came, due, lane, Event, both}
+use Rattle.std.proofs.Common.{All, suc, zero, unwrap_or, option_map, nat_le, nat_lt, ◌&&◌, append_assoc}
 use Rattle.std.specs.Global.{Vec}
-use Rattle.std.specs.BTreeMap as tree
-use Rattle.std.specs.Map.{lookup}
-use Rattle.std.proofs.lemmas.List.{append-nil, get_or-map, get_or-set_same, get_or-set_other, length-map, map-set}
+use Rattle.std.proofs.lemmas.List.{get_or-map, get_or-set_same, get_or-set_other, length-map, map-set}
 use Rattle.std.proofs.lemmas.Bool.{cases_lt}
 use Rattle.std.proofs.lemmas.List.Elements.{All-head, All-tail}
-use Rattle.pending_events.specs.Inside.Buckets.{Buckets, HasTick}
+use Rattle.pending_events.specs.Inside.Buckets.{Buckets}
 use Rattle.pending_events.specs.Inside.Calendar.{IsFirst}
 
 abbrev pub calendar_of : ℕ → Vec (Vec Event) → Buckets → Calendar
@@ -39,24 +37,6 @@ empty_lanes (v ∷ vs) all (suc p) = empty_lanes vs (All-tail (λ v. items v ≡
 abbrev items_in : Option (Vec Event) → List Event
 items_in o = unwrap_or (option_map (λ v. v.items) o) []
 
-nat_apart : (a b : ℕ) → b ≢ a → eq_by_cmp nat_cmp a b ≡ false
-nat_apart a b n = grind (arith, nat_tests)
-
-pub filed_new : (m n : Buckets) (tick : ℕ) (event : Event) (v : Vec Event) → tree.Updates nat_cmp m n tick (Some v) → tree.get nat_cmp m tick ≡ None → v.items ≡ event ∷ [] → IsPut (bucket m) (bucket n) tick (event ∷ [])
-filed_new m n tick event v h none is = record {
-  here = ap items_in h.1 ∙ (is ∙ ap (λ o. items_in o ++ event ∷ []) (sym none));
-  others = λ t other. ap items_in (h.2 t (nat_apart tick t other));
-}
-
-pub no_rows : (m : Buckets) → (0 < length m.entries → ⊥) → (t : ℕ) → HasTick m t → ⊥
-no_rows m none t there = elim m.entries as (λ ps. (0 < length ps → ⊥) → IsSome (lookup (tree.is_at (nat_cmp t)) ps) → ⊥) [
-  | [] ↦ λ f h. true≢false (sym h)
-  | p ∷ ps ↦ λ f h. f (omega arith)
-] none there
-
-no_listed : (m : Buckets) (t : ℕ) → (HasTick m t → ⊥) → bucket m t ≡ []
-no_listed m t none = elim (tree.get nat_cmp m t) as (λ o. (IsSome o → ⊥) → items_in o ≡ []) [ None ↦ λ f. refl | Some b ↦ λ f. absurd (f refl) ] none
-
 -- ---- the events of a tick
 
 -- a tick is in the year, or not
@@ -69,25 +49,6 @@ ahead_is c t es near far = go (nat_le c.from t && nat_lt t (c.from + 1024)) refl
 
 in_year : (c : Calendar) (t : ℕ) → c.from ≤ t → t < c.from + 1024 → ahead c t ≡ lane c.ring.items (t % 1024)
 in_year c t low high = ahead_is c t (lane c.ring.items (t % 1024)) (λ l h. refl) (λ far. let past = far low in absurd (omega (arith, past, high)))
-
-none_due : (c : Calendar) (t : ℕ) → (HasTick c.map t → ⊥) → (c.from ≤ t → t < c.from + 1024 → lane c.ring.items (t % 1024) ≡ []) → due c t ≡ []
-none_due c t none near = λ i. no_listed c.map t none i ++ ahead_is c t [] near (λ far. refl) i
-
--- ---- no event
-
-module _ (ring : Vec (Vec Event)) (map : Buckets) (none : (p : ℕ) → lane ring.items p ≡ []) (never : (t : ℕ) → HasTick map t → ⊥) where
-  pub vacant_of : IsVacant (calendar_of 0 ring map)
-  vacant_of t = none_due (calendar_of 0 ring map) t (never t) (λ low high. none (t % 1024))
-
-  pub new_calendar : length ring.items ≡ 1024 → IsCalendar (calendar_of 0 ring map)
-  new_calendar long = record {
-    own = λ t. subst (AllByRecursion (λ e. e.0.tick ≡ t)) (sym (vacant_of t)) tt;
-    soon = λ t before. vacant_of t;
-    late = λ t past. vacant_of t;
-    full = λ t there. absurd (never t there);
-    long = long;
-    room = omega arith;
-  }
 
 -- ---- an event comes
 
@@ -104,15 +65,6 @@ module _ (c : Calendar) (h : IsCalendar c) (tick : ℕ) (low : c.from ≤ tick) 
         (λ l near. put.others (t % 1024) (λ e. n (omega (arith, e, l, near, low, high))) ∙ sym (in_year c t l near))
         (λ far. sym (ahead_is c t [] (λ l near. let past = far l in absurd (omega (arith, past, near))) (λ _. refl))));
   }
-
-  -- in the map
-  pub far_put : (m : Buckets) → c.from + 1024 ≤ tick → IsPut (bucket c.map) (bucket m) tick es → IsPut (due c) (due (calendar_of c.from c.ring m)) tick es
-  far_put m far put =
-      let none : ahead c tick ≡ [] = ahead_is c tick [] (λ l near. absurd (omega (arith, near, far))) (λ _. refl) in
-      record {
-        here = (λ i. put.here i ++ none i) ∙ (append-nil (bucket c.map tick ++ es) ∙ ap (λ xs. xs ++ es) (sym ((λ i. bucket c.map tick ++ none i) ∙ append-nil (bucket c.map tick))));
-        others = λ t n. ap (λ xs. xs ++ ahead c t) (put.others t n);
-      }
 
   pub put_calendar : (ring2 : Vec (Vec Event)) (m : Buckets) → tick < 4294967296 → AllByRecursion (λ e. e.0.tick ≡ tick) es → length ring2.items ≡ length c.ring.items → IsFull m → IsPut (due c) (due (calendar_of c.from ring2 m)) tick es
       → IsCalendar (calendar_of c.from ring2 m)
@@ -193,8 +145,4 @@ module _ (c : Calendar) (h : IsCalendar c) (tick : ℕ) (first : IsFirst c tick)
     pub next_taken : (es : List Event) → es ≡ due c tick → IsTaken c new tick es
     next_taken es all = record { first = first; all = all; gone = gone; others = λ t n. elim (cases_lt tick t) [ inl after ↦ kept t after | inr before ↦ gone t before ∙ sym (first.none_before t (omega (arith, before, n))) ]; from = omega (arith, is) }
 
-pub ruleset opened = (empty_lanes, new_calendar, no_rows, vacant_of)
-
-pub ruleset came_to = (all_came, far_put, near_put, put_calendar)
-
-pub ruleset went = (next_calendar, next_taken, whole)
+pub ruleset went = (next_taken, whole)

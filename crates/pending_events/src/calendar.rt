@@ -30,7 +30,7 @@ pub(crate) struct Calendar {
 
 impl Calendar {
     /// No event.
-    #[tactic(auto, using(crate::proofs::Nearby::opened))]
+    #[tactic(auto, using(crate::proofs::Nearby::empty_lanes))]
     pub(crate) fn new(alloc: Global) -> Result<Calendar, AllocError>
         ensures calendar { IfOk result (λ c. IsCalendar c) }
         ensures vacant { IfOk result (λ c. IsVacant c) }
@@ -79,7 +79,6 @@ impl Calendar {
 
     /// Adds an event to those of its tick, which is this.
     #[inline(always)]
-    #[tactic(auto, using(crate::proofs::Nearby::came_to))]
     pub(crate) fn add(
         &mut self,
         spare: &mut Vec<Vec<Event>>,
@@ -204,7 +203,6 @@ fn put_near(
 
 /// Adds an event to the bucket of a tick in the map.
 #[inline(always)]
-#[tactic(auto, using(crate::proofs::Nearby::filed_new))]
 fn file(
     alloc: Global,
     spare: &mut Vec<Vec<Event>>,
