@@ -1,6 +1,6 @@
 -- Events in a ring and a map, by their ticks.
-use Rattle.pending_events.proofs.Words.{◌≡◌, ◌≢◌, ◌≤◌, ◌<◌, inl, inr, refl, sym, ap, ◌∙◌, subst, arith, Bool, true, false, cond, List, [], ◌∷◌, ◌++◌, length, map, Option, ℕ, ◌+◌, ◌-◌, ◌%◌, slice_set, min, get_or, Result, Ok, Err, AllByRecursion, AllocError, cases_eq, nat_tests, Calendar, bucket, IsCleared, IsFull, IsPut, IsCalendar, IsTaken, ahead, came, due, lane, Event, both}
-use Rattle.std.proofs.Common.{All, suc, zero, unwrap_or, option_map, nat_le, nat_lt, ◌&&◌, append_assoc}
+use Rattle.pending_events.proofs.Words.{◌≡◌, ◌≢◌, ◌≤◌, ◌<◌, inl, inr, refl, sym, ap, ◌∙◌, subst, arith, Bool, true, false, cond, List, [], ◌∷◌, ◌++◌, length, map, ℕ, ◌+◌, ◌-◌, ◌%◌, slice_set, min, get_or, Result, Ok, Err, AllByRecursion, AllocError, cases_eq, nat_tests, Calendar, bucket, IsCleared, IsFull, IsPut, IsCalendar, IsTaken, ahead, came, due, lane, Event, both}
+use Rattle.std.proofs.Common.{All, suc, zero, nat_le, nat_lt, ◌&&◌, append_assoc}
 use Rattle.std.specs.Global.{Vec}
 use Rattle.std.proofs.lemmas.List.{get_or-map, get_or-set_same, get_or-set_other, length-map, map-set}
 use Rattle.std.proofs.lemmas.Bool.{cases_lt}
@@ -31,11 +31,6 @@ pub empty_lanes : (ls : List (Vec Event)) → All (λ v. v.items ≡ []) ls → 
 empty_lanes [] all p = refl
 empty_lanes (v ∷ vs) all zero = All-head (λ v. items v ≡ []) v vs all
 empty_lanes (v ∷ vs) all (suc p) = empty_lanes vs (All-tail (λ v. items v ≡ []) v vs all) p
-
--- ---- buckets of the map
-
-abbrev items_in : Option (Vec Event) → List Event
-items_in o = unwrap_or (option_map (λ v. v.items) o) []
 
 -- ---- the events of a tick
 
