@@ -1,14 +1,11 @@
 -- Events in a ring and a map, by their ticks.
-use Rattle.pending_events.proofs.Words.{◌≡◌, ◌≢◌, ◌≤◌, ◌<◌, inl, inr, refl, sym, ap, ◌∙◌, subst, arith, Bool, true, false, cond, List, [], ◌∷◌, ◌++◌, length, map, Option, Some, None, true≢false, ℕ, nat_cmp, length-append, ◌+◌, ◌-◌, ◌%◌, slice_set, min, MatchOption, get_or, Result, Ok, Err, eq_by_cmp, AllByRecursion, AllocError, cases_eq, nat_tests, Calendar, bucket, IsCleared, IsFull, IsPut, IsVacant, IsCalendar, IsTaken, NoneAhead, ahead, came, due, lane, Event, both}
-use Rattle.std.proofs.Common.{All, suc, zero, IsSome, unwrap_or, option_map, nat_le, nat_lt, ◌&&◌, append_assoc}
+use Rattle.pending_events.proofs.Words.{◌≡◌, ◌≢◌, ◌≤◌, ◌<◌, inl, inr, refl, sym, ap, ◌∙◌, subst, arith, Bool, true, false, cond, List, [], ◌∷◌, ◌++◌, length, map, ℕ, ◌+◌, ◌-◌, ◌%◌, slice_set, min, get_or, Result, Ok, Err, AllByRecursion, AllocError, cases_eq, nat_tests, Calendar, bucket, IsCleared, IsFull, IsPut, IsCalendar, IsTaken, ahead, came, due, lane, Event, both}
+use Rattle.std.proofs.Common.{All, suc, zero, nat_le, nat_lt, ◌&&◌, append_assoc}
 use Rattle.std.specs.Global.{Vec}
-use Rattle.std.specs.BTreeMap as tree
-use Rattle.std.specs.Map.{lookup}
-use Rattle.std.proofs.lemmas.List.{append-nil, get_or-map, get_or-set_same, get_or-set_other, length-map, map-set}
+use Rattle.std.proofs.lemmas.List.{get_or-map, get_or-set_same, get_or-set_other, length-map, map-set}
 use Rattle.std.proofs.lemmas.Bool.{cases_lt}
 use Rattle.std.proofs.lemmas.List.Elements.{All-head, All-tail}
-use Rattle.std.proofs.lemmas.Map.Keys.{le_from_not_gt}
-use Rattle.pending_events.specs.Inside.Buckets.{Buckets, HasTick}
+use Rattle.pending_events.specs.Inside.Buckets.{Buckets}
 use Rattle.pending_events.specs.Inside.Calendar.{IsFirst}
 
 abbrev pub calendar_of : ℕ → Vec (Vec Event) → Buckets → Calendar
@@ -28,33 +25,12 @@ lane_kept ls i v j n = ap (λ xs. get_or xs j []) (map-set items ls i v) ∙ get
 pub lane_there : (ls : List (Vec Event)) (i : ℕ) (d : Vec Event) → i < length ls → (get_or ls i d).items ≡ lane ls i
 lane_there ls i d low = sym (get_or-map items ls i d [] low)
 
+pub ruleset lanes = (lane_set, lane_kept, lane_there)
+
 pub empty_lanes : (ls : List (Vec Event)) → All (λ v. v.items ≡ []) ls → (p : ℕ) → lane ls p ≡ []
 empty_lanes [] all p = refl
 empty_lanes (v ∷ vs) all zero = All-head (λ v. items v ≡ []) v vs all
 empty_lanes (v ∷ vs) all (suc p) = empty_lanes vs (All-tail (λ v. items v ≡ []) v vs all) p
-
--- ---- buckets of the map
-
-abbrev items_in : Option (Vec Event) → List Event
-items_in o = unwrap_or (option_map (λ v. v.items) o) []
-
-nat_apart : (a b : ℕ) → b ≢ a → eq_by_cmp nat_cmp a b ≡ false
-nat_apart a b n = grind (arith, nat_tests)
-
-pub filed_new : (m n : Buckets) (tick : ℕ) (event : Event) (v : Vec Event) → tree.Updates nat_cmp m n tick (Some v) → tree.get nat_cmp m tick ≡ None → v.items ≡ event ∷ [] → IsPut (bucket m) (bucket n) tick (event ∷ [])
-filed_new m n tick event v h none is = record {
-  here = ap items_in h.1 ∙ (is ∙ ap (λ o. items_in o ++ event ∷ []) (sym none));
-  others = λ t other. ap items_in (h.2 t (nat_apart tick t other));
-}
-
-pub no_rows : (m : Buckets) → (0 < length m.entries → ⊥) → (t : ℕ) → HasTick m t → ⊥
-no_rows m none t there = elim m.entries as (λ ps. (0 < length ps → ⊥) → IsSome (lookup (tree.is_at (nat_cmp t)) ps) → ⊥) [
-  | [] ↦ λ f h. true≢false (sym h)
-  | p ∷ ps ↦ λ f h. f (omega arith)
-] none there
-
-no_listed : (m : Buckets) (t : ℕ) → (HasTick m t → ⊥) → bucket m t ≡ []
-no_listed m t none = elim (tree.get nat_cmp m t) as (λ o. (IsSome o → ⊥) → items_in o ≡ []) [ None ↦ λ f. refl | Some b ↦ λ f. absurd (f refl) ] none
 
 -- ---- the events of a tick
 
@@ -68,25 +44,6 @@ ahead_is c t es near far = go (nat_le c.from t && nat_lt t (c.from + 1024)) refl
 
 in_year : (c : Calendar) (t : ℕ) → c.from ≤ t → t < c.from + 1024 → ahead c t ≡ lane c.ring.items (t % 1024)
 in_year c t low high = ahead_is c t (lane c.ring.items (t % 1024)) (λ l h. refl) (λ far. let past = far low in absurd (omega (arith, past, high)))
-
-none_due : (c : Calendar) (t : ℕ) → (HasTick c.map t → ⊥) → (c.from ≤ t → t < c.from + 1024 → lane c.ring.items (t % 1024) ≡ []) → due c t ≡ []
-none_due c t none near = λ i. no_listed c.map t none i ++ ahead_is c t [] near (λ far. refl) i
-
--- ---- no event
-
-module _ (ring : Vec (Vec Event)) (map : Buckets) (none : (p : ℕ) → lane ring.items p ≡ []) (never : (t : ℕ) → HasTick map t → ⊥) where
-  pub vacant_of : IsVacant (calendar_of 0 ring map)
-  vacant_of t = none_due (calendar_of 0 ring map) t (never t) (λ low high. none (t % 1024))
-
-  pub new_calendar : length ring.items ≡ 1024 → IsCalendar (calendar_of 0 ring map)
-  new_calendar long = record {
-    own = λ t. subst (AllByRecursion (λ e. e.0.tick ≡ t)) (sym (vacant_of t)) tt;
-    soon = λ t before. vacant_of t;
-    late = λ t past. vacant_of t;
-    full = λ t there. absurd (never t there);
-    long = long;
-    room = omega arith;
-  }
 
 -- ---- an event comes
 
@@ -104,15 +61,6 @@ module _ (c : Calendar) (h : IsCalendar c) (tick : ℕ) (low : c.from ≤ tick) 
         (λ far. sym (ahead_is c t [] (λ l near. let past = far l in absurd (omega (arith, past, near))) (λ _. refl))));
   }
 
-  -- in the map
-  pub far_put : (m : Buckets) → c.from + 1024 ≤ tick → IsPut (bucket c.map) (bucket m) tick es → IsPut (due c) (due (calendar_of c.from c.ring m)) tick es
-  far_put m far put =
-      let none : ahead c tick ≡ [] = ahead_is c tick [] (λ l near. absurd (omega (arith, near, far))) (λ _. refl) in
-      record {
-        here = (λ i. put.here i ++ none i) ∙ (append-nil (bucket c.map tick ++ es) ∙ ap (λ xs. xs ++ es) (sym ((λ i. bucket c.map tick ++ none i) ∙ append-nil (bucket c.map tick))));
-        others = λ t n. ap (λ xs. xs ++ ahead c t) (put.others t n);
-      }
-
   pub put_calendar : (ring2 : Vec (Vec Event)) (m : Buckets) → tick < 4294967296 → AllByRecursion (λ e. e.0.tick ≡ tick) es → length ring2.items ≡ length c.ring.items → IsFull m → IsPut (due c) (due (calendar_of c.from ring2 m)) tick es
       → IsCalendar (calendar_of c.from ring2 m)
   put_calendar ring2 m fits own long full put = record {
@@ -126,35 +74,6 @@ module _ (c : Calendar) (h : IsCalendar c) (tick : ℕ) (low : c.from ≤ tick) 
     full = full;
     long = long ∙ h.long;
     room = h.room;
-  }
-
--- ---- the first tick
-
-abbrev IsListedFirst : Buckets → Option ℕ → Type 0
-IsListedFirst m o = MatchOption o ((t : ℕ) → HasTick m t → ⊥) (λ tick. HasTick m tick × tree.IsLowerBound nat_cmp m tick)
-
-module _ (c : Calendar) (h : IsCalendar c) where
-  pub first_near : (o : Option ℕ) → IsListedFirst c.map o → (end : ℕ) → end ≡ min (c.from + 1024) (unwrap_or o 4294967295) → (tick : ℕ) → c.from ≤ tick → tick < end → NoneAhead c.ring.items c.from tick
-      → 0 < length (lane c.ring.items (tick % 1024)) → IsFirst c tick
-  first_near o listed end is tick low less none some = record {
-    none_before = λ t before. none_due c t (later o listed is t before) (λ l _. none t l before);
-    some = omega (arith, some, length-append (bucket c.map tick) (ahead c tick), ap length (in_year c tick low (omega (arith, less, is))));
-    from = low;
-  }
-    where
-      later : (o : Option ℕ) → IsListedFirst c.map o → end ≡ min (c.from + 1024) (unwrap_or o 4294967295) → (t : ℕ) → t < tick → HasTick c.map t → ⊥
-      later None never is t before there = never t there
-      later (Some first) listed is t before there = let least = le_from_not_gt first t (listed.1 t there) in omega (arith, least, before, less, is)
-
-  pub first_listed : (o : Option ℕ) → IsListedFirst c.map o → (end : ℕ) → end ≡ min (c.from + 1024) (unwrap_or o 4294967295) → NoneAhead c.ring.items c.from end → MatchOption o (IsVacant c) (IsFirst c)
-  first_listed None never end is none = λ t. none_due c t (never t) (λ low high. none t low (omega (arith, high, is, h.room)))
-  first_listed (Some first) listed end is none = record {
-    none_before = λ t before. none_due c t (λ there. let least = le_from_not_gt first t (listed.1 t there) in omega (arith, least, before)) (λ low high. none t low (omega (arith, before, high, is)));
-    some = omega (arith, h.full first listed.0, length-append (bucket c.map first) (ahead c first));
-    from = elim (cases_lt first c.from) [
-      | inl before ↦ absurd (omega (arith, h.full first listed.0, length-append (bucket c.map first) (ahead c first), ap length (h.soon first before)))
-      | inr up ↦ up
-    ];
   }
 
 -- ---- the events of the first tick go
@@ -220,3 +139,5 @@ module _ (c : Calendar) (h : IsCalendar c) (tick : ℕ) (first : IsFirst c tick)
 
     pub next_taken : (es : List Event) → es ≡ due c tick → IsTaken c new tick es
     next_taken es all = record { first = first; all = all; gone = gone; others = λ t n. elim (cases_lt tick t) [ inl after ↦ kept t after | inr before ↦ gone t before ∙ sym (first.none_before t (omega (arith, before, n))) ]; from = omega (arith, is) }
+
+pub ruleset went = (next_taken, whole)

@@ -1,9 +1,8 @@
 -- Words and lemmas of the libraries and of this crate that several proofs use.
-pub use Rattle.std.proofs.Common.{All, Bool, Err, Less, List, MatchOption, None, Ok, OnErr, OnOk, Option, Result, Some, [], ap, arith, cond, drop, drop-cons, false, get_or, inl, inr, is_lt, length, length-append, map, min, nat_cmp, nat_eq, refl, reverse, rules, slice_set, subst, suc, sym, true, true≢false, vec_len, zero, ℕ, ◌%◌, ◌++◌, ◌+◌, ◌-◌, ◌<◌, ◌∙◌, ◌∷◌, ◌≡◌, ◌≢◌, ◌≤◌}
+pub use Rattle.std.proofs.Common.{All, Bool, Err, Less, List, MatchOption, None, Ok, OnErr, OnOk, Option, Result, Some, [], ap, arith, cond, false, get_or, inl, inr, length, length-append, map, min, nat_eq, refl, reverse, rules, slice_set, subst, suc, sym, true, true≢false, vec_len, zero, ℕ, ◌%◌, ◌++◌, ◌+◌, ◌-◌, ◌<◌, ◌∙◌, ◌∷◌, ◌≡◌, ◌≢◌, ◌≤◌}
 pub use Rattle.std.proofs.lemmas.Bool.{cases_eq}
 pub use Rattle.std.proofs.lemmas.Bool.Decides.{nat_tests}
 pub use Rattle.std.proofs.lemmas.List.{get_or_default, length-set, nil_from_length, reverse-append}
-pub use Rattle.std.proofs.lemmas.Result.{on_err_weaker, on_ok_weaker}
 pub use Rattle.std.specs.FinMap.{find}
 pub use Rattle.std.specs.List.{AllByRecursion, insert}
 pub use Rattle.std.specs.Option.{option_or}

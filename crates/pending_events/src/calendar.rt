@@ -30,6 +30,7 @@ pub(crate) struct Calendar {
 
 impl Calendar {
     /// No event.
+    #[tactic(auto, using(crate::proofs::Nearby::empty_lanes))]
     pub(crate) fn new(alloc: Global) -> Result<Calendar, AllocError>
         ensures calendar { IfOk result (λ c. IsCalendar c) }
         ensures vacant { IfOk result (λ c. IsVacant c) }
@@ -60,6 +61,7 @@ impl Calendar {
     }
 
     /// Takes the events of the least tick, in two parts: those that lay in the map, which came first, and others.
+    #[tactic(auto, using(crate::proofs::Nearby::went))]
     pub(crate) fn take_first(&mut self) -> Option<(u32, Vec<Event>, Vec<Event>)>
         requires { IsCalendar self.old }
         ensures calendar { IsCalendar self.new }
@@ -110,6 +112,7 @@ fn least_listed(map: &BTreeMap<u32, Vec<Event>>) -> Option<u32>
 }
 
 /// Whether there are events in the bucket at a tick's place.
+#[tactic(auto, using(crate::proofs::Nearby::lanes))]
 fn is_filled(ring: &[Vec<Event>], tick: u32) -> bool
     requires { length ring.now ≡ year }
     ensures yes { result ≡ true → 0 < length (lane ring.now (tick % year)) }
@@ -143,6 +146,7 @@ fn take_listed(alloc: Global, map: &mut BTreeMap<u32, Vec<Event>>, tick: u32) ->
 }
 
 /// Takes the events at a tick's place out of the ring.
+#[tactic(auto, using(crate::proofs::Nearby::lanes))]
 fn take_near(alloc: Global, ring: &mut Vec<Vec<Event>>, tick: u32) -> Vec<Event>
     requires { length ring.old.items ≡ year }
     ensures whole { result.items ≡ lane ring.old.items (tick % year) }
@@ -183,6 +187,7 @@ fn put_last(
 
 /// Adds an event to the end of the bucket at a place of the ring.
 #[inline(always)]
+#[tactic(auto, using(crate::proofs::Nearby::lanes))]
 fn put_near(
     spare: &mut Vec<Vec<Event>>,
     ring: &mut Vec<Vec<Event>>,

@@ -10,14 +10,8 @@ before_other r h = grind arith
 not_after : (r : Ordering) → is_lt (ordering_reverse r) ≡ false → is_eq r ≡ false → is_less r ≡ true
 not_after r h n = grind arith
 
-reversed : (r : Ordering) → is_less r ≡ true → is_lt (ordering_reverse r) ≡ false
-reversed r h = grind arith
-
-abbrev pub less : EntryRecord → EntryRecord → Bool
+abbrev less : EntryRecord → EntryRecord → Bool
 less a b = is_lt (key_cmp a.key b.key)
-
-pub not_before : (a b : EntryRecord) → is_before a.key b.key ≡ true → less b a ≡ false
-not_before a b h = ap is_lt (keys_total.antisymm b.key a.key) ∙ reversed _ h
 
 other_key : (a b : EntryRecord) → a.key ≢ b.key → same a b ≡ false
 other_key a b n = false_from_ne_true _ (λ h. n (exact_keys a.key b.key (tie _ h)))

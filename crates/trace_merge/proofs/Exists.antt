@@ -1,5 +1,9 @@
 -- Parts that rise and share no key can be merged: each entry is put into its place.
-use Rattle.trace_merge.proofs.Words.{◌≡◌, refl, ap, ◌∙◌, sym, subst, Bool, true, false, IsTrue, List, [], ◌∷◌, is_eq, Less, Ordering, IsPermutation, arith, All, All-cons, All-from_recursion, All-head, All-permutation, All-tail, All-weaker, ordering_reverse, IsPermutation-cons, IsPermutation-middle, IsPermutation-refl, IsPermutation-sym, IsPermutation-trans, AllPass-from_list_all, is_less, is_before, is_rising, EntryRecord, IsDistinct, keys_total, both_true, all_of, AllDiffer, IsMergeOf, same}
+use Rattle.trace_merge.proofs.Words.{◌≡◌, refl, ap, ◌∙◌, sym, subst, true, false, IsTrue, List, [], ◌∷◌, is_eq, Less, Ordering, IsPermutation, arith, All, All-cons, All-from_recursion, All-head, All-permutation, All-tail, All-weaker, IsPermutation-cons, IsPermutation-middle, IsPermutation-refl, IsPermutation-sym, IsPermutation-trans, AllPass-from_list_all, is_less, is_before, is_rising, EntryRecord, IsDistinct, inl, inr, key_cmp, keys_total, both_true, all_of, AllDiffer, IsMergeOf, same}
+use Rattle.std.proofs.Common.{true≢false}
+use Rattle.std.specs.Ordering.{eq_by_cmp}
+use Rattle.std.proofs.lemmas.Cmp.{tied_itself}
+use Rattle.process_api.proofs.KeyOrder.{before_or_not}
 use Rattle.trace_merge.proofs.Distinct.{rising_more}
 
 abbrev Before : EntryRecord → EntryRecord → Type 0
@@ -8,31 +12,22 @@ Before a b = is_before a.key b.key ≡ true
 less_is : (r : Ordering) → is_less r ≡ true → r ≡ Less
 less_is r h = grind arith
 
-not_less : (r : Ordering) → is_less (ordering_reverse r) ≡ false → is_eq r ≡ false → is_less r ≡ true
-not_less r h n = grind arith
-
-before-trans : (a b c : EntryRecord) → Before a b → Before b c → Before a c
-before-trans a b c h k = ap is_less (keys_total.trans a.key b.key c.key (less_is _ h) (less_is _ k))
-
 -- a list that rises and has just these entries
 abbrev Sorted : List EntryRecord → Type 0
 Sorted es = (sorted : List EntryRecord) × IsPermutation es sorted × IsTrue (is_rising sorted)
-
--- an entry is put behind or before the first one of a list
-placed : (e f : EntryRecord) (fs : List EntryRecord) (b : Bool) → is_before f.key e.key ≡ b → same e f ≡ false → IsTrue (is_rising (f ∷ fs)) → Sorted (e ∷ fs) → Sorted (e ∷ f ∷ fs)
-placed e f fs true before other r s =
-    let later = All-cons (Before f) e fs before (AllPass-from_list_all (λ g. is_before f.key g.key) fs (both_true _ _ r).0) in
-    (f ∷ s.0, IsPermutation-trans _ _ _ (IsPermutation-sym _ _ (IsPermutation-middle (f ∷ []) e fs)) (IsPermutation-cons f _ _ s.1), rising_more f s.0 (All-permutation (Before f) (e ∷ fs) s.0 s.1 later) s.2)
-placed e f fs false not other r s =
-    let before : Before e f = not_less _ (sym (ap is_less (keys_total.antisymm f.key e.key)) ∙ not) other in
-    let later = All-weaker (Before f) (Before e) (λ g h. before-trans e f g before h) fs (AllPass-from_list_all (λ g. is_before f.key g.key) fs (both_true _ _ r).0) in
-    (e ∷ f ∷ fs, IsPermutation-refl _, rising_more e (f ∷ fs) (All-cons (Before e) f fs before later) r)
 
 put : (e : EntryRecord) (es : List EntryRecord) → All (λ f. same e f ≡ false) es → IsTrue (is_rising es) → Sorted (e ∷ es)
 put e [] apart r = (e ∷ [], IsPermutation-refl _, refl)
 put e (f ∷ fs) apart r =
     let P : EntryRecord → Type 0 = λ g. same e g ≡ false in
-    placed e f fs (is_before f.key e.key) refl (All-head P f fs apart) r (put e fs (All-tail P f fs apart) (both_true _ _ r).1)
+    let after = AllPass-from_list_all (λ g. is_before f.key g.key) fs (both_true _ _ r).0 in
+    elim (before_or_not e.key f.key) [
+      | inl b ↦ (e ∷ f ∷ fs, IsPermutation-refl _, rising_more e (f ∷ fs) (All-cons (Before e) f fs (ap is_less b) (All-weaker (Before f) (Before e) (λ g h. ap is_less (keys_total.trans e.key f.key g.key b (less_is _ h))) fs after)) r)
+      | inr (inl s) ↦ absurd (true≢false (sym (ap is_eq (tied_itself keys_total f.key)) ∙ subst (λ k. eq_by_cmp key_cmp k f.key ≡ false) s (All-head P f fs apart)))
+      | inr (inr b) ↦
+          (let s = put e fs (All-tail P f fs apart) (both_true _ _ r).1 in
+          (f ∷ s.0, IsPermutation-trans _ _ _ (IsPermutation-sym _ _ (IsPermutation-middle (f ∷ []) e fs)) (IsPermutation-cons f _ _ s.1), rising_more f s.0 (All-permutation (Before f) (e ∷ fs) s.0 s.1 (All-cons (Before f) e fs (ap is_less b) after)) s.2))
+    ]
 
 in_order : (es : List EntryRecord) → AllDiffer es → Sorted es
 unfolding IsDistinct

@@ -3,13 +3,11 @@ pub use Rattle.std.proofs.Common.{inl, inr, Bool, Equal, Global, IsPermutation, 
 pub use Rattle.std.proofs.lemmas.Bool.{false_from_ne_true}
 pub use Rattle.std.proofs.lemmas.Cmp.{eq_by_cmp_equiv}
 pub use Rattle.std.proofs.lemmas.List.{append-nil, length-set, map-append, nil_from_length, take_more_set, with_items_is}
-pub use Rattle.std.proofs.lemmas.List.Elements.{All-append, All-cons, All-from_recursion, All-head, All-push, All-tail, All-weaker, recursion_from_All}
-pub use Rattle.std.proofs.lemmas.List.Kept.{IsSortedBy-push}
-pub use Rattle.std.proofs.lemmas.List.Sorted.{All-permutation, IsPermutation-append, IsPermutation-append_comm, IsPermutation-append_left, IsPermutation-append_right, IsPermutation-cons, IsPermutation-middle, IsPermutation-pop_more, IsPermutation-refl, IsPermutation-sym, IsPermutation-trans, answers_always, ranks_by, sorted_far, length_permutation}
+pub use Rattle.std.proofs.lemmas.List.Elements.{All-append, All-cons, All-from_recursion, All-head, All-tail, All-weaker, recursion_from_All}
+pub use Rattle.std.proofs.lemmas.List.Sorted.{All-permutation, IsPermutation-append, IsPermutation-append_comm, IsPermutation-append_left, IsPermutation-append_right, IsPermutation-cons, IsPermutation-middle, IsPermutation-refl, IsPermutation-sym, IsPermutation-trans, answers_always, ranks_by, sorted_far, length_permutation}
 pub use Rattle.std.proofs.lemmas.List.Sums.{AllPass-from_list_all, list_all-from_AllPass}
 pub use Rattle.std.proofs.lemmas.Map.Keys.{IsDistinct-IsPermutation}
-pub use Rattle.std.proofs.lemmas.Option.{get_or_from_slice_get}
-pub use Rattle.std.specs.List.{All, AllByRecursion}
+pub use Rattle.std.specs.List.{All}
 unfoldable pub use Rattle.std.specs.List.{IsDistinct}
 pub use Rattle.std.specs.Option.{unwrap_or}
 pub use Rattle.std.specs.Ordering.{ordering_reverse}

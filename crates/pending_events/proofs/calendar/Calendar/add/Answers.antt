@@ -1,17 +1,10 @@
-use Rattle.pending_events.proofs.Words.{refl, ◌≡◌, arith}
-use Rattle.pending_events.proofs.Nearby.{all_came, far_put, near_put, put_calendar}
+use Rattle.pending_events.proofs.Words.{◌≡◌, arith}
+use Rattle.pending_events.proofs.Nearby.{all_came, near_put, put_calendar}
 use Rattle.pending_events.proofs.calendar.Calendar.add.Goals as goal
 
-pub returns-then-tick-self : goal.returns-then-tick-self
-returns-then-tick-self c =
+pub returns-then-tick-self-clause-calendar : goal.returns-then-tick-self-clause-calendar
+returns-then-tick-self-clause-calendar c =
     let f = c.args.self.now in
     let r = c.requires in
-    let put = near_put f r.calendar c.args.tick r.from _ c.put_near.new.ring c.if-tick-self.true c.put_near.ensures.put in
-    record { calendar = put_calendar f r.calendar c.args.tick r.from _ c.put_near.new.ring f.map (omega arith) (all_came (λ e. e.0.tick ≡ c.args.tick) c.put_near.result c.args.event r.tick) c.put_near.ensures.long r.calendar.full put; put = put; from = refl }
-
-pub returns : goal.returns
-returns c =
-    let f = c.args.self.now in
-    let r = c.requires in
-    let put = far_put f r.calendar c.args.tick r.from _ c.file.new.map c.if-tick-self.false c.file.ensures.put in
-    record { calendar = put_calendar f r.calendar c.args.tick r.from _ f.ring c.file.new.map (omega arith) (all_came (λ e. e.0.tick ≡ c.args.tick) c.file.result c.args.event r.tick) refl (c.file.ensures.full r.calendar.full) put; put = put; from = refl }
+    put_calendar f r.calendar c.args.tick r.from _ c.put_near.new.ring f.map (omega arith) (all_came (λ e. e.0.tick ≡ c.args.tick) c.put_near.result c.args.event r.tick) c.put_near.ensures.long r.calendar.full
+    (near_put f r.calendar c.args.tick r.from _ c.put_near.new.ring c.if-tick-self.true c.put_near.ensures.put)

@@ -1,4 +1,4 @@
-use Rattle.trace_merge.proofs.Words.{◌≡◌, ◌<◌, ◌≤◌, ◌++◌, [], List, map, ap, ◌∙◌, sym, subst, arith, inl, inr, length, with_items_is, All, All-permutation, All-weaker, MatchOption, IsPermutation, IsPermutation-trans, length_permutation, EntryRecord, Lane, AllDiffer, all_of}
+use Rattle.trace_merge.proofs.Words.{◌≡◌, ◌<◌, ◌≤◌, ◌++◌, [], List, map, ap, ◌∙◌, sym, subst, arith, inl, inr, length, with_items_is, All, All-weaker, MatchOption, IsPermutation, IsPermutation-trans, length_permutation, EntryRecord, Lane, AllDiffer, all_of}
 use Rattle.trace_merge.proofs.Distinct.{Ahead, goes_on, rest_differ}
 use Rattle.trace_merge.proofs.Exists.{has_merge}
 use Rattle.trace_merge.proofs.Gathering.{rest_of, taken_ahead, taken_before}
@@ -34,11 +34,6 @@ returns-clause-front c =
 
 pub returns-clause-left : goal.returns-clause-left
 returns-clause-left c = has_merge (map rest_of c.loop-at.lanes.items) (invariant_of-result c)
-
-pub returns-clause-whole : goal.returns-clause-whole
-returns-clause-whole c =
-    let left = all_of (map rest_of c.loop-at.lanes.items) in
-    All-permutation (λ x. All (λ y. x.key.tick < y.key.tick) left) c.loop-at.merged.entries.items c.in_order.result.items c.in_order.ensures.same c.loop-at.invariant.ahead
 
 pub returns-clause-enough : goal.returns-clause-enough
 returns-clause-enough c = elim c.match-at.branch [

@@ -1,12 +1,7 @@
-use Rattle.trace_merge.proofs.Words.{arith, nil_from_length, ◌≡◌, ◌++◌, [], ◌∷◌, map, ap, ◌∙◌, sym, subst, All, All-head, All-tail, IsTrue, append-nil, append_assoc, map-append, is_rising, into_iter_items, AllDiffer, all_of}
+use Rattle.trace_merge.proofs.Words.{arith, nil_from_length, ◌≡◌, ◌++◌, [], ◌∷◌, map, ap, ◌∙◌, sym, subst, All, All-tail, IsTrue, append-nil, append_assoc, map-append, is_rising, into_iter_items, AllDiffer, all_of}
 use Rattle.trace_merge.proofs.Distinct.{all_differ}
 use Rattle.trace_merge.proofs.Gathering.{items_of, rest_of}
 use Rattle.trace_merge.proofs.pieces.Merging.new.Goals as goal
-
-pub invariant_of-push-clause-rising : goal.invariant_of-push-clause-rising
-invariant_of-push-clause-rising c =
-    subst (λ es. IsTrue (is_rising es)) (sym c.into-rest.ensures.0)
-    (All-head (λ part. IsTrue (is_rising part.items)) c.in-Some.part (into_iter_items c.next.new.self) (subst (All (λ part. IsTrue (is_rising part.items))) c.in-Some.ensures.steps.0 c.loop-part.invariant.rising))
 
 pub loop-part-preserved : goal.loop-part-preserved
 loop-part-preserved c =
