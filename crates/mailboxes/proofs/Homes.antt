@@ -1,6 +1,5 @@
 -- Tickets, which go out and come back, their owner's passes, and inboxes.
-use Rattle.mailboxes.proofs.Words.{◌≡◌, ℕ, zero, suc, List, [], ◌∷◌, ◌++◌, Option, Some, None, length, map, get_or, refl, sym, ap, ◌∙◌, subst, arith, append_assoc, Vec, All, map-append, All-nil, All-cons, All-head, All-tail, Letter, MailboxId, TicketView, HomeView, homes_of, one_back, all_back, earlier_of, soonest_in, SlipView, slip_of, letters_in, with-map, Shuffled, Shuffled-next}
-use Rattle.std.specs.List.Sorted.{IsPermutation}
+use Rattle.mailboxes.proofs.Words.{◌≡◌, ℕ, zero, suc, List, [], ◌∷◌, ◌++◌, Option, Some, None, length, map, get_or, refl, ap, ◌∙◌, arith, Vec, All, All-nil, All-cons, All-head, All-tail, Letter, MailboxId, TicketView, HomeView, homes_of, one_back, all_back, earlier_of, soonest_in, SlipView, slip_of, with-map}
 
 abbrev pub mailbox_of : HomeView → MailboxId
 mailbox_of h = h.mailbox
@@ -52,13 +51,6 @@ IsIn h = h.out ≡ 0
 -- there is no letter
 abbrev pub IsEmpty : List Letter → Type 0
 IsEmpty letters = letters ≡ []
-
--- one inbox more was emptied
-pub taken_more : (all : List (List Letter)) (lists new : List (Vec Letter)) (inbox : List Letter) (rest : List (List Letter)) (v : Vec Letter) → new ≡ lists ++ v ∷ [] → IsPermutation inbox v.items
-    → Shuffled all (letters_in lists ++ inbox ∷ rest) → Shuffled all (letters_in new ++ rest)
-taken_more all lists new inbox rest v is same was =
-    subst (Shuffled all) (sym (ap (λ xs. letters_in xs ++ rest) is ∙ (ap (λ xs. xs ++ rest) (map-append items_of lists (v ∷ [])) ∙ append_assoc (letters_in lists) (v.items ∷ []) rest)))
-    (Shuffled-next all (letters_in lists) rest inbox v.items was same)
 
 -- ---- the least tick of letters
 

@@ -1,5 +1,5 @@
 -- Tickets and lists of letters that change at one place.
-use Rattle.mailboxes.proofs.Words.{◌≡◌, ℕ, zero, suc, ◌<◌, List, [], ◌∷◌, ◌++◌, length, map, replicate, take, drop, set, get_or, refl, ap, ◌∙◌, arith, append-nil, Vec, Letter, TicketView, letters_in}
+use Rattle.mailboxes.proofs.Words.{◌≡◌, ℕ, zero, suc, ◌<◌, List, [], ◌∷◌, ◌++◌, length, map, replicate, set, get_or, refl, ap, ◌∙◌, arith, append-nil, Vec, Letter, TicketView, letters_in}
 use Rattle.ledger.specs.Places.{each_with}
 use Rattle.mailboxes.proofs.Homes.{whose, posted_by}
 
@@ -32,18 +32,3 @@ pub with_nothing : (ps : List (List Letter)) (n : ℕ) → each_with (◌++◌) 
 with_nothing [] n = refl
 with_nothing (p ∷ ps) zero = refl
 with_nothing (p ∷ ps) (suc n) = λ j. append-nil p j ∷ with_nothing ps n j
-
--- one function was applied below a place, and another from it on
-module _ {A B : Type 0} (f g : A → B) where
-  abbrev pub turned : ℕ → List A → List B
-  turned i xs = map f (take i xs) ++ map g (drop i xs)
-
-  pub turned_at : (xs : List A) (i : ℕ) (d : B) (e : A) → i < length xs → get_or (turned i xs) i d ≡ g (get_or xs i e)
-  turned_at [] i d e lt = absurd (omega arith)
-  turned_at (x ∷ xs) zero d e lt = refl
-  turned_at (x ∷ xs) (suc i) d e lt = turned_at xs i d e (omega arith)
-
-  pub turned_more : (xs : List A) (i : ℕ) (e : A) → i < length xs → set (turned i xs) i (f (get_or xs i e)) ≡ turned (suc i) xs
-  turned_more [] i e lt = absurd (omega arith)
-  turned_more (x ∷ xs) zero e lt = refl
-  turned_more (x ∷ xs) (suc i) e lt = ap (λ l. f x ∷ l) (turned_more xs i e (omega arith))
