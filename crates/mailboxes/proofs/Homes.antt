@@ -1,6 +1,5 @@
 -- Tickets, which go out and come back, their owner's passes, and inboxes.
-use Rattle.mailboxes.proofs.Words.{◌≡◌, ℕ, zero, suc, ◌+◌, List, [], ◌∷◌, ◌++◌, Option, Some, None, length, map, get_or, refl, sym, ap, ◌∙◌, subst, arith, append_assoc, Vec, All, length-map, map-append, All-nil, All-cons, All-head, All-tail, All-map, All-weaker, map-map, splat_is_map, Letter, MailboxId, TicketView, HomeView, ticket_of, one_out, one_back, all_back, earlier_of, soonest_in, SlipView, slip_of, unused, letters_in, with-map, Shuffled, Shuffled-next}
-use Rattle.std.specs.List.Sorted.{IsPermutation}
+use Rattle.mailboxes.proofs.Words.{◌≡◌, ℕ, zero, suc, List, [], ◌∷◌, ◌++◌, Option, Some, None, length, map, get_or, refl, ap, ◌∙◌, arith, Vec, All, All-nil, All-cons, All-head, All-tail, Letter, MailboxId, TicketView, HomeView, homes_of, one_back, all_back, earlier_of, soonest_in, SlipView, slip_of, with-map}
 
 abbrev pub mailbox_of : HomeView → MailboxId
 mailbox_of h = h.mailbox
@@ -13,9 +12,6 @@ whose t = t.mailbox
 
 abbrev pub posted_by : TicketView → List Letter
 posted_by t = t.posted
-
-pub out-mailboxes : (hs : List HomeView) → map mailbox_of (map one_out hs) ≡ map mailbox_of hs
-out-mailboxes = map-map mailbox_of one_out
 
 pub back-mailboxes : (hs : List HomeView) (rows : List (List Letter)) → map mailbox_of (all_back hs rows) ≡ map mailbox_of hs
 back-mailboxes = with-map one_back mailbox_of (λ h x. refl)
@@ -35,27 +31,13 @@ back-posted k (h ∷ hs) [] e = absurd (omega arith)
 back-posted zero (h ∷ hs) (x ∷ rows) e = refl
 back-posted (suc k) (h ∷ hs) (x ∷ rows) e = back-posted k hs rows (omega arith)
 
--- a ticket of each mailbox, none of them used, is a slip that isn't used
-abbrev pub blank : HomeView → TicketView
-blank h = ticket_of h.mailbox []
-
 abbrev pub slip_with : List TicketView → SlipView
 slip_with ts = slip_of (map (λ t. t.mailbox) ts) (map (λ t. t.posted) ts)
 
-pub blank-slip : (hs : List HomeView) → slip_with (map blank hs) ≡ unused (map mailbox_of hs)
-blank-slip hs = λ i. slip_of (map-map whose blank hs i) ((map-map posted_by blank hs ∙ sym (splat_is_map hs (length (map mailbox_of hs)) [] (sym (length-map hs mailbox_of)))) i)
-
--- each mailbox has k tickets out, and none came back
-abbrev pub Even : ℕ → HomeView → Type 0
-Even k h = (h.out ≡ k) × (h.back ≡ [])
-
-pub out-even : (k n : ℕ) (hs : List HomeView) → n ≡ k + 1 → All (Even k) hs → All (Even n) (map one_out hs)
-out-even k n hs e even = All-map (Even n) one_out hs (All-weaker (Even k) (λ h. Even n (one_out h)) (λ h p. (ap (λ j. j + 1) p.0 ∙ sym e, p.1)) hs even)
-
-pub none_back : (k : ℕ) (hs : List HomeView) → All (λ h. h.back ≡ []) hs → get_or (map back_of hs) k [] ≡ []
-none_back k [] h = refl
-none_back zero (h ∷ hs) none = All-head (λ (h : HomeView). h.back ≡ []) h hs none
-none_back (suc k) (h ∷ hs) none = none_back k hs (All-tail (λ (h : HomeView). h.back ≡ []) h hs none)
+pub none_back : (n k : ℕ) (ids : List MailboxId) → get_or (map back_of (homes_of n ids)) k [] ≡ []
+none_back n k [] = refl
+none_back n zero (m ∷ ids) = refl
+none_back n (suc k) (m ∷ ids) = none_back n k ids
 
 -- ---- inboxes
 
@@ -69,13 +51,6 @@ IsIn h = h.out ≡ 0
 -- there is no letter
 abbrev pub IsEmpty : List Letter → Type 0
 IsEmpty letters = letters ≡ []
-
--- one inbox more was emptied
-pub taken_more : (all : List (List Letter)) (lists new : List (Vec Letter)) (inbox : List Letter) (rest : List (List Letter)) (v : Vec Letter) → new ≡ lists ++ v ∷ [] → IsPermutation inbox v.items
-    → Shuffled all (letters_in lists ++ inbox ∷ rest) → Shuffled all (letters_in new ++ rest)
-taken_more all lists new inbox rest v is same was =
-    subst (Shuffled all) (sym (ap (λ xs. letters_in xs ++ rest) is ∙ (ap (λ xs. xs ++ rest) (map-append items_of lists (v ∷ [])) ∙ append_assoc (letters_in lists) (v.items ∷ []) rest)))
-    (Shuffled-next all (letters_in lists) rest inbox v.items was same)
 
 -- ---- the least tick of letters
 

@@ -12,5 +12,5 @@ pub use Rattle.ledger.specs.Ledger.{has_put, has_taken}
 pub use Rattle.ledger.specs.declared.account.Account.{Account}
 pub use Rattle.process_api.specs.declared.key.Key.{Key}
 pub use Rattle.process_api.specs.declared.message.Letter.{Letter}
-pub use Rattle.mailboxes.specs.Mailbox.{HomeView, MailboxId, TicketView, all_back, earlier_of, one_back, one_out, soonest_in, ticket_of}
+pub use Rattle.mailboxes.specs.Mailbox.{HomeView, MailboxId, TicketView, all_back, earlier_of, home_of, homes_of, one_back, one_out, soonest_in, ticket_of}
 pub use Rattle.mailboxes.specs.Mailboxes.{IsSlipOf, MailboxesView, SlipView, letters_in, slip_of, unused}

@@ -1,6 +1,6 @@
 -- What is seen of one mailbox's tickets and of its owner's pass.
 use Rattle.std.specs.Coded.{Coded, code_by, coded×, coded_ℕ, coded_list}
-use Rattle.std.specs.Prelude.{ℕ, ◌+◌, ◌-◌, List, [], ◌∷◌, ◌++◌, Option, Some, None, min, refl}
+use Rattle.std.specs.Prelude.{ℕ, ◌+◌, ◌-◌, List, [], ◌∷◌, ◌++◌, Option, Some, None, map, min, refl}
 use Rattle.std.specs.Global.{Global}
 use Rattle.crossbeam_queue.specs.SegTies.{SegId}
 use Rattle.process_api.specs.declared.message.Letter.{Letter}
@@ -37,6 +37,10 @@ ticket_of mailbox posted = record { mailbox = mailbox; posted = posted }
 
 abbrev pub home_of : MailboxId → ℕ → List Letter → HomeView
 home_of mailbox out back = record { mailbox = mailbox; out = out; back = back }
+
+-- the owner's passes of these mailboxes: so many tickets of each are out, and none came back
+abbrev pub homes_of : ℕ → List MailboxId → List HomeView
+homes_of out mailboxes = map (λ m. home_of m out []) mailboxes
 
 -- one more ticket is out
 abbrev pub one_out : HomeView → HomeView

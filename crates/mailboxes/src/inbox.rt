@@ -36,7 +36,7 @@ impl Inbox {
     pub fn soonest(&self) -> Option<u32>
         ensures { result ≡ soonest_in self.now }
     {
-        self.home.soonest()
+        self.home.soonest
     }
 
     /// Gives all letters away, in some order. The error is that memory was refused. The letters may be gone then.

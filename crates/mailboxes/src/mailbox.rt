@@ -79,7 +79,7 @@ impl Model for Ticket {
 pub(crate) struct Home {
     pass: Pass,
     // the least tick of what was posted by tickets that came back, if anything was
-    soonest: Option<u32>,
+    pub soonest: Option<u32>,
     // lists of trays, kept for their memory: what they hold means nothing. The first receiver's pass has those of all
     pub kept: Vec<Vec<Vec<Parcel>>>,
 }
@@ -101,15 +101,6 @@ impl Model for Home {
         × (h.pass.me.view.client.parts ≤ h.pass.me.view.client.made)
         × (h.pass.me.view.client.taken ≡ []) × (h.pass.me.view.client.told ≡ None) × (h.pass.me.spare ≡ None)
         × (h.soonest ≡ soonest_in h.pass.me.view.client.put) };
-}
-
-impl Home {
-    /// The least tick of what was posted by tickets that came back, if anything was.
-    pub(crate) fn soonest(&self) -> Option<u32>
-        ensures { result ≡ soonest_in self.now.back }
-    {
-        self.soonest
-    }
 }
 
 impl Mailbox {

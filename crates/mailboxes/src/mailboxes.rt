@@ -1,8 +1,9 @@
 //! The mailboxes whole: the queues, and the owner's pass of each.
-ghost use Rattle.std.specs.Prelude.{◌≡◌, ◌≤◌, ◌+◌, ℕ, [], true, length, map, IfOk, IfErr, OnOk, OnErr, vec_len};
+ghost use Rattle.std.specs.Prelude.{◌≡◌, ◌≤◌, ◌<◌, ◌+◌, ℕ, [], true, length, map, IfOk, IfErr, OnOk, OnErr, vec_len};
 ghost use Rattle.std.specs.List.{All, AllZip};
 ghost use Rattle.std.specs.List.Sorted.{IsPermutation};
 ghost use Rattle.process_api.specs.declared.run_error.RunError.TheVariants.{Memory};
+ghost use Rattle.mailboxes.specs.Mailbox.{all_back};
 ghost use Rattle.mailboxes.specs.Mailboxes.{IsSlipOf, unused, with_letter, posted_to, list_of, letters_in, mailboxes_of};
 
 use crate::inbox::Inbox;
@@ -24,16 +25,15 @@ pub struct Mailboxes {
 }
 
 impl Model for Mailboxes {
-    ghost use Rattle.std.specs.Prelude.{◌≡◌, map, []};
-    ghost use Rattle.std.specs.List.{All};
+    ghost use Rattle.std.specs.Prelude.{◌≡◌};
+    ghost use Rattle.mailboxes.specs.Mailbox.{homes_of};
     ghost use Rattle.mailboxes.specs.Mailboxes.{MailboxesView, mailboxes_of};
 
     ghost Value = { MailboxesView };
 
     ghost view = { λ m. mailboxes_of m.shared m.slips };
 
-    ghost invariant = { λ m. (m.shared ≡ map (λ h. h.mailbox) m.homes.items)
-        × All (λ h. (h.out ≡ m.slips) × (h.back ≡ [])) m.homes.items };
+    ghost invariant = { λ m. m.homes.items ≡ homes_of m.slips m.shared };
 }
 
 // The letters of each inbox, in some order.
@@ -74,18 +74,52 @@ fn inboxes_of(
     Ok(inboxes)
 }
 
+// Lists that were kept for their memory, if there are any.
+fn kept(homes: &mut Vec<Home>) -> Option<Vec<Vec<Parcel>>>
+    ensures { homes.new.items ≡ homes.old.items }
+{
+    homes.first_mut()?.kept.pop()
+}
+
+// Keeps the memory of lists.
+fn keep(homes: &mut Vec<Home>, lists: Vec<Vec<Parcel>>)
+    ensures { homes.new.items ≡ homes.old.items }
+{
+    if let Some(home) = homes.first_mut() {
+        let _kept = home.kept.push(lists);
+    }
+}
+
+// Takes a slip back.
+fn take_back(boxes: &Vec<Mailbox>, homes: &mut Vec<Home>, slip: Slip)
+    requires slip { IsSlipOf boxes.now.items slip }
+    requires homes { map (λ h. h.mailbox) homes.old.items ≡ boxes.now.items }
+    requires out { All (λ h. 0 < h.out) homes.old.items }
+    ensures homes { homes.new.items ≡ all_back homes.old.items slip.posted }
+    ensures lists { length slip.posted ≡ vec_len homes.old }
+{
+    let Slip { tickets, kept } = slip;
+    let mut at = 0;
+    for ticket in tickets {
+        boxes[at].take_back(&mut homes[at], ticket);
+        at += 1;
+    }
+    keep(homes, kept);
+}
+
 impl Mailboxes {
     /// A mailbox for each receiver, 1 to n. The error is that memory was refused.
     pub fn new(alloc: Global, n: u16) -> Result<Mailboxes, AllocError>
         ensures count { IfOk result (λ m. length m.mailboxes ≡ n) }
         ensures slips { IfOk result (λ m. m.slips ≡ 0) }
     {
-        let (shared, homes) = SharedMailboxes::open(alloc, n)?;
-        Ok(Mailboxes {
-            shared,
-            homes,
-            slips: 0,
-        })
+        let mut inboxes = Vec::with_capacity(alloc, usize::from(n))?;
+        for _ in 0..n {
+            let (mailbox, home) = Mailbox::open(alloc)?;
+            let inbox = Inbox { mailbox, home };
+            inboxes.push(inbox)?;
+        }
+        Mailboxes::of_inboxes(alloc, inboxes)
     }
 
     /// Whether they are as new mailboxes for receivers 1 to n are: no slip was made since.
@@ -110,10 +144,20 @@ impl Mailboxes {
         ensures slip { IfOk result (λ s. s ≡ unused self.old.mailboxes) }
         ensures err { OnErr result (self.new ≡ self.old) }
     {
-        let slips = self.slips.checked_add(1).ok_or(AllocError)?;
-        let slip = self.shared.slip(alloc, &mut self.homes)?;
-        self.slips = slips;
-        Ok(slip)
+        let Mailboxes {
+            shared,
+            homes,
+            slips,
+        } = self;
+        let more = slips.checked_add(1).ok_or(AllocError)?;
+        let mut tickets = Vec::with_capacity(alloc, homes.len())?;
+        for at in 0..homes.len() {
+            let ticket = shared.boxes[at].ticket(&mut homes[at]);
+            tickets.push_reserved(ticket);
+        }
+        *slips = more;
+        let kept = kept(homes).unwrap_or(Vec::new(alloc));
+        Ok(Slip { tickets, kept })
     }
 
     /// Posts a letter to its receiver, 1 to n. Where memory is refused the letter comes back, and the slip and the
@@ -167,10 +211,10 @@ impl Mailboxes {
             mut homes,
             ..
         } = self;
-        for slip in slips {
-            shared.take_back(&mut homes, slip);
-        }
         let SharedMailboxes { boxes } = shared;
+        for slip in slips {
+            take_back(&boxes, &mut homes, slip);
+        }
         Ok(inboxes_of(alloc, boxes, homes)?)
     }
 

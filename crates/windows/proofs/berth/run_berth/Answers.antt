@@ -2,12 +2,6 @@ use Rattle.windows.proofs.Words.{ap, ◌∙◌, with_letters}
 use Rattle.windows.proofs.Posting.{posting_opens, posted_more}
 use Rattle.windows.proofs.berth.run_berth.Goals as goal
 
-pub run_into-requires-clause-tray : goal.run_into-requires-clause-tray
-run_into-requires-clause-tray g c κs within = (posting_opens _ _ _ c.requires.slip c.in_ok-tray.ensures.fits c.in_ok-tray.ensures.empty _ c.in_ok-tray.ensures.slip).0.waiting ∙ c.requires.boxes
-
-pub post_all-requires-clause-tray : goal.post_all-requires-clause-tray
-post_all-requires-clause-tray g c = c.run_into.ensures.tray ∙ (posting_opens _ _ _ c.requires.slip c.in_ok-tray.ensures.fits c.in_ok-tray.ensures.empty _ c.in_ok-tray.ensures.slip).0.waiting
-
 pub returns-clause-ran : goal.returns-clause-ran
 returns-clause-ran g c = λ p is.
     let ran = c.in_ok-run_into.ensures.ran p is in

@@ -55,22 +55,6 @@ loop-event-preserved g c =
       within = omega (arith, longer, new.part.ok.0, old.part.ok.0);
     }
 
-pub take-requires-clause-own : goal.take-requires-clause-own
-take-requires-clause-own g c κs within =
-    let i = c.loop-event.invariant in
-    let taken = rw c.in-Some.is at c.in_ok-event.ensures.least in
-    i.stands.4.own c.in-Some.event.0 c.in-Some.event.1 taken.0.there ∙ sym i.own
-
-pub loop-event-smaller : goal.loop-event-smaller
-loop-event-smaller g c =
-    let old = c.loop-event.berth.part in
-    let new = c.take.new.self.part in
-    let longer : length new.items ≡ length old.items + 1 = one_longer old.items new.items _ c.in_ok-take.ensures.part in
-    omega (arith, longer, new.ok.0, old.ok.0)
-
-pub returns-then-len-left-clause-limit : goal.returns-then-len-left-clause-limit
-returns-then-len-left-clause-limit g c is history after rest letters run = omega (arith, c.if-len-left.true, c.len.ensures, c.args.berth.now.part.ok.0)
-
 pub returns-then-made-left-clause-limit : goal.returns-then-made-left-clause-limit
 returns-then-made-left-clause-limit g c is history after rest letters run =
     let mind = g.M.Process.mind in

@@ -63,9 +63,5 @@ of_hands-requires g c =
     let same = ends _ _ _ _ _ (sym c.loop-work.work-iterator.rest.ok.0 ∙ c.in-None.ensures.steps.0) inv.own in
     subst (λ l. All (λ (h : HandView _). h.deques ≡ deques_of l) c.loop-work.hands.items) (sym same) inv.of_all
 
-pub returns-clause-own : goal.returns-clause-own
-returns-clause-own g c =
-    c.in_ok-of_hands.ensures.own ∙ ends _ _ _ _ _ (sym c.loop-work.work-iterator.rest.ok.0 ∙ c.in-None.ensures.steps.0) c.loop-work.invariant.own
-
 pub returns-clause-works : goal.returns-clause-works
 returns-clause-works g c = λ s end m count is. run_taken_as g.M.Process.mind s end m _ _ _ _ (c.loop-work.invariant.works s end m count is).1 c.in_ok-of_hands.ensures.taken

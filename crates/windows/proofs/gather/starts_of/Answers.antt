@@ -1,28 +1,10 @@
-use Rattle.windows.proofs.Words.{length-append, ℕ, List, ◌≡◌, ◌+◌, ◌∷◌, ◌++◌, [], length, map, refl, ap, sym, ◌∙◌, subst, vec_len, arith, All, into_iter_items, All-nil, All-push, All-same, All-head, All-tail, MailboxId, MailboxesView, mailboxes_of, unused, HandView, deques_of, all_put, IsDealt, IsFresh, Start, map_turn}
+use Rattle.windows.proofs.Words.{length-append, ℕ, List, ◌≡◌, ◌+◌, ◌∷◌, ◌++◌, [], length, refl, ap, ◌∙◌, subst, vec_len, arith, All, into_iter_items, All-push, All-same, All-head, All-tail, MailboxId, MailboxesView, mailboxes_of, unused, HandView, deques_of, all_put, IsDealt, IsFresh, Start, map_turn}
 use Rattle.windows.proofs.gather.starts_of.Goals as goal
 
 slip_more : (old new : MailboxesView) (ids : List MailboxId) (before n n' : ℕ) → new ≡ mailboxes_of old.mailboxes (old.slips + 1) → old ≡ mailboxes_of ids (before + n) → n' ≡ n + 1 → new ≡ mailboxes_of ids (before + n')
 slip_more old new ids before n n' e is more =
     let many : (before + n) + 1 ≡ before + n' = omega (arith, more) in
     e ∙ (λ i. mailboxes_of ((is i).mailboxes) ((is i).slips + 1)) ∙ ap (mailboxes_of ids) many
-
-pub loop-hand-init : goal.loop-hand-init
-loop-hand-init g c =
-    let m = c.args.mailboxes.now in
-    let dealer = c.args.dealer in
-    let hands = c.in_ok-hands.hands in
-    let none = c.in_ok-starts.ensures.items in
-    let all : into_iter_items c.into_iter-hand-iterator.result ≡ hands.items = c.into_iter-hand-iterator.ensures.into_iter_gives.0 in
-    let zero : m.slips ≡ m.slips + vec_len c.in_ok-starts.starts = omega (arith, c.in_ok-starts.ensures.len) in
-    let Fresh : Start g.row.M.Denot → Type 0 = λ b. IsFresh (deques_of dealer) m.mailboxes b.hand b.slip in
-    let Knows : Start g.row.M.Denot → Type 0 = λ b. b.hand.known ≡ all_put dealer in
-    record {
-      own = (λ i. map (λ (b : Start _). b.hand.own) (none i) ++ map (λ (h : HandView _). h.own) (all i)) ∙ c.in_ok-hands.ensures.own;
-      slips = ap (mailboxes_of m.mailboxes) zero;
-      fresh = All-same Fresh _ [] none (All-nil Fresh);
-      known = All-same Knows _ [] none (All-nil Knows);
-      left = subst (All (IsDealt dealer)) (sym all) c.in_ok-hands.ensures.hands;
-    }
 
 pub loop-hand-preserved : goal.loop-hand-preserved
 loop-hand-preserved g c =

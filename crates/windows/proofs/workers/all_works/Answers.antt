@@ -1,12 +1,6 @@
 use Rattle.windows.proofs.Words.{rules}
-use Rattle.windows.proofs.Refused.{first_of, last_of}
+use Rattle.windows.proofs.Refused.{last_of}
 use Rattle.windows.proofs.workers.all_works.Goals as goal
-
-pub returns-clause-ok : goal.returns-clause-ok
-returns-clause-ok g c = (c.in_ok-works.works, c.in_ok-works.work, c.in_ok-works.ensures.ok.0, c.in_ok-works.ensures.ok.1, c.in_ok-push.ensures.items)
-
-pub returns-in_err-works-clause-err : goal.returns-in_err-works-clause-err
-returns-in_err-works-clause-err g c = first_of c.args.before c.args.mine c.from_residual.result (search rules)
 
 pub returns-in_err-push-clause-err : goal.returns-in_err-push-clause-err
 returns-in_err-push-clause-err g c =

@@ -1,5 +1,5 @@
-use Rattle.mailboxes.proofs.Words.{◌≡◌, ◌++◌, ◌∷◌, ℕ, List, [], length, map, get_or, sym, ap, ◌∙◌, subst, arith, append_assoc, All, flat_map, into_iter_items, All-tail, All-weaker, Letter, MailboxesView, SlipView, IsSlipOf}
-use Rattle.mailboxes.proofs.Homes.{mailbox_of, back_of, back-mailboxes, back-out, back-posted, none_back, Even}
+use Rattle.mailboxes.proofs.Words.{◌≡◌, ◌++◌, ◌∷◌, ℕ, List, [], length, map, get_or, sym, ap, ◌∙◌, subst, arith, append_assoc, All, flat_map, into_iter_items, All-tail, All-map, map-map, map-id, Letter, MailboxId, HomeView, home_of, homes_of, MailboxesView, SlipView, IsSlipOf}
+use Rattle.mailboxes.proofs.Homes.{mailbox_of, back_of, back-mailboxes, back-out, back-posted, none_back}
 use Rattle.mailboxes.proofs.mailboxes.Mailboxes.into_inboxes.Goals as goal
 
 abbrev sent : ℕ → List SlipView → List Letter
@@ -7,15 +7,19 @@ sent k ss = flat_map (λ s. get_or s.posted k []) ss
 
 pub loop-slip-init : goal.loop-slip-init
 loop-slip-init c =
-    let hs = c.self.inside.homes.items in
-    let all : into_iter_items c.into_iter-slip-iterator.result ≡ c.args.slips.items = c.into_iter-slip-iterator.ensures.into_iter_gives.0 in
-    let of = ap (λ (m : MailboxesView). m.mailboxes) c.self.view_is in
+    let ids : List MailboxId = c.shared.inside.boxes.items in
+    let n = c.self.inside.slips in
+    let fresh : MailboxId → HomeView = λ m. home_of m n [] in
+    let rest = into_iter_items c.into_iter-slip-iterator.result in
+    let all : rest ≡ c.args.slips.items = c.into_iter-slip-iterator.ensures.into_iter_gives.0 in
+    let of : ids ≡ c.args.self.mailboxes = c.shared.view_is ∙ ap (λ (m : MailboxesView). m.mailboxes) c.self.view_is in
+    let are : c.self.inside.homes.items ≡ homes_of n ids = c.self.invariant ∙ ap (homes_of n) (sym c.shared.view_is) in
+    let many : n ≡ length rest = omega (arith, ap (λ (m : MailboxesView). m.slips) c.self.view_is, c.requires.all, c.args.slips.ok.0, ap length all) in
     record {
-      of = c.self.invariant.0;
-      slips = subst (All (IsSlipOf c.self.inside.shared)) (sym all) (subst (λ m. All (IsSlipOf m) c.args.slips.items) (sym of) c.requires.slips);
-      out = All-weaker (Even c.self.inside.slips) (λ h. h.out ≡ length (into_iter_items c.into_iter-slip-iterator.result))
-          (λ h even. omega (arith, even.0, ap (λ (m : MailboxesView). m.slips) c.self.view_is, c.requires.all, c.args.slips.ok.0, ap length all)) hs c.self.invariant.1;
-      letters = λ k. ap (λ l. l ++ sent k (into_iter_items c.into_iter-slip-iterator.result)) (none_back k hs (All-weaker (Even c.self.inside.slips) (λ h. h.back ≡ []) (λ h even. even.1) hs c.self.invariant.1)) ∙ ap (sent k) all;
+      of = ap (map mailbox_of) are ∙ map-map mailbox_of fresh ids ∙ map-id ids;
+      slips = subst (λ (p : List MailboxId × List SlipView). All (IsSlipOf p.0) p.1) (λ i. (sym of i, sym all i)) c.requires.slips;
+      out = subst (All (λ h. h.out ≡ length rest)) (sym are) (All-map (λ (h : HomeView). h.out ≡ length rest) fresh ids (λ k d lt. many));
+      letters = λ k. ap (λ l. get_or (map back_of l) k [] ++ sent k rest) are ∙ ap (λ l. l ++ sent k rest) (none_back n k ids) ∙ ap (sent k) all;
     }
 
 pub loop-slip-preserved : goal.loop-slip-preserved
@@ -28,8 +32,8 @@ loop-slip-preserved c =
     let is = c.take_back.ensures.homes in
     let fits : length s.posted ≡ length hs = c.take_back.ensures.lists ∙ c.loop-slip.homes.ok.0 in
     record {
-      of = i.of ∙ sym (ap (map mailbox_of) is ∙ back-mailboxes hs s.posted);
-      slips = All-tail (IsSlipOf c.self.inside.shared) s rest (subst (All (IsSlipOf c.self.inside.shared)) e i.slips);
+      of = ap (map mailbox_of) is ∙ back-mailboxes hs s.posted ∙ i.of;
+      slips = All-tail (IsSlipOf c.shared.inside.boxes.items) s rest (subst (All (IsSlipOf c.shared.inside.boxes.items)) e i.slips);
       out = subst (All (λ h. h.out ≡ length rest)) (sym is) (back-out _ (length rest) hs s.posted (ap length e) fits i.out);
       letters = λ k.
           ap (λ l. get_or (map back_of l) k [] ++ sent k rest) is ∙ ap (λ l. l ++ sent k rest) (back-posted k hs s.posted fits)

@@ -6,8 +6,8 @@ abbrev pub invariant-loop-slip : goal.invariant-loop-slip
 invariant-loop-slip l =
     let rest = into_iter_items l.slip-iterator in
     record {
-      of : l.shared ≡ map (λ h. h.mailbox) l.homes.items;
-      slips : All (IsSlipOf l.shared) rest;
+      of : map (λ h. h.mailbox) l.homes.items ≡ l.boxes.items;
+      slips : All (IsSlipOf l.boxes.items) rest;
       out : All (λ h. h.out ≡ length rest) l.homes.items;
       letters : (k : ℕ) → get_or (map (λ h. h.back) l.homes.items) k [] ++ flat_map (λ s. get_or s.posted k []) rest ≡ flat_map (λ s. get_or s.posted k []) l.fn.slips.items;
     }

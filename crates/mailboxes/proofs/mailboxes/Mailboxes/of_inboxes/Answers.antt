@@ -1,5 +1,5 @@
-use Rattle.mailboxes.proofs.Words.{◌≡◌, ◌∙◌, ◌++◌, ◌∷◌, [], ap, map, length, length-append, sym, subst, arith, All, into_iter_items, map-append, All-head, All-push, All-same, All-tail}
-use Rattle.mailboxes.proofs.Homes.{mailbox_of, Even, IsEmpty}
+use Rattle.mailboxes.proofs.Words.{◌≡◌, ◌∙◌, ◌++◌, ◌∷◌, List, [], ap, length, length-append, sym, subst, arith, All, into_iter_items, map-append, All-head, All-tail, MailboxId, home_of, homes_of}
+use Rattle.mailboxes.proofs.Homes.{IsEmpty}
 use Rattle.mailboxes.proofs.mailboxes.Mailboxes.of_inboxes.Goals as goal
 
 pub loop-inbox-preserved : goal.loop-inbox-preserved
@@ -8,15 +8,13 @@ loop-inbox-preserved c =
     let rest = into_iter_items c.next.new.self in
     let e : into_iter_items c.loop-inbox.inbox-iterator ≡ c.in-Some.inbox ∷ rest = c.in-Some.ensures.steps.0 in
     let empty = subst (All IsEmpty) e i.empty in
-    let boxes = c.loop-inbox.boxes.items in
-    let homes = c.loop-inbox.homes.items in
-    let mailbox = c.inbox.inside.mailbox in
-    let home = c.inbox.inside.home in
+    let boxes : List MailboxId = c.loop-inbox.boxes.items in
+    let mailbox : MailboxId = c.inbox.inside.mailbox in
+    let of = c.inbox.invariant in
+    let none = c.inbox.view_is ∙ All-head IsEmpty c.in-Some.inbox rest empty in
     let more = c.in_ok-push.ensures.items in
-    let longer = c.in_ok-push-2.ensures.items in
     record {
-      boxes = more ∙ ((λ j. i.boxes j ++ (sym c.inbox.invariant.0 j) ∷ []) ∙ (sym (map-append mailbox_of homes (home ∷ [])) ∙ ap (map mailbox_of) (sym longer)));
-      even = All-same (Even 0) _ (homes ++ home ∷ []) longer (All-push (Even 0) homes home i.even (c.inbox.invariant.1, c.inbox.view_is ∙ All-head IsEmpty c.in-Some.inbox rest empty));
+      homes = c.in_ok-push-2.ensures.items ∙ (λ j. i.homes j ++ home_of (of.0 j) (of.1 j) (none j) ∷ []) ∙ sym (map-append (λ m. home_of m 0 []) boxes (mailbox ∷ [])) ∙ ap (homes_of 0) (sym more);
       empty = All-tail IsEmpty c.in-Some.inbox rest empty;
       count = omega (arith, i.count, ap length e, ap length more, length-append boxes (mailbox ∷ []));
     }

@@ -1,5 +1,5 @@
 use Rattle.mailboxes.proofs.Words.{◌≡◌, length, map, all_back}
-use Rattle.mailboxes.proofs.shared.SharedMailboxes.take_back.Given as goal
+use Rattle.mailboxes.proofs.mailboxes.take_back.Given as goal
 
 abbrev pub invariant-loop-ticket : goal.invariant-loop-ticket
 invariant-loop-ticket l =
