@@ -57,13 +57,13 @@ pub use Rattle.window_laws.specs.Theorems.{IsMerge, end_to_end}
 pub use Rattle.window_laws.specs.Window.{AreBerths, BerthRun, IsPosted, IsSameStage}
 pub use Rattle.windows.specs.Berth.{IsBerth, all_filed, made_in, most_in_part, with_letters}
 pub use Rattle.windows.specs.Inside.Agenda.{AreFrom, AreLists, AreOne, IsParted, all_ahead, all_in, first_tick, in_box}
-pub use Rattle.windows.specs.Inside.Closing.{IsNextWindow}
+pub use Rattle.windows.specs.Inside.Closing.{IsClosed, IsNextWindow, delivered, kept_in}
 pub use Rattle.windows.specs.Inside.Last.{AreParts, IsMerged, TookAllBut, TookFrontOf}
 pub use Rattle.windows.specs.Inside.Shared.{AreAnswers, ArePosting, AreReady, IsAnswerTo, IsOneTooLong, IsStart, IsWorkBy, IsWorkIn}
 pub use Rattle.windows.specs.Inside.Workers.{AreRun, AreRunBy, BringsTogether, HasLong, IsFresh, IsOutcome, IsReady, IsRest, IsSent, IsStay, IsWork, RiseBy, Stay, given_to, is_to, left_in, sent_in, stay, taken_in}
 pub use Rattle.windows.specs.Refusals.{AreThere, IsFirstRefusal, IsRefusal, IsRefusalOfOne}
 pub use Rattle.windows.specs.Sink.{IsRefusalOfSink, TookAll, TookClosed, TookFront, TookTrace, writes_of}
-pub use Rattle.windows.specs.Stage.{AreHome, IsClosed, IsCountOfWorkers, kept_in, IsNextStart, IsOpened, IsStage, IsStageAfter, IsWindowRun, delivered, of_process, stage_of, start_event}
+pub use Rattle.windows.specs.Stage.{AreHome, IsCountOfWorkers, IsNextStart, IsOpened, IsStage, IsStageAfter, IsWindowRun, of_process, stage_of, start_event}
 pub use Rattle.windows.specs.declared.berth.Berth.{Berth}
 pub use Rattle.windows.specs.declared.stage.Stage.{Stage}
 pub use Rattle.windows.specs.declared.workers.Start.{Start}
