@@ -1,5 +1,5 @@
 -- What the list does before a tick, and what it does from there on.
-use Rattle.windows.proofs.Words.{◌≡◌, ◌⊎◌, ℕ, ◌<◌, ◌≤◌, inl, inr, List, [], ◌∷◌, ◌++◌, sym, ap, ◌∙◌, subst, arith, Result, Ok, Err, IfErr, IsErrOf, All, map-append, All-nil, All-cons, EntryRecord, Key, StepInput, RunError, Limit, Spawn, IsInRange, Record, Mind, Pair, setting_of, Setting, IsSound, World, IsWorld, Has, NoneBelow, Run, taken, entries, IsTrace, setting_sound, IsRefusalOfSink, IsStageAfter, Stage}
+use Rattle.windows.proofs.Words.{◌≡◌, ◌⊎◌, ℕ, ◌<◌, ◌≤◌, inl, inr, List, [], ◌∷◌, ◌++◌, sym, ap, ◌∙◌, subst, arith, Result, IfErr, IfErr-at_err, IsErrOf, All, map-append, All-nil, All-cons, EntryRecord, Key, StepInput, RunError, Limit, Spawn, IsInRange, Record, Mind, Pair, setting_of, Setting, IsSound, World, IsWorld, Has, NoneBelow, Run, taken, entries, IsTrace, setting_sound, IsRefusalOfSink, IsStageAfter, Stage}
 use Rattle.trace_laws.proofs.Worlds.{taken_cases, made_sent, taken_world}
 
 module _ {Mind : Type 0} (S : Setting Mind) where
@@ -37,9 +37,5 @@ stage_cut mind stage trace is s same ranges whole full =
 
 -- a sink refuses no thread, and no place in the trace
 pub not_of_sink : {X : Type 0} (r : Result X RunError) → IfErr r IsRefusalOfSink → IsErrOf r Limit ⊎ IsErrOf r Spawn → ⊥
-not_of_sink (Ok x) h (inl e) = cc
-not_of_sink (Ok x) h (inr e) = cc
-not_of_sink (Err x) (inl m) (inl e) = cc
-not_of_sink (Err x) (inl m) (inr e) = cc
-not_of_sink (Err x) (inr m) (inl e) = cc
-not_of_sink (Err x) (inr m) (inr e) = cc
+not_of_sink r h (inl e) = elim (IfErr-at_err IsRefusalOfSink e h) [ inl memory ↦ cc | inr write ↦ cc ]
+not_of_sink r h (inr e) = elim (IfErr-at_err IsRefusalOfSink e h) [ inl memory ↦ cc | inr write ↦ cc ]

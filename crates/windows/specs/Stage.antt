@@ -1,12 +1,11 @@
 -- What a stage of the program stands for.
-use Rattle.std.specs.Prelude.{◌≡◌, ◌⊎◌, ℕ, zero, suc, ◌+◌, ◌++◌, ◌*◌, ◌<◌, ◌≤◌, List, [], ◌∷◌, length, map, min, slice_get, slice_index_or, Some, vec_len}
+use Rattle.std.specs.Prelude.{◌≡◌, ◌⊎◌, ℕ, zero, suc, ◌+◌, ◌++◌, ◌*◌, ◌<◌, ◌≤◌, List, [], length, map, min, slice_get, slice_index_or, Some, vec_len}
 use Rattle.std.specs.FinMap as events
 use Rattle.std.specs.List.{All}
 use Rattle.std.specs.List.Sorted.{IsPermutation}
 use Rattle.process_api.specs.Bounds.{most_step_actions}
 use Rattle.process_api.specs.EntryRecord.{EntryRecord}
 use Rattle.process_api.specs.Mind.{Mind}
-use Rattle.process_api.specs.declared.message.Letter.{Letter}
 use Rattle.process_api.specs.declared.message.StepInput.TheVariants.{Start}
 use Rattle.scenario_record.specs.Record.{Record}
 use Rattle.trace_laws.specs.History.{IsIn}
@@ -15,12 +14,7 @@ use Rattle.trace_laws.specs.ScenarioSetting.{setting_of}
 use Rattle.steps.specs.Seat.{process_of, own_of, IsSeated}
 use Rattle.trace_laws.specs.Reached.{IsReached}
 use Rattle.trace_laws.specs.Step.{Events}
-use Rattle.trace_laws.specs.World.{World, IsWorld, NoneBelow, joined, start_of, opening_process}
-use Rattle.trace_merge.specs.Parts.{all_of}
-use Rattle.trace_laws.specs.Taken.{event_of}
-use Rattle.mailboxes.specs.Mailboxes.{SlipView, list_of, posted_to}
-use Rattle.steps.specs.declared.seat.Seat.{Seat}
-use Rattle.std.specs.Global.{Vec}
+use Rattle.trace_laws.specs.World.{World, IsWorld, NoneBelow, start_of, opening_process}
 use Rattle.windows.specs.Berth.{IsBerth}
 use Rattle.window_laws.specs.Machine.{StageRecord, Act, StandsFor, IsRun, end_of, first_status}
 use Rattle.window_laws.specs.Theorems.{IsMerge}
@@ -100,30 +94,6 @@ module _ {M : Type 0} (mind : M → Mind) where
       × IsNextStart S.horizon (map (λ b. b.pending) new.berths.items) new.start
 
 module _ {M : Type 0} where
-  -- what stays of a berth: its process, the events that are pending, and the entries of its part
-  abbrev pub kept_in : Berth M → Seat M × Events × List EntryRecord
-  kept_in b = (b.seat, b.pending, b.part.items)
-
-  -- each berth with the letters of its list, which has given its part
-  abbrev pub delivered : List (Berth M) → List (List Letter) → List (Seat M × Events × List EntryRecord)
-  delivered [] lists = []
-  delivered (b ∷ bs) [] = []
-  delivered (b ∷ bs) (letters ∷ lists) = (b.seat, joined b.pending (map event_of letters), []) ∷ delivered bs lists
-
-  -- The berths that a window of so many workers left got the letters that these slips posted to them, and gave these
-  -- parts. There are so many entries more, and the next window starts at the least pending tick
-  pub record IsClosed (left so_far workers : ℕ) (berths : List (Berth M)) (slips : List SlipView)
-      (parts : List (Vec EntryRecord)) (new : Stage M) : Type 0 where
-    pub lists : List (List Letter)
-    pub count : length lists ≡ length berths
-    pub letters : (r : ℕ) → list_of lists r ≡ posted_to slips r
-    pub berths_are : map kept_in new.berths.items ≡ delivered berths lists
-    pub parts_are : map (λ v. v.items) parts ≡ map (λ b. b.part.items) berths
-    pub few : length (all_of (map (λ v. v.items) parts)) ≤ left
-    pub longer : new.so_far ≡ so_far + length (all_of (map (λ v. v.items) parts))
-    pub start : IsNextStart new.scenario.now.horizon (map (λ b. b.pending) new.berths.items) new.start
-    pub workers_are : new.workers ≡ workers
-
   -- how many workers are started: one for each process with an event below the end, but no more than the plan has
   pub record IsCountOfWorkers (end workers : ℕ) (berths : List (Berth M)) (started : ℕ) : Type 0 where
     pub waiting : List (Berth M)

@@ -11,7 +11,8 @@ ghost use Rattle.trace_merge.specs.Parts.{all_of};
 ghost use Rattle.windows.specs.Inside.Agenda.{AreOne, in_box};
 ghost use Rattle.window_laws.specs.Machine.{StandsFor};
 ghost use Rattle.windows.specs.Refusals.{IsRefusalOfOne};
-ghost use Rattle.windows.specs.Stage.{stage_of, start_event, delivered, kept_in, IsClosed, IsOpened, IsNextStart, IsStageAfter};
+ghost use Rattle.windows.specs.Inside.Closing.{delivered, kept_in, IsClosed};
+ghost use Rattle.windows.specs.Stage.{stage_of, start_event, IsOpened, IsNextStart, IsStageAfter};
 
 use crate::agenda::Agenda;
 use crate::berth::Berth;

@@ -33,8 +33,8 @@ module _ {M : Type 0} (mind : M → Mind) where
   IsOneTooLong w berths = HasLong mind w.streams w.end w.left berths
 
   module _ {G : Type 0} (w : Shared M G) where
-    -- a worker's beginning: its hand and its slip are of this window, and unused. It may take what was put in, and all of
-    -- that is ready
+    -- a worker's beginning: its hand and its slip are of this window, and unused. It may take what was put in, all of
+    -- which is ready
     abbrev pub IsStart : Start M → Type 0
     IsStart s = IsFresh w.fronts.now.items w.mailboxes.now s.hand s.slip × AreReady w.window.now s.hand.known
 
@@ -61,8 +61,8 @@ module _ {M : Type 0} (mind : M → Mind) where
       pub errors : IfErr r IsRefusalOfOne
       pub limit : IsErrOf r Limit → IsOneTooLong w.window.now s.hand.known
 
-    -- What the workers that began so answer together: the work of each, or why there is none. It is the limit only where
-    -- one of the berths that all of them know is too long
+    -- What the workers that began so answer together: the work of each, or why there is none. It is the limit only
+    -- where one of the berths that all of them know is too long
     pub record AreAnswers (starts : List (Start M)) (r : Result (Vec (Work M)) RunError) : Type 0 where
       pub count : IfOk r (λ works. vec_len works ≡ length starts)
       pub own : IfOk r (λ works. map (λ x. x.hand.own) works.items ≡ map (λ b. b.hand.own) starts)
