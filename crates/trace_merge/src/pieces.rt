@@ -19,6 +19,8 @@ use std::marker::Model;
 pub struct Merging {
     alloc: Global,
     lanes: Vec<Lane>,
+    // for how many entries the next piece gets memory: a quarter more than the last one had
+    room: usize,
 }
 
 impl Model for Merging {
@@ -34,7 +36,7 @@ impl Model for Merging {
 }
 
 /// How many entries are left.
-fn room_for(lanes: &[Lane]) -> usize {
+fn left_in(lanes: &[Lane]) -> usize {
     lanes.iter().fold(0, |room: usize, lane| room.saturating_add(lane.rest.len()))
 }
 
@@ -55,7 +57,8 @@ impl Merging {
             let (next, rest) = (0, part.into());
             lanes.push(Lane { next, rest })?;
         }
-        Ok(Merging { alloc, lanes })
+        let room = 0;
+        Ok(Merging { alloc, lanes, room })
     }
 
     /// The first piece of what the parts merge to, and what is left of them. The piece has whole ticks, and at least so
@@ -72,9 +75,13 @@ impl Merging {
         ensures enough { IfOk result (λ r. (least ≤ length r.0.items) ⊎ (all_of r.1 ≡ [])) }
         ensures err { IfErr result (λ e. e ≡ RunError.Memory) }
     {
-        let Merging { alloc, mut lanes } = self;
+        let Merging {
+            alloc,
+            mut lanes,
+            room,
+        } = self;
         // The last tick may bring more than are wanted.
-        let room = room_for(&lanes).min(least.saturating_mul(2));
+        let room = room.max(least.saturating_mul(2)).min(left_in(&lanes));
         let entries = Vec::with_capacity(alloc, room)?;
         let rises = true;
         let mut merged = Joined { entries, rises };
@@ -85,7 +92,9 @@ impl Merging {
             }
             at = take_tick(&mut merged, &mut lanes, tick)?;
         }
-        Ok((merged.in_order(), Merging { alloc, lanes }))
+        let piece = merged.in_order();
+        let room = piece.len().saturating_add(piece.len() / 4);
+        Ok((piece, Merging { alloc, lanes, room }))
     }
 
     /// The memory of the parts, in empty lists, joins others: that of the first part is the last. Where memory is

@@ -80,7 +80,7 @@ fn keep(kept: &mut Vec<Inbox>, inbox: Option<Inbox>) -> Result<(), AllocError>
     Ok(())
 }
 
-/// An empty list in the memory of the last room, or else with room for so many entries.
+/// An empty list for about so many entries, in the memory of the last room where that is large enough.
 fn empty_part(
     alloc: Global,
     rooms: &mut Vec<Vec<Entry>>,
@@ -89,11 +89,11 @@ fn empty_part(
     ensures { IfOk result (λ part. part.items ≡ []) }
 {
     match rooms.pop() {
-        Some(mut room) => {
+        Some(mut room) if count <= room.capacity() => {
             room.clear();
             Ok(room)
         }
-        None => Vec::with_capacity(alloc, count),
+        _ => Vec::with_capacity(alloc, count.saturating_add(count / 8)),
     }
 }
 
