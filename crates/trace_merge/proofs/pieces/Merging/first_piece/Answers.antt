@@ -30,13 +30,13 @@ invariant_of-result c = rest_differ c.args.self (map rest_of c.loop-at.lanes.ite
 pub returns-clause-front : goal.returns-clause-front
 returns-clause-front c =
     let h = c.loop-at.invariant in
-    goes_on c.args.self (map rest_of c.loop-at.lanes.items) c.loop-at.merged.entries.items (subst (λ ls. AllDiffer (all_of ls)) c.self.view_is c.self.invariant) h.same c.in_order.result.items c.in_order.ensures.same c.in_order.ensures.order h.ahead
+    goes_on c.args.self (map rest_of c.loop-at.lanes.items) c.loop-at.merged.entries.items (subst (λ ls. AllDiffer (all_of ls)) c.self.view_is c.self.invariant) h.same c.in_order-piece.result.items c.in_order-piece.ensures.same c.in_order-piece.ensures.order h.ahead
 
 pub returns-clause-left : goal.returns-clause-left
 returns-clause-left c = has_merge (map rest_of c.loop-at.lanes.items) (invariant_of-result c)
 
 pub returns-clause-enough : goal.returns-clause-enough
 returns-clause-enough c = elim c.match-at.branch [
-  | in-Some+then-len-least w ↦ inl (omega (arith, w.if-len-least.true, w.len.ensures, c.loop-at.merged.entries.ok.0, length_permutation c.loop-at.merged.entries.items c.in_order.result.items c.in_order.ensures.same))
+  | in-Some+then-len-least w ↦ inl (omega (arith, w.if-len-least.true, w.len.ensures, c.loop-at.merged.entries.ok.0, length_permutation c.loop-at.merged.entries.items c.in_order-piece.result.items c.in_order-piece.ensures.same))
   | in_default w ↦ inr (subst (λ o. MatchOption o (rests c.loop-at.lanes.items ≡ []) (λ t. All (λ e. e.key.tick < t) c.loop-at.merged.entries.items)) w.in_default.is c.loop-at.invariant.before)
 ]
