@@ -8,10 +8,13 @@ use crate::group::Ends;
 use crate::outages::Drawn;
 use scenario::LinkOutage;
 use scenario_record::Outage;
+use std::alloc::Global;
 
 /// What of a run its outages depend on, besides the network.
 #[derive(Clone, Copy)]
 pub(crate) struct Course {
+    /// Where memory comes from.
+    pub(crate) alloc: Global,
     /// How many processes there are.
     pub(crate) processes: u16,
     /// The tick at which the run ends.

@@ -16,7 +16,6 @@ use std::alloc::Global;
 
 /// Adds the outages of all tables of a kind.
 fn draw_all<T: DrawsOutages>(
-    alloc: Global,
     tables: &[T],
     course: Course,
     drawn: &mut Drawn,
@@ -29,7 +28,7 @@ fn draw_all<T: DrawsOutages>(
         < length (drawn.old ++ of_each (T.outages course.processes course.horizon course.seed) tables.now) }
 {
     for i in 0..tables.len() {
-        tables[i].draw(alloc, i, course, drawn)?;
+        tables[i].draw(i, course, drawn)?;
     }
     Ok(())
 }
@@ -55,14 +54,15 @@ pub fn draw(
         → most_outages < length (drawn_of processes horizon seed network.now) }
 {
     let course = Course {
+        alloc,
         processes,
         horizon,
         seed,
     };
     let mut drawn = Drawn::new(alloc);
-    draw_all(alloc, &network.bursts, course, &mut drawn)?;
-    draw_all(alloc, &network.cuts, course, &mut drawn)?;
-    draw_all(alloc, &network.pauses, course, &mut drawn)?;
-    draw_all(alloc, &network.replays, course, &mut drawn)?;
+    draw_all(&network.bursts, course, &mut drawn)?;
+    draw_all(&network.cuts, course, &mut drawn)?;
+    draw_all(&network.pauses, course, &mut drawn)?;
+    draw_all(&network.replays, course, &mut drawn)?;
     Ok(drawn.into_outages())
 }

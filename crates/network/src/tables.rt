@@ -16,7 +16,6 @@ use crate::outages::Drawn;
 use crate::source::Source;
 use crate::words::SourceWords;
 use process_api::{Pid, ProcSet};
-use std::alloc::Global;
 use std::slice::from_ref;
 
 /// Says when links have outages: a table of sources.
@@ -28,13 +27,7 @@ pub(crate) trait DrawsOutages {
     ghost outages: { (processes horizon seed before : ℕ) → Self → List LinkOutage };
 
     /// Adds the outages of this table, which has so many of its kind before it.
-    fn draw(
-        &self,
-        alloc: Global,
-        before: usize,
-        course: Course,
-        drawn: &mut Drawn,
-    ) -> Result<(), DrawError>
+    fn draw(&self, before: usize, course: Course, drawn: &mut Drawn) -> Result<(), DrawError>
         requires ranges { is_in_range self.now }
         requires few { before < most_tables }
         ensures ok { OnOk result (drawn.new
@@ -45,7 +38,6 @@ pub(crate) trait DrawsOutages {
 
 /// Adds the outages of links that each are a source by itself, of a table of a kind with so many before it.
 fn draw_alone<S: Source>(
-    alloc: Global,
     source: &S,
     set: &LinkSet,
     kind: Kind,
@@ -62,7 +54,7 @@ fn draw_alone<S: Source>(
         ++ flat_map (alone course.seed kind before (λ words. S.outages source.now words course.horizon))
         (links_of set.now course.processes)) }
 {
-    let links = links_between(alloc, &set.from, &set.to, set.both, course.processes)?;
+    let links = links_between(course.alloc, &set.from, &set.to, set.both, course.processes)?;
     for link in &links {
         let stream = kind.stream(before, link_place(link));
         let mut words = SourceWords::new(course.seed, stream);
@@ -80,15 +72,8 @@ impl DrawsOutages for Burst {
     ghost outages = { of_burst };
 
     #[tactic(auto, unfolding(crate::specs::Drawn::of_burst))]
-    fn draw(
-        &self,
-        alloc: Global,
-        before: usize,
-        course: Course,
-        drawn: &mut Drawn,
-    ) -> Result<(), DrawError> {
+    fn draw(&self, before: usize, course: Course, drawn: &mut Drawn) -> Result<(), DrawError> {
         draw_alone(
-            alloc,
             &self.rhythm,
             &self.links,
             Kind::Burst,
@@ -108,14 +93,8 @@ impl DrawsOutages for Cut {
     ghost outages = { of_cut };
 
     #[tactic(auto, unfolding(crate::specs::Drawn::of_cut))]
-    fn draw(
-        &self,
-        alloc: Global,
-        before: usize,
-        course: Course,
-        drawn: &mut Drawn,
-    ) -> Result<(), DrawError> {
-        let links = links_between(alloc, &self.one, &self.other, true, course.processes)?;
+    fn draw(&self, before: usize, course: Course, drawn: &mut Drawn) -> Result<(), DrawError> {
+        let links = links_between(course.alloc, &self.one, &self.other, true, course.processes)?;
         let mut words = SourceWords::new(course.seed, Kind::Cut.stream(before, 0));
         self.rhythm
             .draw_on(&links, course.horizon, &mut words, drawn)
@@ -126,7 +105,6 @@ impl Pause {
     /// Adds the outages of a process that pauses, of this table, which has so many of its kind before it.
     fn draw_of(
         &self,
-        alloc: Global,
         before: usize,
         p: Pid,
         course: Course,
@@ -142,7 +120,7 @@ impl Pause {
         let mut own = ProcSet::new();
         own.insert(p);
         let n = course.processes;
-        let links = links_between(alloc, &Group::Members(own), &Group::All, false, n)?;
+        let links = links_between(course.alloc, &Group::Members(own), &Group::All, false, n)?;
         let stream = Kind::Pause.stream(before, u64::from(p.number()) - 1);
         let mut words = SourceWords::new(course.seed, stream);
         self.rhythm
@@ -158,16 +136,10 @@ impl DrawsOutages for Pause {
 
     ghost outages = { of_pause };
 
-    fn draw(
-        &self,
-        alloc: Global,
-        before: usize,
-        course: Course,
-        drawn: &mut Drawn,
-    ) -> Result<(), DrawError> {
-        let pausing = members_among(alloc, &self.processes, course.processes)?;
+    fn draw(&self, before: usize, course: Course, drawn: &mut Drawn) -> Result<(), DrawError> {
+        let pausing = members_among(course.alloc, &self.processes, course.processes)?;
         for p in &pausing {
-            self.draw_of(alloc, before, *p, course, drawn)?;
+            self.draw_of(before, *p, course, drawn)?;
         }
         Ok(())
     }
@@ -182,21 +154,7 @@ impl DrawsOutages for Replay {
     ghost outages = { of_replay };
 
     #[tactic(auto, unfolding(crate::specs::Drawn::of_replay))]
-    fn draw(
-        &self,
-        alloc: Global,
-        before: usize,
-        course: Course,
-        drawn: &mut Drawn,
-    ) -> Result<(), DrawError> {
-        draw_alone(
-            alloc,
-            self,
-            &self.links,
-            Kind::Replay,
-            before,
-            course,
-            drawn,
-        )
+    fn draw(&self, before: usize, course: Course, drawn: &mut Drawn) -> Result<(), DrawError> {
+        draw_alone(self, &self.links, Kind::Replay, before, course, drawn)
     }
 }
