@@ -1,5 +1,5 @@
 -- The outages of all sources of a network, in their order.
-use Rattle.std.specs.Prelude.{ℕ, List, [], ◌∷◌, ◌++◌, map, filter, true, false}
+use Rattle.std.specs.Prelude.{ℕ, ◌<◌, List, [], ◌∷◌, ◌++◌, map, filter, length, true, false}
 use Rattle.std.specs.List.{range_with_len, flat_map, enumerate_from}
 use Rattle.scenario_record.specs.declared.outage.Outage.{Outage}
 use Rattle.network.specs.Groups.{holds, links_between, links_of, only}
@@ -10,6 +10,7 @@ use Rattle.network.specs.declared.outages.TheConstants.{MOST_OUTAGES}
 use Rattle.scenario.specs.declared.drawn.LinkOutage.{LinkOutage}
 use Rattle.network.specs.declared.group.Ends.{Ends}
 use Rattle.network.specs.declared.group.Group.TheVariants.{All}
+use Rattle.network.specs.declared.group.LinkSet.{LinkSet}
 use Rattle.network.specs.declared.kind.Kind.{Kind}
 use Rattle.network.specs.declared.kind.Kind.TheVariants as kind
 use Rattle.network.specs.declared.network.Burst.{Burst}
@@ -21,6 +22,9 @@ use Rattle.network.specs.declared.network.Network.{Network}
 -- the most outages that are drawn in a run
 abbrev pub most_outages : ℕ
 most_outages = MOST_OUTAGES
+
+abbrev pub AreTooMany : List LinkOutage → Type 0
+AreTooMany outages = most_outages < length outages
 
 -- an outage of a link
 abbrev pub outage_on : Outage → Ends → LinkOutage
@@ -36,16 +40,18 @@ abbrev pub of_each : {T : Type 0} → (ℕ → T → List LinkOutage) → List T
 of_each of_one tables = flat_map (λ numbered. of_one numbered.0 numbered.1) (enumerate_from 0 tables)
 
 -- those of a link that is a source by itself, in a table with so many of its kind before it; `its` are the outages that
--- the words make
+-- the words make. And those of all links of a set
 abbrev pub alone : (seed : ℕ) → Kind → ℕ → (Words → List Outage) → Ends → List LinkOutage
 alone seed kind i its link =
     on_each (link ∷ []) (its (words_of seed (stream_number kind i (stream_of link.from link.to))))
 
+abbrev pub of_links : (n seed : ℕ) → Kind → ℕ → LinkSet → (Words → List Outage) → List LinkOutage
+of_links n seed kind i set its = flat_map (alone seed kind i its) (links_of set n)
+
 -- in a run of n processes up to a horizon, under a seed. Of each table with so many of its kind before it:
 module _ (n horizon seed : ℕ) where
   unfoldable pub of_burst : ℕ → Burst → List LinkOutage
-  of_burst i its =
-      flat_map (alone seed kind.Burst i (λ words. episodes its.rhythm words horizon)) (links_of its.links n)
+  of_burst i its = of_links n seed kind.Burst i its.links (λ words. episodes its.rhythm words horizon)
 
   -- all links between the groups, both ways, are cut at once
   unfoldable pub of_cut : ℕ → Cut → List LinkOutage
@@ -63,8 +69,7 @@ module _ (n horizon seed : ℕ) where
   of_pause i its = flat_map (pause_of i its) (filter (holds its.processes) (range_with_len 1 n))
 
   unfoldable pub of_replay : ℕ → Replay → List LinkOutage
-  of_replay i its =
-      flat_map (alone seed kind.Replay i (λ words. replayed its words horizon)) (links_of its.links n)
+  of_replay i its = of_links n seed kind.Replay i its.links (λ words. replayed its words horizon)
 
   -- all bursts, then all cuts, all pauses and all replays
   unfoldable pub drawn_of : Network → List LinkOutage

@@ -1,8 +1,8 @@
 //! All outages of a network.
-ghost use Rattle.std.specs.Prelude.{◌≡◌, ◌<◌, ◌≤◌, ◌++◌, length, OnOk, IfOk};
+ghost use Rattle.std.specs.Prelude.{◌≡◌, ◌≤◌, ◌++◌, length, OnOk, IfOk};
 ghost use Rattle.std.specs.List.{All};
 ghost use Rattle.process_api.specs.Bounds.{most_processes};
-ghost use Rattle.network.specs.Drawn.{drawn_of, most_outages, of_each};
+ghost use Rattle.network.specs.Drawn.{drawn_of, AreTooMany, most_outages, of_each};
 ghost use Rattle.network.specs.Ranges.{IsNetwork};
 ghost use Rattle.network.specs.Words.{most_tables};
 
@@ -24,8 +24,8 @@ fn draw_all<T: DrawsOutages>(
     requires few { length tables.now ≤ most_tables }
     ensures ok { OnOk result (drawn.new
         ≡ drawn.old ++ of_each (T.outages course.processes course.horizon course.seed) tables.now) }
-    ensures full { result ≡ Err DrawError.TooManyOutages → most_outages
-        < length (drawn.old ++ of_each (T.outages course.processes course.horizon course.seed) tables.now) }
+    ensures full { result ≡ Err DrawError.TooManyOutages
+        → AreTooMany (drawn.old ++ of_each (T.outages course.processes course.horizon course.seed) tables.now) }
 {
     for i in 0..tables.len() {
         tables[i].draw(i, course, drawn)?;
@@ -51,7 +51,7 @@ pub fn draw(
     ensures ok { IfOk result (λ v. v.items ≡ drawn_of processes horizon seed network.now) }
     ensures few { IfOk result (λ v. length v.items ≤ most_outages) }
     ensures full { result ≡ Err DrawError.TooManyOutages
-        → most_outages < length (drawn_of processes horizon seed network.now) }
+        → AreTooMany (drawn_of processes horizon seed network.now) }
 {
     let course = Course {
         alloc,

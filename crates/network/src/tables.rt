@@ -1,9 +1,7 @@
 //! The outages of each table.
-ghost use Rattle.std.specs.Prelude.{◌≡◌, ◌<◌, ◌≤◌, ◌++◌, ℕ, List, length, OnOk};
-ghost use Rattle.std.specs.List.{flat_map};
+ghost use Rattle.std.specs.Prelude.{◌≡◌, ◌<◌, ◌++◌, ℕ, List, OnOk};
 ghost use Rattle.scenario.specs.declared.drawn.LinkOutage.{LinkOutage};
-ghost use Rattle.network.specs.Drawn.{most_outages, alone, pause_of};
-ghost use Rattle.network.specs.Groups.{links_of};
+ghost use Rattle.network.specs.Drawn.{AreTooMany, of_links, pause_of};
 ghost use Rattle.network.specs.Ranges.{IsRhythm};
 ghost use Rattle.network.specs.Words.{most_tables};
 
@@ -32,8 +30,8 @@ pub(crate) trait DrawsOutages {
         requires few { before < most_tables }
         ensures ok { OnOk result (drawn.new
             ≡ drawn.old ++ outages course.processes course.horizon course.seed before self.now) }
-        ensures full { result ≡ Err DrawError.TooManyOutages → most_outages
-            < length (drawn.old ++ outages course.processes course.horizon course.seed before self.now) };
+        ensures full { result ≡ Err DrawError.TooManyOutages
+            → AreTooMany (drawn.old ++ outages course.processes course.horizon course.seed before self.now) };
 }
 
 /// Adds the outages of links that each are a source by itself, of a table of a kind with so many before it.
@@ -47,12 +45,11 @@ fn draw_alone<S: Source>(
 ) -> Result<(), DrawError>
     requires ranges { S.is_in_range source.now }
     requires few { before < most_tables }
-    ensures ok { OnOk result (drawn.new ≡ drawn.old
-        ++ flat_map (alone course.seed kind before (λ words. S.outages source.now words course.horizon))
-        (links_of set.now course.processes)) }
-    ensures full { result ≡ Err DrawError.TooManyOutages → most_outages < length (drawn.old
-        ++ flat_map (alone course.seed kind before (λ words. S.outages source.now words course.horizon))
-        (links_of set.now course.processes)) }
+    ensures ok { OnOk result (drawn.new ≡ drawn.old ++ of_links course.processes course.seed kind before set.now
+        (λ words. S.outages source.now words course.horizon)) }
+    ensures full { result ≡ Err DrawError.TooManyOutages
+        → AreTooMany (drawn.old ++ of_links course.processes course.seed kind before set.now
+        (λ words. S.outages source.now words course.horizon)) }
 {
     let links = links_between(course.alloc, &set.from, &set.to, set.both, course.processes)?;
     for link in &links {
@@ -114,8 +111,8 @@ impl Pause {
         requires few { before < most_tables }
         ensures ok { OnOk result (drawn.new
             ≡ drawn.old ++ pause_of course.processes course.horizon course.seed before self.now p) }
-        ensures full { result ≡ Err DrawError.TooManyOutages → most_outages
-            < length (drawn.old ++ pause_of course.processes course.horizon course.seed before self.now p) }
+        ensures full { result ≡ Err DrawError.TooManyOutages
+            → AreTooMany (drawn.old ++ pause_of course.processes course.horizon course.seed before self.now p) }
     {
         let mut own = ProcSet::new();
         own.insert(p);
