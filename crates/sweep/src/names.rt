@@ -1,5 +1,5 @@
 //! The names of the columns that rows may have.
-ghost use Rattle.std.specs.Prelude.{◌≡◌, ◌++◌, ◌∷◌, [], ◌≤◌, map, length, string_bytes, codes, IfOk, OnOk};
+ghost use Rattle.std.specs.Prelude.{◌≡◌, ◌++◌, ◌≤◌, map, length, string_bytes, IfOk, OnOk};
 ghost use Rattle.study.specs.Grid.{paths_of};
 ghost use Rattle.study.specs.Settings.{chosen, path_of, key_text};
 ghost use Rattle.sweep.specs.ColumnTable.{column_names};
