@@ -104,15 +104,9 @@ columns_of_outcomes =
 abbrev pub columns : (layer : ℕ) → List Column
 columns layer = columns_of_runs layer ++ columns_of_mistakes ++ columns_of_detections ++ columns_of_outcomes
 
-abbrev pub names_in : List Column → List (List ℕ)
-names_in = map (λ d. d.0)
-
-abbrev pub told_in : List Column → Columns → List Told
-told_in columns c = map (λ d. d.1 c) columns
-
 -- the same on each layer
 abbrev pub column_names : List (List ℕ)
-column_names = names_in (columns 1)
+column_names = map (λ d. d.0) (columns 1)
 
 -- what is told: of the runs that are done nothing where none is
 abbrev pub of_done : Columns → Option ℕ → Option ℕ
@@ -125,4 +119,4 @@ number_of c (Sum number) = of_done c (Some number)
 number_of c (IfAny number) = of_done c number
 
 abbrev pub numbers_of : (layer : ℕ) → Columns → List (Option ℕ)
-numbers_of layer c = map (number_of c) (told_in (columns layer) c)
+numbers_of layer c = map (number_of c) (map (λ d. d.1 c) (columns layer))

@@ -1,7 +1,7 @@
 //! The columns of a row from the layer on, a line for each, in order.
 ghost use Rattle.std.specs.Prelude.{◌≡◌, map};
 ghost use Rattle.sweep.specs.ColumnTable.{columns_of_runs, columns_of_mistakes, columns_of_detections};
-ghost use Rattle.sweep.specs.ColumnTable.{columns_of_outcomes, names_in, told_in, number_of};
+ghost use Rattle.sweep.specs.ColumnTable.{columns_of_outcomes, number_of};
 
 use crate::columns::Columns;
 use crate::standard_error::mistakes_error;
@@ -42,8 +42,8 @@ impl Told {
 /// The columns of the runs, their traces and letters.
 #[tactic(auto, unfolding(crate::specs::ColumnTable::columns_of_runs))]
 pub(crate) fn run_columns(layer: u8, columns: &Columns) -> [Column; 6]
-    ensures names { map (λ d. d.0.now) result ≡ names_in (columns_of_runs layer) }
-    ensures told { map (λ d. d.1) result ≡ told_in (columns_of_runs layer) columns.now }
+    ensures names { map (λ d. d.0.now) result ≡ map (λ d. d.0) (columns_of_runs layer) }
+    ensures told { map (λ d. d.1) result ≡ map (λ d. d.1 columns.now) (columns_of_runs layer) }
 {
     let sums = &columns.sums;
     let traces = &sums.traces;
@@ -60,8 +60,8 @@ pub(crate) fn run_columns(layer: u8, columns: &Columns) -> [Column; 6]
 /// The columns of the mistakes, and of the ticks without one.
 #[tactic(auto, unfolding(crate::specs::ColumnTable::columns_of_mistakes))]
 pub(crate) fn mistake_columns(columns: &Columns) -> [Column; 16]
-    ensures names { map (λ d. d.0.now) result ≡ names_in columns_of_mistakes }
-    ensures told { map (λ d. d.1) result ≡ told_in columns_of_mistakes columns.now }
+    ensures names { map (λ d. d.0.now) result ≡ map (λ d. d.0) columns_of_mistakes }
+    ensures told { map (λ d. d.1) result ≡ map (λ d. d.1 columns.now) columns_of_mistakes }
 {
     let (sums, durations) = (&columns.sums, &columns.durations);
     let (pairs, counts) = (&sums.pairs, &sums.counts);
@@ -88,8 +88,8 @@ pub(crate) fn mistake_columns(columns: &Columns) -> [Column; 16]
 /// The columns of the detections.
 #[tactic(auto, unfolding(crate::specs::ColumnTable::columns_of_detections))]
 pub(crate) fn detection_columns(columns: &Columns) -> [Column; 9]
-    ensures names { map (λ d. d.0.now) result ≡ names_in columns_of_detections }
-    ensures told { map (λ d. d.1) result ≡ told_in columns_of_detections columns.now }
+    ensures names { map (λ d. d.0.now) result ≡ map (λ d. d.0) columns_of_detections }
+    ensures told { map (λ d. d.1) result ≡ map (λ d. d.1 columns.now) columns_of_detections }
 {
     let (sums, detections) = (&columns.sums, &columns.detections);
     let pairs = &sums.pairs;
@@ -109,8 +109,8 @@ pub(crate) fn detection_columns(columns: &Columns) -> [Column; 9]
 /// The columns of the verdicts and the decisions, and of the runs to look at first.
 #[tactic(auto, unfolding(crate::specs::ColumnTable::columns_of_outcomes))]
 pub(crate) fn outcome_columns(columns: &Columns) -> [Column; 22]
-    ensures names { map (λ d. d.0.now) result ≡ names_in columns_of_outcomes }
-    ensures told { map (λ d. d.1) result ≡ told_in columns_of_outcomes columns.now }
+    ensures names { map (λ d. d.0.now) result ≡ map (λ d. d.0) columns_of_outcomes }
+    ensures told { map (λ d. d.1) result ≡ map (λ d. d.1 columns.now) columns_of_outcomes }
 {
     let (v, decisions, counts) = (
         &columns.sums.verdicts,

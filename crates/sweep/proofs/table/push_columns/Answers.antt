@@ -1,11 +1,11 @@
 use Rattle.sweep.proofs.Words.{◌≡◌, ◌∙◌, ◌++◌, ap, sym, append_assoc, map, map-append, List, fields_of, on_ok_weaker, number_text, Text}
-use Rattle.sweep.specs.ColumnTable.{Column, columns_of_detections, columns_of_mistakes, columns_of_outcomes, columns_of_runs, number_of, told_in}
+use Rattle.sweep.specs.ColumnTable.{Column, columns_of_detections, columns_of_mistakes, columns_of_outcomes, columns_of_runs, number_of}
 use Rattle.sweep.specs.declared.column_table.Told.{Told}
 use Rattle.sweep.specs.declared.columns.Columns.{Columns}
 use Rattle.sweep.proofs.table.push_columns.Goals as goal
 
 abbrev texts : Columns → List Column → List Text
-texts its part = map number_text (map (number_of its) (told_in part its))
+texts its part = map number_text (map (number_of its) (map (λ d. d.1 its) part))
 
 -- the texts of one part more
 one_more : (its : Columns) (front part : List Column) (old : List Text) {before after : List Text} → before ≡ old ++ texts its front
@@ -13,8 +13,8 @@ one_more : (its : Columns) (front part : List Column) (old : List Text) {before 
 one_more its front part old first then =
     let both : texts its (front ++ part) ≡ texts its front ++ texts its part =
     ap (λ t. map number_text (map (number_of its) t)) (map-append (λ d. d.1 its) front part)
-    ∙ (ap (map number_text) (map-append (number_of its) (told_in front its) (told_in part its))
-    ∙ map-append number_text (map (number_of its) (told_in front its)) (map (number_of its) (told_in part its))) in
+    ∙ (ap (map number_text) (map-append (number_of its) (map (λ d. d.1 its) front) (map (λ d. d.1 its) part))
+    ∙ map-append number_text (map (number_of its) (map (λ d. d.1 its) front)) (map (number_of its) (map (λ d. d.1 its) part))) in
     then ∙ (ap (λ t. t ++ texts its part) first
     ∙ (append_assoc old (texts its front) (texts its part) ∙ ap (λ t. old ++ t) (sym both)))
 
