@@ -112,16 +112,10 @@ pub(crate) fn outcome_columns(columns: &Columns) -> [Column; 22]
     ensures names { map (λ d. d.0.now) result ≡ map (λ d. d.0) columns_of_outcomes }
     ensures told { map (λ d. d.1) result ≡ map (λ d. d.1 columns.now) columns_of_outcomes }
 {
-    let (v, decisions, counts) = (
-        &columns.sums.verdicts,
-        &columns.sums.decisions,
-        &columns.sums.counts,
-    );
-    let (last, rounds, first) = (
-        &columns.last_decisions,
-        &columns.rounds,
-        &columns.first_runs,
-    );
+    let sums = &columns.sums;
+    let (v, decisions, counts) = (&sums.verdicts, &sums.decisions, &sums.counts);
+    let (last, rounds) = (&columns.last_decisions, &columns.rounds);
+    let first = &columns.first_runs;
     [
         ("strong_completeness", Count(v.strong_completeness)),
         ("weak_completeness", Count(v.weak_completeness)),
