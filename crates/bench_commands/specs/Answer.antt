@@ -112,8 +112,8 @@ module _ (input : Option (List ℕ)) (asked : Order) (piece : List ℕ) where
   Leaves = (s : Record) × IsScenarioAt input (path_of asked) s × LeavesOver s asked piece
 
 -- what went out for an order: what it asks for, or what is left where it stops
-abbrev pub GoesFor : {O A : Type 0} (told : O → Option (List ℕ)) (failed : O → ℕ) (old new : O) → Option (List ℕ) → Order
-    → Result A Fault → Type 0
+abbrev pub GoesFor : {O A : Type 0} (told : O → Option (List ℕ)) (failed : O → ℕ) (old new : O)
+    → Option (List ℕ) → Order → Result A Fault → Type 0
 GoesFor told failed old new input asked outcome =
     Goes end_of told failed old new (Answers input asked) (Writes input asked) (Leaves input asked) outcome
 

@@ -47,8 +47,8 @@ const RUN: &str = "Runs a scenario by windows that workers share; prints what `l
 const RUN_EXAMPLE: &str = "Example:
   fdbench run examples/one_crash.toml --workers 2 --window 2
 
-A run of more entries than the scenario's limit ends with status 3. The first rows of its trace may be printed by then; \
-of a report nothing is.";
+A run of more entries than the scenario's limit ends with status 3. The first rows of its trace may be printed by \
+then; of a report nothing is.";
 
 const COMPARE: &str = "Runs a scenario both ways and prints `same` or `different`";
 

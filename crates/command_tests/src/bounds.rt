@@ -188,17 +188,17 @@ links = [{ from = 1, to = 3, min = 4, max = 4 }, { from = 2, to = 3, min = SLOW,
 crash = [{ process = 2, at = 21 }]
 ";
 
-/// How long letters of process 2 take to process 3, the detector's `delta`, the place of a pair's row on layer 2, and how
-/// long its observer takes to detect the crash of process 2 on layer 2.
+/// How long letters of process 2 take to process 3, the detector's `delta`, the place of a pair's row on layer 2, and
+/// how long its observer takes to detect the crash of process 2 on layer 2.
 ///
 /// With a `delta` of 4 process 1 suspects it from tick 29 on. It hears of that itself at tick 31, by its share of tick
-/// 30, and process 3 hears of it at tick 34. With a `delta` of 5 process 1 suspects it from tick 30 on. The share of that
-/// tick doesn't have it yet, so that all hear of it ten ticks later.
+/// 30, and process 3 hears of it at tick 34. With a `delta` of 5 process 1 suspects it from tick 30 on. The share of
+/// that tick doesn't have it yet, so that all hear of it ten ticks later.
 ///
 /// Where the last set of process 2 comes to process 3 at tick 43, process 3 trusts it again. The share of tick 40 comes
-/// at tick 44, just behind that set, and so process 3 suspects it from there on: `min` is taken off, or the share of tick
-/// 50 would be meant, which comes at tick 54. Where the last set comes one tick later, at tick 44, it comes behind the
-/// share of tick 40 in that tick, and the share of tick 50 is the first that comes behind it.
+/// at tick 44, just behind that set, and so process 3 suspects it from there on: `min` is taken off, or the share of
+/// tick 50 would be meant, which comes at tick 54. Where the last set comes one tick later, at tick 44, it comes behind
+/// the share of tick 40 in that tick, and the share of tick 50 is the first that comes behind it.
 const SHARED_IN_TIME: [(&str, &str, usize, u32); 6] = [
     ("1", "4", OF_ITSELF, 31 - 21),
     ("1", "5", OF_ITSELF, 41 - 21),

@@ -89,8 +89,8 @@ fn lines(rt: HostRuntime) {
 /// What the clock shows, and how many runs are read.
 const READ: [(u64, u64); 2] = [(1_000, 0), (11_000, 100)];
 
-/// Before its runs a sweep reads their scenarios: of 400 in 10 seconds 100, so 30 seconds are left. The time of the runs
-/// begins anew.
+/// Before its runs a sweep reads their scenarios: of 400 in 10 seconds 100, so 30 seconds are left. The time of the
+/// runs begins anew.
 #[test]
 fn reading(rt: HostRuntime) {
     let alloc = rt.alloc();

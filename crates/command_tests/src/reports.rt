@@ -29,8 +29,8 @@ enum How {
     Differ,
 }
 
-/// The columns that are asked for, each with its measure and how it comes from it. None of the runs passes its limit. In
-/// each of them two pairs are watched for all 60 ticks, and the four with the process that crashes for 3; and two
+/// The columns that are asked for, each with its measure and how it comes from it. None of the runs passes its limit.
+/// In each of them two pairs are watched for all 60 ticks, and the four with the process that crashes for 3; and two
 /// processes are correct.
 const COLUMNS: [(&str, &str, How); 37] = [
     ("runs", "", How::Fixed(5)),
@@ -136,8 +136,8 @@ fn number_in(row: &str, layer: &str, measure: &str) -> Option<u64> {
     is_open.then_some(1)
 }
 
-/// The numbers that a measure has in a report, in the rows of the whole run and in those of a layer, in rising order. Of
-/// the ticks those count at which a process decided a value: the row of the tick follows that of the value.
+/// The numbers that a measure has in a report, in the rows of the whole run and in those of a layer, in rising order.
+/// Of the ticks those count at which a process decided a value: the row of the tick follows that of the value.
 fn numbers_of(
     alloc: Global,
     report: &str,

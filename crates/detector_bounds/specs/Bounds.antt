@@ -1,6 +1,6 @@
--- What no run breaks, on layer 1. Where bounds on delays are known, the detector is perfect within the horizon, of class P
--- of Chandra and Toueg (Journal of the ACM 43(2), 1996). The bound of freshness points is that of Chen, Toueg and Aguilera
--- (IEEE Transactions on Computers 51(5), 2002).
+-- What no run breaks, on layer 1. Where bounds on delays are known, the detector is perfect within the horizon, of
+-- class P of Chandra and Toueg (Journal of the ACM 43(2), 1996). The bound of freshness points is that of Chen, Toueg
+-- and Aguilera (IEEE Transactions on Computers 51(5), 2002).
 use Rattle.std.specs.Prelude.{◌≡◌, ℕ, ◌+◌, ◌<◌, ◌≤◌, true, List, Some}
 use Rattle.process_api.specs.EntryRecord.{EntryRecord}
 use Rattle.process_api.specs.declared.numbers.Watch.TheVariants.{All}
@@ -35,8 +35,8 @@ module _ (S : Record) (trace : List EntryRecord) where
     pub accurate : (q p : ℕ) → Watches S q p → IsReliable S p q → HasNoMistake q p
     -- where all links that are watched are reliable, nobody makes one
     pub all_accurate : ((q p : ℕ) → Watches S q p → IsReliable S p q) → strong_accuracy S trace 1 ≡ true
-    -- where all watch all, and each crash is detected by all correct ones by a tick below the horizon, completeness comes
-    -- by that tick
+    -- where all watch all, and each crash is detected by all correct ones by a tick below the horizon, completeness
+    -- comes by that tick
     pub complete : watch_of S.detector ≡ All → (t : ℕ) → t < S.horizon
         → ((q p c : ℕ) → IsCorrect S q → CrashesAt p c → detected_at q p c ≤ t)
         → (u : ℕ) × (strong_completeness S trace 1 ≡ Some u) × (u ≤ t)

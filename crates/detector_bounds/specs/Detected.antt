@@ -31,8 +31,8 @@ last_letter its link (suc before) = last_before its.period (suc before) * its.pe
 abbrev pub grown : TimeoutNumbers → (trusts : ℕ) → ℕ
 grown its trusts = its.timeout + its.grow * trusts
 
--- the tick from which, at the latest, a process that crashes at a tick is suspected to the end, by one that trusts it so often in
--- the whole trace
+-- the tick from which, at the latest, a process that crashes at a tick is suspected to the end, by one that trusts it
+-- so often in the whole trace
 abbrev pub detected_by : DetectorNumbers → Link → (trusts crash : ℕ) → ℕ
 detected_by (Timeout its) link trusts crash = multiple_from its.check (last_letter its link crash + grown its trusts)
 detected_by (Freshness its) link trusts crash = (last_before its.eta crash + 1) * its.eta + its.delta

@@ -8,7 +8,8 @@ use Rattle.detector_bounds.specs.Bounds.{CrashesAt, detected_at}
 use Rattle.detector_bounds.specs.Multiples.{last_before, multiple_from}
 use Rattle.detector_bounds.specs.Watched.{Watches}
 
--- the tick from which, at the latest, no set comes over a link whose sender's last share had this number; 0 where it shared none
+-- the tick from which, at the latest, no set comes over a link whose sender's last share had this number; 0 where it
+-- shared none
 abbrev pub silent_from : (period : ℕ) → Link → (last : ℕ) → ℕ
 silent_from period link zero = 0
 silent_from period link (suc before) = suc before * period + link.max + 1
@@ -27,12 +28,14 @@ module _ (S : Record) where
     pub no_outage : from ≢ to → outages_on S from to ≡ []
 
   module _ (trace : List EntryRecord) where
-    -- the tick of the first share of w that surely has p for good, and comes to r behind all sets of p, which crashes at tick c
+    -- the tick of the first share of w that surely has p for good, and comes to r behind all sets of p, which crashes
+    -- at tick c
     abbrev pub told_at : (period w p r c : ℕ) → ℕ
     told_at period w p r c =
         multiple_from period (max (detected_at S trace w p c + 1) (silent_from period (link S p r) (last_before period c) - least_delay w r))
 
-    -- once that share has come, each correct r that hears of a correct w suspects whom w watches and who crashed, up to the horizon
+    -- once that share has come, each correct r that hears of a correct w suspects whom w watches and who crashed, up to
+    -- the horizon
     abbrev pub SharesDetection : Type 0
     SharesDetection = (period w p r c : ℕ) → S.share ≡ Some period → IsCorrect S w → Watches S w p → CrashesAt S trace p c
         → IsCorrect S r → LosesNothing w r → From S (Suspects S trace 2 r p) (told_at period w p r c + most_delay w r)

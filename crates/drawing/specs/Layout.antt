@@ -55,7 +55,8 @@ module _ (has_row : (q p : ℕ) → Bool) where
 
   -- how many pairs of processes have no row
   unfoldable pub left_out : (processes : ℕ) → ℕ
-  left_out processes = sum_by (λ q. length (filter (λ p. not (has_row q p)) (others processes q))) (numbers_to processes)
+  left_out processes =
+      sum_by (λ q. length (filter (λ p. not (has_row q p)) (others processes q))) (numbers_to processes)
 
 -- ---- letters: each process has a room, in which there is place for a text of each other process above its row
 

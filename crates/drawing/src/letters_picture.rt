@@ -86,12 +86,13 @@ fn text_of(
 /// The picture of what went from whom to whom at the ticks from `from` to `until - 1` of a run, as an SVG document.
 ///
 /// Each process has a line up to its crash, process 1 at the top. Each letter that is sent at one of these ticks, and
-/// whose sender or receiver is one of the processes `of`, is one shape: an arrow to the receiver's line at the tick when
-/// it is due where it is taken, a dashed line to there where the receiver had crashed, a dotted line to the right edge
-/// where it is due at `until` or after, and a short piece of a line that ends in a cross where it is lost. Where `of` is
-/// empty, the letters of all processes are drawn; where letters of others are left out, a line of text says how many. A
-/// letter that was sent before `from` isn't drawn, also where it comes at one of these ticks. Marks say what a process
-/// decides, and whom it begins to suspect or to trust again, on the upper layer of detectors that the scenario has.
+/// whose sender or receiver is one of the processes `of`, is one shape: an arrow to the receiver's line at the tick
+/// when it is due where it is taken, a dashed line to there where the receiver had crashed, a dotted line to the right
+/// edge where it is due at `until` or after, and a short piece of a line that ends in a cross where it is lost. Where
+/// `of` is empty, the letters of all processes are drawn; where letters of others are left out, a line of text says how
+/// many. A letter that was sent before `from` isn't drawn, also where it comes at one of these ticks. Marks say what a
+/// process decides, and whom it begins to suspect or to trust again, on the upper layer of detectors that the scenario
+/// has.
 ///
 /// The letters and the trace should be those of the scenario's run; what is drawn is defined for all others too.
 ///

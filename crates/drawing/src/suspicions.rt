@@ -57,9 +57,9 @@ pub fn check_ticks(scenario: &Scenario, from: u32, until: u32) -> Result<(), Dra
 ///
 /// Each process has a row for itself, with its crash and its decision, and one for each other process that it suspects
 /// at one of these ticks, with a bar for each stretch of ticks through which it does: on layer 1, and below that on
-/// layer 2 where the scenario has a reduction. A stretch is as long as can be within these ticks. A process that crashes
-/// suspects nobody from then on, so its rows end there. Where pairs of processes have no bar, and so no row, a line of
-/// text says how many.
+/// layer 2 where the scenario has a reduction. A stretch is as long as can be within these ticks. A process that
+/// crashes suspects nobody from then on, so its rows end there. Where pairs of processes have no bar, and so no row, a
+/// line of text says how many.
 ///
 /// # Errors
 ///

@@ -97,8 +97,8 @@ fn row<K: Gauge>(pairs: &Pairs<K>, i: usize) -> Line
     }
 }
 
-/// From which tick on some correct process suspects one, from which on all correct ones trust it, and whether no mistake
-/// was made of it.
+/// From which tick on some correct process suspects one, from which on all correct ones trust it, and whether no
+/// mistake was made of it.
 fn column<K: Gauge>(pairs: &Pairs<K>, j: usize) -> Line
     requires inside { j < pairs.now.processes }
     ensures suspected { result.suspected ≡ column_suspected K.passed K.seen K.fresh pairs.now j }

@@ -103,6 +103,11 @@ pub none_each : (links : List Ends) → on_each links [] ≡ []
 unfolding on_each
 none_each links = refl
 
+-- what one kind of tables adds, after those of a front
+pub in_turn : {A : Type 0} {old new front more its : List A} → new ≡ old ++ more → old ≡ front → more ≡ its
+    → new ≡ front ++ its
+in_turn adds before same = adds ∙ (λ k. before k ++ same k)
+
 -- where a front is too many, all is
 pub front_full : {A : Type 0} (most : ℕ) (xs ys : List A) → most < length xs → most < length (xs ++ ys)
 front_full most xs ys full = omega (arith, length-append xs ys)

@@ -1,15 +1,17 @@
 -- The outages of all sources of a network, in their order.
-use Rattle.std.specs.Prelude.{ℕ, List, [], ◌∷◌, ◌++◌, map, filter, true, false}
+use Rattle.std.specs.Prelude.{ℕ, ◌<◌, List, [], ◌∷◌, ◌++◌, map, filter, length, true, false}
 use Rattle.std.specs.List.{range_with_len, flat_map, enumerate_from}
 use Rattle.scenario_record.specs.declared.outage.Outage.{Outage}
 use Rattle.network.specs.Groups.{holds, links_between, links_of, only}
-use Rattle.network.specs.Words.{place_of, stream_number, stream_of, words_of}
+use Rattle.network.specs.Words.{Words, place_of, stream_number, stream_of, words_of}
 use Rattle.network.specs.Episodes.{episodes}
 use Rattle.network.specs.Replays.{replayed}
 use Rattle.network.specs.declared.outages.TheConstants.{MOST_OUTAGES}
 use Rattle.scenario.specs.declared.drawn.LinkOutage.{LinkOutage}
 use Rattle.network.specs.declared.group.Ends.{Ends}
 use Rattle.network.specs.declared.group.Group.TheVariants.{All}
+use Rattle.network.specs.declared.group.LinkSet.{LinkSet}
+use Rattle.network.specs.declared.kind.Kind.{Kind}
 use Rattle.network.specs.declared.kind.Kind.TheVariants as kind
 use Rattle.network.specs.declared.network.Burst.{Burst}
 use Rattle.network.specs.declared.network.Cut.{Cut}
@@ -20,6 +22,9 @@ use Rattle.network.specs.declared.network.Network.{Network}
 -- the most outages that are drawn in a run
 abbrev pub most_outages : ℕ
 most_outages = MOST_OUTAGES
+
+abbrev pub AreTooMany : List LinkOutage → Type 0
+AreTooMany outages = most_outages < length outages
 
 -- an outage of a link
 abbrev pub outage_on : Outage → Ends → LinkOutage
@@ -34,16 +39,19 @@ on_each links its = flat_map (λ o. map (outage_on o) links) its
 abbrev pub of_each : {T : Type 0} → (ℕ → T → List LinkOutage) → List T → List LinkOutage
 of_each of_one tables = flat_map (λ numbered. of_one numbered.0 numbered.1) (enumerate_from 0 tables)
 
+-- those of a link that is a source by itself, in a table with so many of its kind before it; `its` are the outages that
+-- the words make. And those of all links of a set
+abbrev pub alone : (seed : ℕ) → Kind → ℕ → (Words → List Outage) → Ends → List LinkOutage
+alone seed kind i its link =
+    on_each (link ∷ []) (its (words_of seed (stream_number kind i (stream_of link.from link.to))))
+
+abbrev pub of_links : (n seed : ℕ) → Kind → ℕ → LinkSet → (Words → List Outage) → List LinkOutage
+of_links n seed kind i set its = flat_map (alone seed kind i its) (links_of set n)
+
 -- in a run of n processes up to a horizon, under a seed. Of each table with so many of its kind before it:
 module _ (n horizon seed : ℕ) where
-  -- of a link of a burst, which is a source by itself
-  abbrev pub burst_on : ℕ → Burst → Ends → List LinkOutage
-  burst_on i its link =
-      let words = words_of seed (stream_number kind.Burst i (stream_of link.from link.to)) in
-      on_each (link ∷ []) (episodes its.rhythm words horizon)
-
   unfoldable pub of_burst : ℕ → Burst → List LinkOutage
-  of_burst i its = flat_map (burst_on i its) (links_of its.links n)
+  of_burst i its = of_links n seed kind.Burst i its.links (λ words. episodes its.rhythm words horizon)
 
   -- all links between the groups, both ways, are cut at once
   unfoldable pub of_cut : ℕ → Cut → List LinkOutage
@@ -60,14 +68,8 @@ module _ (n horizon seed : ℕ) where
   unfoldable pub of_pause : ℕ → Pause → List LinkOutage
   of_pause i its = flat_map (pause_of i its) (filter (holds its.processes) (range_with_len 1 n))
 
-  -- of a link that plays a record, which is a source by itself
-  abbrev pub replay_on : ℕ → Replay → Ends → List LinkOutage
-  replay_on i its link =
-      let words = words_of seed (stream_number kind.Replay i (stream_of link.from link.to)) in
-      on_each (link ∷ []) (replayed its words horizon)
-
   unfoldable pub of_replay : ℕ → Replay → List LinkOutage
-  of_replay i its = flat_map (replay_on i its) (links_of its.links n)
+  of_replay i its = of_links n seed kind.Replay i its.links (λ words. replayed its words horizon)
 
   -- all bursts, then all cuts, all pauses and all replays
   unfoldable pub drawn_of : Network → List LinkOutage

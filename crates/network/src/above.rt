@@ -172,7 +172,8 @@ fn table_above<T: NamesGroups>(tables: &[T], kind: TableKind, n: u16) -> Option<
 }
 
 /// A process above n that the network names, with the table and the key: of the first table that names one, by the
-/// kinds `links`, `bursts`, `cuts`, `pauses` and `replays`, its first key and the least such process. None: all processes that it names are 1 to n.
+/// kinds `links`, `bursts`, `cuts`, `pauses` and `replays`, its first key and the least such process. None: all
+/// processes that it names are 1 to n.
 pub fn process_above(network: &Network, processes: u16) -> Option<Above>
     ensures none { result ≡ None → (k : TableKind) → AreWithin processes (groups_of network.now k) }
     ensures some { IfSome result

@@ -1,17 +1,20 @@
 //! Outages of several links at once, and the course of a run.
-ghost use Rattle.std.specs.Prelude.{◌≡◌, ◌<◌, ◌≤◌, ◌++◌, map, length, OnOk};
+ghost use Rattle.std.specs.Prelude.{◌≡◌, ◌≤◌, ◌++◌, map, OnOk};
 ghost use Rattle.process_api.specs.Bounds.{most_processes};
-ghost use Rattle.network.specs.Drawn.{most_outages, outage_on};
+ghost use Rattle.network.specs.Drawn.{AreTooMany, outage_on};
 
 use crate::error::DrawError;
 use crate::group::Ends;
 use crate::outages::Drawn;
 use scenario::LinkOutage;
 use scenario_record::Outage;
+use std::alloc::Global;
 
 /// What of a run its outages depend on, besides the network.
 #[derive(Clone, Copy)]
 pub(crate) struct Course {
+    /// Where memory comes from.
+    pub(crate) alloc: Global,
     /// How many processes there are.
     pub(crate) processes: u16,
     /// The tick at which the run ends.
@@ -27,7 +30,7 @@ impl Drawn {
     pub(crate) fn push_each(&mut self, links: &[Ends], outage: Outage) -> Result<(), DrawError>
         ensures ok { OnOk result (self.new ≡ self.old ++ map (outage_on outage) links.now) }
         ensures full { result ≡ Err DrawError.TooManyOutages
-            → most_outages < length (self.old ++ map (outage_on outage) links.now) }
+            → AreTooMany (self.old ++ map (outage_on outage) links.now) }
     {
         for link in links {
             self.push(LinkOutage {

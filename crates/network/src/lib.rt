@@ -37,6 +37,7 @@ mod refusal;
 mod replay;
 mod rhythm;
 mod shape;
+mod source;
 mod spell;
 mod tables;
 mod together;

@@ -1,15 +1,15 @@
 //! Records that are played again and again.
-ghost use Rattle.std.specs.Prelude.{◌≡◌, ◌<◌, ◌≤◌, ◌++◌, ◌+◌, ◌^◌, length, OnOk};
+ghost use Rattle.std.specs.Prelude.{◌≡◌, ◌<◌, ◌≤◌, ◌++◌, ◌+◌, ◌^◌, OnOk};
 ghost use Rattle.std.specs.Option.{option_to_list};
-ghost use Rattle.network.specs.Drawn.{most_outages, on_each};
+ghost use Rattle.network.specs.Drawn.{AreTooMany, on_each};
 ghost use Rattle.network.specs.Ranges.{IsReplay};
-ghost use Rattle.network.specs.Replays.{left_of, replayed, replayed_in};
-ghost use Rattle.network.specs.Inside.Coming.{to_come};
+ghost use Rattle.network.specs.Replays.{left_of, replayed_in};
 
 use crate::error::DrawError;
 use crate::group::Ends;
 use crate::network::Replay;
 use crate::outages::Drawn;
+use crate::source::Source;
 use crate::words::SourceWords;
 use scenario_record::Outage;
 
@@ -35,7 +35,7 @@ impl Drawn {
     fn push_left(&mut self, links: &[Ends], left: Option<Outage>) -> Result<(), DrawError>
         ensures ok { OnOk result (self.new ≡ self.old ++ on_each links.now (option_to_list left)) }
         ensures full { result ≡ Err DrawError.TooManyOutages
-            → most_outages < length (self.old ++ on_each links.now (option_to_list left)) }
+            → AreTooMany (self.old ++ on_each links.now (option_to_list left)) }
     {
         match left {
             Some(outage) => self.push_each(links, outage),
@@ -58,30 +58,31 @@ impl Replay {
         requires begins { turn ≤ 20000000 }
         ensures ok { OnOk result
             (drawn.new ≡ drawn.old ++ on_each links.now (replayed_in self.now.outages.items turn place horizon)) }
-        ensures full { result ≡ Err DrawError.TooManyOutages → most_outages
-            < length (drawn.old ++ on_each links.now (replayed_in self.now.outages.items turn place horizon)) }
+        ensures full { result ≡ Err DrawError.TooManyOutages
+            → AreTooMany (drawn.old ++ on_each links.now (replayed_in self.now.outages.items turn place horizon)) }
     {
         for outage in &self.outages {
             drawn.push_left(links, left_of(*outage, turn, place, horizon))?;
         }
         Ok(())
     }
+}
 
-    /// Adds the outages that links have at once of the record, up to the horizon.
-    pub(crate) fn draw(
+impl Source for Replay {
+    ghost use Rattle.network.specs.Ranges.{IsReplay};
+    ghost use Rattle.network.specs.Replays.{replayed};
+
+    ghost is_in_range = { IsReplay };
+
+    ghost outages = { replayed };
+
+    fn draw_on(
         &self,
         links: &[Ends],
         horizon: u32,
         words: &mut SourceWords,
         drawn: &mut Drawn,
-    ) -> Result<(), DrawError>
-        requires record_of_it { IsReplay self.now }
-        requires ends { horizon ≤ 10000000 }
-        ensures ok { OnOk result
-            (drawn.new ≡ drawn.old ++ on_each links.now (replayed self.now (to_come words.old) horizon)) }
-        ensures full { result ≡ Err DrawError.TooManyOutages → most_outages
-            < length (drawn.old ++ on_each links.now (replayed self.now (to_come words.old) horizon)) }
-    {
+    ) -> Result<(), DrawError> {
         let place = words.next() % self.lasts;
         for turn in 0..(horizon + place) / self.lasts + 1 {
             self.draw_turn(links, turn * self.lasts, place, horizon, drawn)?;

@@ -1,68 +1,100 @@
 //! The outages of each table.
-ghost use Rattle.std.specs.Prelude.{◌≡◌, ◌<◌, ◌≤◌, ◌++◌, length, OnOk};
-ghost use Rattle.network.specs.Drawn.{most_outages, of_burst, of_cut, of_pause, of_replay, pause_of};
-ghost use Rattle.network.specs.Ranges.{IsReplay, IsRhythm};
+ghost use Rattle.std.specs.Prelude.{◌≡◌, ◌<◌, ◌++◌, ℕ, List, OnOk};
+ghost use Rattle.scenario.specs.declared.drawn.LinkOutage.{LinkOutage};
+ghost use Rattle.network.specs.Drawn.{AreTooMany, of_links, pause_of};
+ghost use Rattle.network.specs.Ranges.{IsRhythm};
 ghost use Rattle.network.specs.Words.{most_tables};
 
 use crate::add::Course;
 use crate::error::DrawError;
-use crate::group::{Group, links_between, members_among};
+use crate::group::{Group, LinkSet, links_between, members_among};
 use crate::kind::{Kind, link_place};
 use crate::network::{Burst, Cut, Pause, Replay};
 use crate::outages::Drawn;
+use crate::source::Source;
 use crate::words::SourceWords;
 use process_api::{Pid, ProcSet};
-use std::alloc::Global;
 use std::slice::from_ref;
 
-impl Burst {
+/// Says when links have outages: a table of sources.
+pub(crate) trait DrawsOutages {
+    /// Its numbers are in their ranges.
+    ghost is_in_range: { Self → Type 0 };
+
+    /// Its outages in a run of so many processes up to a horizon, under a seed, with so many of its kind before it.
+    ghost outages: { (processes horizon seed before : ℕ) → Self → List LinkOutage };
+
     /// Adds the outages of this table, which has so many of its kind before it.
-    pub(crate) fn draw(
-        &self,
-        alloc: Global,
-        before: usize,
-        course: Course,
-        drawn: &mut Drawn,
-    ) -> Result<(), DrawError>
-        requires rhythm { IsRhythm self.now.rhythm }
+    fn draw(&self, before: usize, course: Course, drawn: &mut Drawn) -> Result<(), DrawError>
+        requires ranges { is_in_range self.now }
         requires few { before < most_tables }
         ensures ok { OnOk result (drawn.new
-            ≡ drawn.old ++ of_burst course.processes course.horizon course.seed before self.now) }
-        ensures full { result ≡ Err DrawError.TooManyOutages → most_outages
-            < length (drawn.old ++ of_burst course.processes course.horizon course.seed before self.now) }
-    {
-        let set = &self.links;
-        let links = links_between(alloc, &set.from, &set.to, set.both, course.processes)?;
-        for link in &links {
-            let stream = Kind::Burst.stream(before, link_place(link));
-            let mut words = SourceWords::new(course.seed, stream);
-            self.rhythm
-                .draw(from_ref(link), course.horizon, &mut words, drawn)?;
-        }
-        Ok(())
+            ≡ drawn.old ++ outages course.processes course.horizon course.seed before self.now) }
+        ensures full { result ≡ Err DrawError.TooManyOutages
+            → AreTooMany (drawn.old ++ outages course.processes course.horizon course.seed before self.now) };
+}
+
+/// Adds the outages of links that each are a source by itself, of a table of a kind with so many before it.
+fn draw_alone<S: Source>(
+    source: &S,
+    set: &LinkSet,
+    kind: Kind,
+    before: usize,
+    course: Course,
+    drawn: &mut Drawn,
+) -> Result<(), DrawError>
+    requires ranges { S.is_in_range source.now }
+    requires few { before < most_tables }
+    ensures ok { OnOk result (drawn.new ≡ drawn.old ++ of_links course.processes course.seed kind before set.now
+        (λ words. S.outages source.now words course.horizon)) }
+    ensures full { result ≡ Err DrawError.TooManyOutages
+        → AreTooMany (drawn.old ++ of_links course.processes course.seed kind before set.now
+        (λ words. S.outages source.now words course.horizon)) }
+{
+    let links = links_between(course.alloc, &set.from, &set.to, set.both, course.processes)?;
+    for link in &links {
+        let stream = kind.stream(before, link_place(link));
+        let mut words = SourceWords::new(course.seed, stream);
+        source.draw_on(from_ref(link), course.horizon, &mut words, drawn)?;
+    }
+    Ok(())
+}
+
+impl DrawsOutages for Burst {
+    ghost use Rattle.network.specs.Drawn.{of_burst};
+    ghost use Rattle.network.specs.Ranges.{IsRhythm};
+
+    ghost is_in_range = { λ b. IsRhythm b.rhythm };
+
+    ghost outages = { of_burst };
+
+    #[tactic(auto, unfolding(crate::specs::Drawn::of_burst))]
+    fn draw(&self, before: usize, course: Course, drawn: &mut Drawn) -> Result<(), DrawError> {
+        draw_alone(
+            &self.rhythm,
+            &self.links,
+            Kind::Burst,
+            before,
+            course,
+            drawn,
+        )
     }
 }
 
-impl Cut {
-    /// Adds the outages of this table, which has so many of its kind before it.
+impl DrawsOutages for Cut {
+    ghost use Rattle.network.specs.Drawn.{of_cut};
+    ghost use Rattle.network.specs.Ranges.{IsRhythm};
+
+    ghost is_in_range = { λ c. IsRhythm c.rhythm };
+
+    ghost outages = { of_cut };
+
     #[tactic(auto, unfolding(crate::specs::Drawn::of_cut))]
-    pub(crate) fn draw(
-        &self,
-        alloc: Global,
-        before: usize,
-        course: Course,
-        drawn: &mut Drawn,
-    ) -> Result<(), DrawError>
-        requires rhythm { IsRhythm self.now.rhythm }
-        requires few { before < most_tables }
-        ensures ok { OnOk result (drawn.new
-            ≡ drawn.old ++ of_cut course.processes course.horizon course.seed before self.now) }
-        ensures full { result ≡ Err DrawError.TooManyOutages → most_outages
-            < length (drawn.old ++ of_cut course.processes course.horizon course.seed before self.now) }
-    {
-        let links = links_between(alloc, &self.one, &self.other, true, course.processes)?;
+    fn draw(&self, before: usize, course: Course, drawn: &mut Drawn) -> Result<(), DrawError> {
+        let links = links_between(course.alloc, &self.one, &self.other, true, course.processes)?;
         let mut words = SourceWords::new(course.seed, Kind::Cut.stream(before, 0));
-        self.rhythm.draw(&links, course.horizon, &mut words, drawn)
+        self.rhythm
+            .draw_on(&links, course.horizon, &mut words, drawn)
     }
 }
 
@@ -70,7 +102,6 @@ impl Pause {
     /// Adds the outages of a process that pauses, of this table, which has so many of its kind before it.
     fn draw_of(
         &self,
-        alloc: Global,
         before: usize,
         p: Pid,
         course: Course,
@@ -80,64 +111,47 @@ impl Pause {
         requires few { before < most_tables }
         ensures ok { OnOk result (drawn.new
             ≡ drawn.old ++ pause_of course.processes course.horizon course.seed before self.now p) }
-        ensures full { result ≡ Err DrawError.TooManyOutages → most_outages
-            < length (drawn.old ++ pause_of course.processes course.horizon course.seed before self.now p) }
+        ensures full { result ≡ Err DrawError.TooManyOutages
+            → AreTooMany (drawn.old ++ pause_of course.processes course.horizon course.seed before self.now p) }
     {
         let mut own = ProcSet::new();
         own.insert(p);
         let n = course.processes;
-        let links = links_between(alloc, &Group::Members(own), &Group::All, false, n)?;
+        let links = links_between(course.alloc, &Group::Members(own), &Group::All, false, n)?;
         let stream = Kind::Pause.stream(before, u64::from(p.number()) - 1);
         let mut words = SourceWords::new(course.seed, stream);
-        self.rhythm.draw(&links, course.horizon, &mut words, drawn)
+        self.rhythm
+            .draw_on(&links, course.horizon, &mut words, drawn)
     }
+}
 
-    /// Adds the outages of this table, which has so many of its kind before it.
-    pub(crate) fn draw(
-        &self,
-        alloc: Global,
-        before: usize,
-        course: Course,
-        drawn: &mut Drawn,
-    ) -> Result<(), DrawError>
-        requires rhythm { IsRhythm self.now.rhythm }
-        requires few { before < most_tables }
-        ensures ok { OnOk result (drawn.new
-            ≡ drawn.old ++ of_pause course.processes course.horizon course.seed before self.now) }
-        ensures full { result ≡ Err DrawError.TooManyOutages → most_outages
-            < length (drawn.old ++ of_pause course.processes course.horizon course.seed before self.now) }
-    {
-        let pausing = members_among(alloc, &self.processes, course.processes)?;
+impl DrawsOutages for Pause {
+    ghost use Rattle.network.specs.Drawn.{of_pause};
+    ghost use Rattle.network.specs.Ranges.{IsRhythm};
+
+    ghost is_in_range = { λ p. IsRhythm p.rhythm };
+
+    ghost outages = { of_pause };
+
+    fn draw(&self, before: usize, course: Course, drawn: &mut Drawn) -> Result<(), DrawError> {
+        let pausing = members_among(course.alloc, &self.processes, course.processes)?;
         for p in &pausing {
-            self.draw_of(alloc, before, *p, course, drawn)?;
+            self.draw_of(before, *p, course, drawn)?;
         }
         Ok(())
     }
 }
 
-impl Replay {
-    /// Adds the outages of this table, which has so many of its kind before it.
-    pub(crate) fn draw_each(
-        &self,
-        alloc: Global,
-        before: usize,
-        course: Course,
-        drawn: &mut Drawn,
-    ) -> Result<(), DrawError>
-        requires record_of_it { IsReplay self.now }
-        requires few { before < most_tables }
-        ensures ok { OnOk result (drawn.new
-            ≡ drawn.old ++ of_replay course.processes course.horizon course.seed before self.now) }
-        ensures full { result ≡ Err DrawError.TooManyOutages → most_outages
-            < length (drawn.old ++ of_replay course.processes course.horizon course.seed before self.now) }
-    {
-        let set = &self.links;
-        let links = links_between(alloc, &set.from, &set.to, set.both, course.processes)?;
-        for link in &links {
-            let stream = Kind::Replay.stream(before, link_place(link));
-            let mut words = SourceWords::new(course.seed, stream);
-            self.draw(from_ref(link), course.horizon, &mut words, drawn)?;
-        }
-        Ok(())
+impl DrawsOutages for Replay {
+    ghost use Rattle.network.specs.Drawn.{of_replay};
+    ghost use Rattle.network.specs.Ranges.{IsReplay};
+
+    ghost is_in_range = { IsReplay };
+
+    ghost outages = { of_replay };
+
+    #[tactic(auto, unfolding(crate::specs::Drawn::of_replay))]
+    fn draw(&self, before: usize, course: Course, drawn: &mut Drawn) -> Result<(), DrawError> {
+        draw_alone(self, &self.links, Kind::Replay, before, course, drawn)
     }
 }

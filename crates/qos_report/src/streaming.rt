@@ -118,7 +118,8 @@ fn run_into<M: Process, G: Gate, O: Outlet, R: Threads + Wait + Sync>(
     gate: &G,
     sink: &mut Streaming<'_, O>,
 ) -> Result<(), RunError>
-    requires machines { map M.mind machines.items ≡ map (opening_mind scenario.now) (numbers_to scenario.now.processes) }
+    requires machines { map M.mind machines.items
+        ≡ map (opening_mind scenario.now) (numbers_to scenario.now.processes) }
     requires plan { IsPlanFor scenario.now plan.now }
     requires failures { O.failed sink.old.outlet.now < 2 ^ 64 - 1 }
     ensures outlet { sink.new.outlet.ghost_name ≡ sink.old.outlet.ghost_name }
@@ -152,7 +153,8 @@ pub(crate) fn stream_windows<M: Process, G: Gate, O: Outlet, R: Threads + Wait +
     running: Running,
     outlet: &mut O,
 ) -> Result<Running, RunError>
-    requires machines { map M.mind machines.items ≡ map (opening_mind scenario.now) (numbers_to scenario.now.processes) }
+    requires machines { map M.mind machines.items
+        ≡ map (opening_mind scenario.now) (numbers_to scenario.now.processes) }
     requires plan { IsPlanFor scenario.now plan.now }
     requires failures { O.failed outlet.old < 2 ^ 64 - 1 }
     ensures took { IfOk result (λ run. StreamedTrace scenario.now O.told O.failed is_traced running outlet.old

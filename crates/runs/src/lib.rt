@@ -12,9 +12,9 @@
 //!   out; `Limit` comes only of a trace that is longer than the limit. After any other refusal nothing was written
 //!   (`Refuses`, there too). It never answers `Spawn`.
 //! - [`measure_list`] forms no text. It tells all that is measured of the run, how long each mistake was that ended,
-//!   and how often each process was trusted again. On `Ok` all three are those of the scenario's trace, which is within the
-//!   limit and has the same grounds (`MeasuresRun`). It answers `Limit` only where that trace is longer, and else only
-//!   `Memory`.
+//!   and how often each process was trusted again. On `Ok` all three are those of the scenario's trace, which is within
+//!   the limit and has the same grounds (`MeasuresRun`). It answers `Limit` only where that trace is longer, and else
+//!   only `Memory`.
 //! - [`measures`] runs nothing: it gives a row for each pair on each layer, by definition, of any trace. In the
 //!   scenario's trace each mistake or detection on layer 2 rests on an earlier suspicion of layer 1, and each row of
 //!   layer 1 keeps to the bounds.

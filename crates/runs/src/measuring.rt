@@ -15,8 +15,8 @@ use std::alloc::{AllocError, Global};
 /// table, on layer 2: by layer, then observer, then subject, each rising.
 ///
 /// Who suspects whom is read from the notes of the entries below the horizon, as it stands at the end of each tick. A
-/// trace is walked once, and a pair's counts move only at a note that changes whether it is suspected; so the work grows
-/// with the notes of the trace and with the number of pairs, and not with the ticks.
+/// trace is walked once, and a pair's counts move only at a note that changes whether it is suspected; so the work
+/// grows with the notes of the trace and with the number of pairs, and not with the ticks.
 ///
 /// In the trace of the scenario, each suspicion of layer 2 has an earlier entry with one of layer 1 for the same
 /// process, whatever the algorithm, the links and the crashes. So a row of layer 2 with a mistake or a detection names

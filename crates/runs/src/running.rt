@@ -19,8 +19,8 @@ use std::alloc::Global;
 /// Runs machines by the single event list, up to the horizon, and gives the letters that they send to one another:
 /// those of each step of the run, each once, in the order of the steps, which is that of the tick of sending and then
 /// of the sender, and of one step in the order in which it sent them. There is one machine for each process, of process
-/// 1 first, and each opens as the scenario says. Letters to oneself are left out. On each link letters are numbered from
-/// 1 without a gap, and as many are lost as the entries of the trace count.
+/// 1 first, and each opens as the scenario says. Letters to oneself are left out. On each link letters are numbered
+/// from 1 without a gap, and as many are lost as the entries of the trace count.
 ///
 /// # Errors
 ///

@@ -1,5 +1,5 @@
 -- What is answered of a file with drawn outages, from what is read of the file.
-use Rattle.std.proofs.Common.{◌≡◌, ◌∙◌, ℕ, ◌<◌, ◌^◌, List, [], ◌∷◌, ◌++◌, true, false, Option, Some, None, ap, sym, subst, codes, refl}
+use Rattle.std.proofs.Common.{◌≡◌, ◌∙◌, ℕ, ◌<◌, ◌^◌, List, ◌++◌, true, false, Option, None, ap, sym, subst, codes, refl}
 use Rattle.toml.specs.Data.{Members}
 use Rattle.scenario_record.specs.Record.{Record}
 use Rattle.scenario_record.specs.Ranges.{IsInRange}

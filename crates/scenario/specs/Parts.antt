@@ -10,7 +10,7 @@ use Rattle.toml.specs.View.{table_view}
 use Rattle.toml.specs.declared.value.Value.{Value}
 use Rattle.scenario_record.specs.Record.{Record, no_link}
 use Rattle.scenario.specs.Table as table
-use Rattle.scenario.specs.Table.{has_unlisted, has_lacking, has_mistyped, integers_at, table_at, table_or_empty, tables_at}
+use Rattle.scenario.specs.Table.{has_unlisted, has_lacking, has_mistyped, tables_at}
 use Rattle.scenario.specs.Text.{number_at, processes_of, links_among}
 use Rattle.scenario.specs.Rules.{are_bad_pairs}
 use Rattle.scenario.specs.declared.error.ScenarioError.{ScenarioError}

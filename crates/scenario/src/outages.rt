@@ -1,5 +1,5 @@
 //! The outage tables.
-ghost use Rattle.std.specs.Prelude.{◌≡◌, ◌<◌, ◌≤◌, ◌+◌, ◌++◌, ◌∷◌, ◌*◌, List, [], false, map, length, get_or, codes, vec_len, is_none, slice_set, true, OnOk, IfOk, IfSome};
+ghost use Rattle.std.specs.Prelude.{◌≡◌, ◌<◌, ◌≤◌, ◌+◌, ◌++◌, ◌∷◌, ◌*◌, List, [], map, length, get_or, codes, vec_len, is_none, slice_set, OnOk, IfOk, IfSome};
 ghost use Rattle.process_api.specs.Bounds.{most_processes};
 ghost use Rattle.toml.specs.Data.{Members};
 ghost use Rattle.toml.specs.View.{table_view};

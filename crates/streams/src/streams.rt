@@ -43,8 +43,8 @@ impl<'a> Streams<'a> {
         Streams { scenario }
     }
 
-    /// The fate of a letter that has no need of words, as it is lost in an outage, or its link has no loss and one delay.
-    /// For others the error is what the link does to letters.
+    /// The fate of a letter that has no need of words, as it is lost in an outage, or its link has no loss and one
+    /// delay. For others the error is what the link does to letters.
     #[inline(always)]
     #[tactic(auto, unfolding(crate::specs::Fate::fate_of))]
     fn sure_fate(&self, from: Pid, to: Pid, sent_at: u32) -> Result<Fate, Link>

@@ -1,5 +1,5 @@
 -- Files that stand for a scenario, or for none.
-use Rattle.std.proofs.Common.{◌≡◌, ◌⊎◌, ◌==◌, arith, ◌&&◌, inl, inr, refl, subst, sym, ℕ, suc, List, [], ◌∷◌, length, map, Bool, true, false, not, cond}
+use Rattle.std.proofs.Common.{◌≡◌, ◌⊎◌, ◌==◌, arith, ◌&&◌, inl, inr, refl, subst, sym, ℕ, List, [], ◌∷◌, length, map, Bool, true, false, not, cond}
 use Rattle.std.proofs.Common.{Bor, Option, None, Some, is_some, option_map, MatchOption}
 use Rattle.std.proofs.lemmas.Bool.{ne_eqb}
 use Rattle.std.specs.List.{AllZip}

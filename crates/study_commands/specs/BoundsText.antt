@@ -34,7 +34,8 @@ reliable_text watched reliable =
 abbrev pub lossy_text : (lossy : ℕ) → List ℕ
 lossy_text lossy =
     if lossy == 0 then []
-    else codes "watched links with loss or outages, of whose mistakes nothing is promised: " ++ (decimal lossy ++ codes "\n")
+    else codes "watched links with loss or outages, of whose mistakes nothing is promised: "
+    ++ (decimal lossy ++ codes "\n")
 
 -- the key that says how long a detector waits
 abbrev pub key_of : DetectorNumbers → List ℕ
@@ -48,7 +49,8 @@ needed_text key (Some ticks) =
     if nat_le ticks MOST_TICKS
     then codes "with " ++ (key ++ (codes " " ++ (decimal ticks
     ++ codes " or more no link without loss and outages can bring a mistake\n")))
-    else codes "no " ++ (key ++ codes " that a file may have is sure to be enough for the links without loss and outages\n")
+    else codes "no "
+    ++ (key ++ codes " that a file may have is sure to be enough for the links without loss and outages\n")
 
 abbrev pub bounds_text : DetectorNumbers → PromisedBounds → List ℕ
 bounds_text detector b =

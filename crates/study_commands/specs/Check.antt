@@ -46,8 +46,8 @@ abbrev pub accepted_line : Accepted → List ℕ
 accepted_line a =
     accepted_text a.processes a.horizon a.limit a.window a.estimate.entries a.estimate.seconds a.estimate.in_window
 
--- these are the scenario's processes, its horizon, its limit and its longest window, which has its share of the entries.
--- It isn't said how near the estimate of all entries comes. After that come the bounds that no run breaks
+-- these are the scenario's processes, its horizon, its limit and its longest window, which has its share of the
+-- entries. It isn't said how near the estimate of all entries comes. After that come the bounds that no run breaks
 pub record TellsOf (s : Record) (piece : List ℕ) : Type 0 where
   pub entries : ℕ
   pub seconds : ℕ
@@ -68,7 +68,8 @@ study_begin points runs =
 
 -- all runs of the study that can be swept can be run, of the shard's points where one is named, and the text
 -- begins with how many points and runs these are. It isn't said what is reckoned of them, and of their limits
-pub record IsStudyCheck (input : Option (List ℕ)) (texts : SourceTexts) (study : StudyTexts) (piece : List ℕ) : Type 0 where
+pub record IsStudyCheck (input : Option (List ℕ)) (texts : SourceTexts) (study : StudyTexts)
+    (piece : List ℕ) : Type 0 where
   pub sources : SourcesRecord
   pub grid : GridRecord
   pub shard : ShardRecord

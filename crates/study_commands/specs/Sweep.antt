@@ -18,7 +18,8 @@ use Rattle.sweep.specs.declared.error.SweepError.TheVariants as error
 
 -- the study that words say of the files, and the layout of its rows
 module _ (input : Option (List ℕ)) (texts : SourceTexts) (study : StudyTexts) where
-  pub record IsSaid (sources : SourcesRecord) (grid : GridRecord) (shard : ShardRecord) (layout : LayoutRecord) : Type 0 where
+  pub record IsSaid (sources : SourcesRecord) (grid : GridRecord) (shard : ShardRecord)
+      (layout : LayoutRecord) : Type 0 where
     pub are_sources : AreSources input texts grid sources
     pub is_grid : IsGrid study.grid grid
     pub is_shard : IsShardOf (shard_word study) shard

@@ -1,7 +1,7 @@
 //! Why a network file is refused, in words: the name of the rule, the table and the key, and what breaks it there.
 
 use diagnosis::edits_between;
-use network::{NetworkError, Shape, TABLES, TableFault, TableKind, ValueFault, keys_of};
+use network::{NetworkError, Shape, TABLES, TableFault, ValueFault, keys_of};
 use printable::Printable;
 use std::alloc::{AllocError, Global};
 

@@ -29,7 +29,7 @@ use std::marker::Sync;
 use std::rt::Files;
 use std::thread::Threads;
 use std::time::Clock;
-use study_line::{Order, StudyTexts, WordsError, read_words, version_line};
+use study_line::{Order, WordsError, read_words, version_line};
 
 /// The text that an order asks for, of all but a sweep.
 fn text_of<R: Files + Threads + Sync + Clock, I: Read, W: Warned>(
@@ -167,8 +167,8 @@ fn answer_words<R: Files + Threads + Sync + Clock, I: Read, O: Outlet, W: Warned
 /// | 3 | the run passes its limit, or memory was refused |
 /// | 4 | writing to the outlet failed |
 ///
-/// Faults are looked for in this order: words, files, processes and ticks of a picture, runs, letters of a picture. So 1
-/// comes only where the words make a whole order. Nothing of the input is taken but for an order that names `-`.
+/// Faults are looked for in this order: words, files, processes and ticks of a picture, runs, letters of a picture. So
+/// 1 comes only where the words make a whole order. Nothing of the input is taken but for an order that names `-`.
 ///
 /// With status 1 or 2 nothing was written, and with 3 nothing but by `sweep`: its first line and the rows of the first
 /// points may have gone out. With 4 a front part of the text went out.

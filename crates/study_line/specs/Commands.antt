@@ -67,7 +67,8 @@ with_ticks app = with_rule (with_rule app (tick_rule (codes "from"))) (tick_rule
 -- a command that takes a scenario's file, and perhaps a network's and what is set in them
 abbrev pub with_path : Text → App
 with_path name =
-    with_rule (with_rule (with_rule (new_app name) path_rule) (option_rule (codes "network"))) (repeated_rule (codes "set"))
+    with_rule (with_rule (with_rule (new_app name) path_rule) (option_rule (codes "network")))
+    (repeated_rule (codes "set"))
 
 -- what the table of a study has
 abbrev pub with_table : App → App

@@ -404,10 +404,10 @@ fn told_of(alloc: Global, words: &[&str], error: &clap::Error) -> WordsError
 ///
 /// # Errors
 ///
-/// `Help` where they ask for help, `Version` where they ask for the version, `Mistake` where `clap` refuses them, `NoPicture` and `NoEach` where it takes them
-/// but no picture, or nothing that a row tells of, is named so, `Form` where it takes them but a part of the order is
-/// missing, and `Memory`. As `clap` knows which parts must always be there, a missing one of these is a `Mistake`; the
-/// seeds of `check` must be there only with other options of a study.
+/// `Help` where they ask for help, `Version` where they ask for the version, `Mistake` where `clap` refuses them,
+/// `NoPicture` and `NoEach` where it takes them but no picture, or nothing that a row tells of, is named so, `Form`
+/// where it takes them but a part of the order is missing, and `Memory`. As `clap` knows which parts must always be
+/// there, a missing one of these is a `Mistake`; the seeds of `check` must be there only with other options of a study.
 pub fn read_words<'a>(alloc: Global, words: &'a [&'a str]) -> Result<Order<'a>, WordsError>
     ensures stated { IfOk result (States (map (λ w. w.now) words.entry.now)) }
     ensures refused { IfErr result (Explains (map (λ w. w.now) words.entry.now)) }

@@ -86,6 +86,25 @@ fn push_line(
     push_element(out, start, class, &numbers)
 }
 
+/// Appends a rectangle.
+fn push_rect(
+    out: &mut Vec<u8>,
+    class: Class,
+    corner: Point,
+    width: u32,
+    height: u32,
+) -> Result<(), AllocError>
+    ensures { OnOk result (out.new.items ≡ out.old.items ++ shape_text (Shape.Rect class corner width height)) }
+{
+    let numbers = [
+        ("x", corner.x),
+        ("y", corner.y),
+        ("width", width),
+        ("height", height),
+    ];
+    push_element(out, "<rect", class, &numbers)
+}
+
 /// Appends a text.
 fn push_text(
     out: &mut Vec<u8>,
@@ -115,15 +134,7 @@ pub(crate) fn push_shape(out: &mut Vec<u8>, shape: &Shape) -> Result<(), AllocEr
             corner,
             width,
             height,
-        } => {
-            let numbers = [
-                ("x", corner.x),
-                ("y", corner.y),
-                ("width", *width),
-                ("height", *height),
-            ];
-            push_element(out, "<rect", *class, &numbers)
-        }
+        } => push_rect(out, *class, *corner, *width, *height),
         Shape::Line { class, from, to } => push_line(out, "<line", *class, *from, *to),
         Shape::Arrow { class, from, to } => {
             push_line(out, "<line marker-end=\"url(#head)\"", *class, *from, *to)

@@ -1,5 +1,5 @@
 -- The columns of a row from the layer on.
-use Rattle.std.specs.Prelude.{ℕ, ◌+◌, ◌-◌, ◌*◌, ◌==◌, Bool, nat_le, nat_lt, if◌then◌else◌, Option, None, Some, List, [], ◌∷◌, map, codes}
+use Rattle.std.specs.Prelude.{ℕ, ◌+◌, ◌-◌, ◌*◌, ◌==◌, Bool, nat_le, nat_lt, if◌then◌else◌, Option, None, Some, List, [], ◌∷◌, ◌++◌, map, codes}
 use Rattle.std.specs.List.{position, range_with_len}
 use Rattle.sweep.specs.Columns.{detection_bound}
 use Rattle.sweep.specs.declared.column_table.Told.{Told}
@@ -24,66 +24,89 @@ mistakes_error s = standard_error (s.runs - s.limited) s.pairs.mistakes s.mistak
 
 -- ---- the table
 
--- the columns: of each its name, and what it tells on a layer
-unfoldable pub columns : List (List ℕ × ((layer : ℕ) → Columns → Told))
-columns =
-    (codes "layer", λ layer c. All layer)
-    ∷ (codes "runs", λ layer c. All c.sums.runs)
-    ∷ (codes "limited", λ layer c. All c.sums.limited)
-    ∷ (codes "entries", λ layer c. Sum c.sums.traces.entries)
-    ∷ (codes "sent", λ layer c. Sum c.sums.traces.sent)
-    ∷ (codes "lost", λ layer c. Sum c.sums.traces.lost)
-    ∷ (codes "pair_ticks", λ layer c. Sum c.sums.pair_ticks)
-    ∷ (codes "mistakes", λ layer c. Sum c.sums.pairs.mistakes)
-    ∷ (codes "mistake_ticks", λ layer c. Sum c.sums.pairs.mistake_ticks)
-    ∷ (codes "mistake_recurrence", λ layer c. IfAny c.mistake_recurrence)
-    ∷ (codes "mistaken_ppm", λ layer c. IfAny c.mistaken_ppm)
-    ∷ (codes "mistakes_squared_sum", λ layer c. Sum c.sums.mistakes_squared_sum)
-    ∷ (codes "runs_with_mistakes", λ layer c. Count c.sums.counts.with_mistakes)
-    ∷ (codes "mistakes_error", λ layer c. IfAny (mistakes_error c.sums))
-    ∷ (codes "recurrence_sum", λ layer c. Sum c.sums.pairs.recurrence_sum)
-    ∷ (codes "recurrence_count", λ layer c. Sum c.sums.pairs.recurrence_count)
-    ∷ (codes "duration_sum", λ layer c. Sum c.sums.pairs.duration_sum)
-    ∷ (codes "duration_count", λ layer c. Sum c.sums.pairs.duration_count)
-    ∷ (codes "duration_p99", λ layer c. IfAny c.durations.p99)
-    ∷ (codes "duration_max", λ layer c. IfAny c.durations.greatest)
-    ∷ (codes "good_sum", λ layer c. Sum c.sums.pairs.good_sum)
-    ∷ (codes "good_count", λ layer c. Sum c.sums.pairs.good_count)
-    ∷ (codes "detections", λ layer c. Sum c.detections.count)
-    ∷ (codes "undetected", λ layer c. Sum c.sums.pairs.undetected)
-    ∷ (codes "at_once", λ layer c. Sum c.sums.pairs.at_once)
-    ∷ (codes "detection_sum", λ layer c. Sum c.sums.pairs.detection_sum)
-    ∷ (codes "detection_p50", λ layer c. IfAny c.detections.p50)
-    ∷ (codes "detection_p90", λ layer c. IfAny c.detections.p90)
-    ∷ (codes "detection_p99", λ layer c. IfAny c.detections.p99)
-    ∷ (codes "detection_max", λ layer c. IfAny c.detections.greatest)
-    ∷ (codes "detection_bound", λ layer c. IfAny (detection_bound c.sums.bounds))
-    ∷ (codes "strong_completeness", λ layer c. Count c.sums.verdicts.strong_completeness)
-    ∷ (codes "weak_completeness", λ layer c. Count c.sums.verdicts.weak_completeness)
-    ∷ (codes "strong_accuracy", λ layer c. Count c.sums.verdicts.strong_accuracy)
-    ∷ (codes "weak_accuracy", λ layer c. Count c.sums.verdicts.weak_accuracy)
-    ∷ (codes "eventual_strong_accuracy", λ layer c. Count c.sums.verdicts.eventual_strong_accuracy)
-    ∷ (codes "eventual_weak_accuracy", λ layer c. Count c.sums.verdicts.eventual_weak_accuracy)
-    ∷ (codes "to_decide", λ layer c. Sum c.sums.decisions.to_decide)
-    ∷ (codes "decided", λ layer c. Sum c.sums.decisions.decided)
-    ∷ (codes "decision_tick_sum", λ layer c. Sum c.sums.decisions.decision_tick_sum)
-    ∷ (codes "decision_tick_max", λ layer c. IfAny c.sums.decisions.decision_tick_max)
-    ∷ (codes "all_decided", λ layer c. Count c.sums.counts.all_decided)
-    ∷ (codes "last_decision_p50", λ layer c. IfAny c.last_decisions.p50)
-    ∷ (codes "last_decision_p90", λ layer c. IfAny c.last_decisions.p90)
-    ∷ (codes "last_decision_p99", λ layer c. IfAny c.last_decisions.p99)
-    ∷ (codes "last_decision_max", λ layer c. IfAny c.last_decisions.greatest)
-    ∷ (codes "rounds_p50", λ layer c. IfAny c.rounds.p50)
-    ∷ (codes "rounds_p99", λ layer c. IfAny c.rounds.p99)
-    ∷ (codes "rounds_max", λ layer c. IfAny c.rounds.greatest)
-    ∷ (codes "disagreements", λ layer c. Count c.sums.counts.disagreements)
-    ∷ (codes "mistake_run", λ layer c. IfAny c.first_runs.mistake)
-    ∷ (codes "detection_max_run", λ layer c. IfAny c.first_runs.detection_max)
-    ∷ (codes "disagreement_run", λ layer c. IfAny c.first_runs.disagreement)
+-- a column: its name, and what it tells
+abbrev pub Column : Type 0
+Column = List ℕ × (Columns → Told)
+
+-- those of the runs on a layer, their traces and letters
+unfoldable pub columns_of_runs : (layer : ℕ) → List Column
+columns_of_runs layer =
+    (codes "layer", λ c. All layer)
+    ∷ (codes "runs", λ c. All c.sums.runs)
+    ∷ (codes "limited", λ c. All c.sums.limited)
+    ∷ (codes "entries", λ c. Sum c.sums.traces.entries)
+    ∷ (codes "sent", λ c. Sum c.sums.traces.sent)
+    ∷ (codes "lost", λ c. Sum c.sums.traces.lost)
     ∷ []
 
+-- those of the mistakes, and the ticks between them
+unfoldable pub columns_of_mistakes : List Column
+columns_of_mistakes =
+    (codes "pair_ticks", λ c. Sum c.sums.pair_ticks)
+    ∷ (codes "mistakes", λ c. Sum c.sums.pairs.mistakes)
+    ∷ (codes "mistake_ticks", λ c. Sum c.sums.pairs.mistake_ticks)
+    ∷ (codes "mistake_recurrence", λ c. IfAny c.mistake_recurrence)
+    ∷ (codes "mistaken_ppm", λ c. IfAny c.mistaken_ppm)
+    ∷ (codes "mistakes_squared_sum", λ c. Sum c.sums.mistakes_squared_sum)
+    ∷ (codes "runs_with_mistakes", λ c. Count c.sums.counts.with_mistakes)
+    ∷ (codes "mistakes_error", λ c. IfAny (mistakes_error c.sums))
+    ∷ (codes "recurrence_sum", λ c. Sum c.sums.pairs.recurrence_sum)
+    ∷ (codes "recurrence_count", λ c. Sum c.sums.pairs.recurrence_count)
+    ∷ (codes "duration_sum", λ c. Sum c.sums.pairs.duration_sum)
+    ∷ (codes "duration_count", λ c. Sum c.sums.pairs.duration_count)
+    ∷ (codes "duration_p99", λ c. IfAny c.durations.p99)
+    ∷ (codes "duration_max", λ c. IfAny c.durations.greatest)
+    ∷ (codes "good_sum", λ c. Sum c.sums.pairs.good_sum)
+    ∷ (codes "good_count", λ c. Sum c.sums.pairs.good_count)
+    ∷ []
+
+-- those of the detections
+unfoldable pub columns_of_detections : List Column
+columns_of_detections =
+    (codes "detections", λ c. Sum c.detections.count)
+    ∷ (codes "undetected", λ c. Sum c.sums.pairs.undetected)
+    ∷ (codes "at_once", λ c. Sum c.sums.pairs.at_once)
+    ∷ (codes "detection_sum", λ c. Sum c.sums.pairs.detection_sum)
+    ∷ (codes "detection_p50", λ c. IfAny c.detections.p50)
+    ∷ (codes "detection_p90", λ c. IfAny c.detections.p90)
+    ∷ (codes "detection_p99", λ c. IfAny c.detections.p99)
+    ∷ (codes "detection_max", λ c. IfAny c.detections.greatest)
+    ∷ (codes "detection_bound", λ c. IfAny (detection_bound c.sums.bounds))
+    ∷ []
+
+-- those of the verdicts and the decisions, and which runs to look at
+unfoldable pub columns_of_outcomes : List Column
+columns_of_outcomes =
+    (codes "strong_completeness", λ c. Count c.sums.verdicts.strong_completeness)
+    ∷ (codes "weak_completeness", λ c. Count c.sums.verdicts.weak_completeness)
+    ∷ (codes "strong_accuracy", λ c. Count c.sums.verdicts.strong_accuracy)
+    ∷ (codes "weak_accuracy", λ c. Count c.sums.verdicts.weak_accuracy)
+    ∷ (codes "eventual_strong_accuracy", λ c. Count c.sums.verdicts.eventual_strong_accuracy)
+    ∷ (codes "eventual_weak_accuracy", λ c. Count c.sums.verdicts.eventual_weak_accuracy)
+    ∷ (codes "to_decide", λ c. Sum c.sums.decisions.to_decide)
+    ∷ (codes "decided", λ c. Sum c.sums.decisions.decided)
+    ∷ (codes "decision_tick_sum", λ c. Sum c.sums.decisions.decision_tick_sum)
+    ∷ (codes "decision_tick_max", λ c. IfAny c.sums.decisions.decision_tick_max)
+    ∷ (codes "all_decided", λ c. Count c.sums.counts.all_decided)
+    ∷ (codes "last_decision_p50", λ c. IfAny c.last_decisions.p50)
+    ∷ (codes "last_decision_p90", λ c. IfAny c.last_decisions.p90)
+    ∷ (codes "last_decision_p99", λ c. IfAny c.last_decisions.p99)
+    ∷ (codes "last_decision_max", λ c. IfAny c.last_decisions.greatest)
+    ∷ (codes "rounds_p50", λ c. IfAny c.rounds.p50)
+    ∷ (codes "rounds_p99", λ c. IfAny c.rounds.p99)
+    ∷ (codes "rounds_max", λ c. IfAny c.rounds.greatest)
+    ∷ (codes "disagreements", λ c. Count c.sums.counts.disagreements)
+    ∷ (codes "mistake_run", λ c. IfAny c.first_runs.mistake)
+    ∷ (codes "detection_max_run", λ c. IfAny c.first_runs.detection_max)
+    ∷ (codes "disagreement_run", λ c. IfAny c.first_runs.disagreement)
+    ∷ []
+
+abbrev pub columns : (layer : ℕ) → List Column
+columns layer = columns_of_runs layer ++ columns_of_mistakes ++ columns_of_detections ++ columns_of_outcomes
+
+-- the same on each layer
 abbrev pub column_names : List (List ℕ)
-column_names = map (λ d. d.0) columns
+column_names = map (λ d. d.0) (columns 1)
 
 -- what is told: of the runs that are done nothing where none is
 abbrev pub of_done : Columns → Option ℕ → Option ℕ
@@ -96,4 +119,4 @@ number_of c (Sum number) = of_done c (Some number)
 number_of c (IfAny number) = of_done c number
 
 abbrev pub numbers_of : (layer : ℕ) → Columns → List (Option ℕ)
-numbers_of layer c = map (number_of c) (map (λ d. d.1 layer c) columns)
+numbers_of layer c = map (number_of c) (map (λ d. d.1 c) (columns layer))

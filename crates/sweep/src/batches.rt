@@ -1,5 +1,5 @@
 //! How many runs are handed out at a time.
-ghost use Rattle.std.specs.Prelude.{◌≡◌, ℕ, ◌+◌, ◌^◌, ◌<◌, ◌≤◌, length, IfOk};
+ghost use Rattle.std.specs.Prelude.{ℕ, ◌+◌, ◌^◌, ◌<◌, ◌≤◌, length, IfOk};
 ghost use Rattle.sweep.specs.Parallel.{AreAnswers};
 
 use crate::parallel::in_parallel;

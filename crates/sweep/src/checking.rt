@@ -16,7 +16,7 @@ use crate::layout::Layout;
 use crate::numbering::{points_of, scenario_of};
 use crate::watcher::{Pass, Standing, Watcher};
 use scenario::{Scenario, ScenarioError};
-use std::alloc::{AllocError, Global};
+use std::alloc::Global;
 use std::marker::Sync;
 use std::thread::Threads;
 use std::time::Clock;

@@ -1,9 +1,13 @@
-//! The columns of a row from the layer on, a line for each.
+//! The columns of a row from the layer on, a line for each, in order.
 ghost use Rattle.std.specs.Prelude.{◌≡◌, map};
-ghost use Rattle.sweep.specs.ColumnTable.{columns as columns_in, column_names, number_of};
+ghost use Rattle.sweep.specs.ColumnTable.{columns_of_runs, columns_of_mistakes, columns_of_detections};
+ghost use Rattle.sweep.specs.ColumnTable.{columns_of_outcomes, number_of};
 
 use crate::columns::Columns;
 use crate::standard_error::mistakes_error;
+
+/// A column: its name, and what it tells.
+pub(crate) type Column = (&'static str, Told);
 
 /// What a column tells.
 #[derive(Clone, Copy)]
@@ -35,17 +39,14 @@ impl Told {
     }
 }
 
-/// The columns, of what these tell: of each its name and what it tells.
-#[tactic(auto, unfolding(crate::specs::ColumnTable::columns))]
-pub(crate) fn columns_of(layer: u8, columns: &Columns) -> [(&'static str, Told); 53]
-    ensures names { map (λ d. d.0.now) result ≡ column_names }
-    ensures told { map (λ d. d.1) result ≡ map (λ d. d.1 layer columns.now) columns_in }
+/// The columns of the runs, their traces and letters.
+#[tactic(auto, unfolding(crate::specs::ColumnTable::columns_of_runs))]
+pub(crate) fn run_columns(layer: u8, columns: &Columns) -> [Column; 6]
+    ensures names { map (λ d. d.0.now) result ≡ map (λ d. d.0) (columns_of_runs layer) }
+    ensures told { map (λ d. d.1) result ≡ map (λ d. d.1 columns.now) (columns_of_runs layer) }
 {
     let sums = &columns.sums;
-    let (traces, pairs, v) = (&sums.traces, &sums.pairs, &sums.verdicts);
-    let (decisions, counts, first) = (&sums.decisions, &sums.counts, &columns.first_runs);
-    let (durations, detections) = (&columns.durations, &columns.detections);
-    let (last, rounds) = (&columns.last_decisions, &columns.rounds);
+    let traces = &sums.traces;
     [
         ("layer", All(u64::from(layer))),
         ("runs", All(sums.runs)),
@@ -53,6 +54,18 @@ pub(crate) fn columns_of(layer: u8, columns: &Columns) -> [(&'static str, Told);
         ("entries", Sum(traces.entries)),
         ("sent", Sum(traces.sent)),
         ("lost", Sum(traces.lost)),
+    ]
+}
+
+/// The columns of the mistakes, and of the ticks without one.
+#[tactic(auto, unfolding(crate::specs::ColumnTable::columns_of_mistakes))]
+pub(crate) fn mistake_columns(columns: &Columns) -> [Column; 16]
+    ensures names { map (λ d. d.0.now) result ≡ map (λ d. d.0) columns_of_mistakes }
+    ensures told { map (λ d. d.1) result ≡ map (λ d. d.1 columns.now) columns_of_mistakes }
+{
+    let (sums, durations) = (&columns.sums, &columns.durations);
+    let (pairs, counts) = (&sums.pairs, &sums.counts);
+    [
         ("pair_ticks", Sum(sums.pair_ticks)),
         ("mistakes", Sum(pairs.mistakes)),
         ("mistake_ticks", Sum(pairs.mistake_ticks)),
@@ -69,6 +82,18 @@ pub(crate) fn columns_of(layer: u8, columns: &Columns) -> [(&'static str, Told);
         ("duration_max", IfAny(durations.greatest)),
         ("good_sum", Sum(pairs.good_sum)),
         ("good_count", Sum(pairs.good_count)),
+    ]
+}
+
+/// The columns of the detections.
+#[tactic(auto, unfolding(crate::specs::ColumnTable::columns_of_detections))]
+pub(crate) fn detection_columns(columns: &Columns) -> [Column; 9]
+    ensures names { map (λ d. d.0.now) result ≡ map (λ d. d.0) columns_of_detections }
+    ensures told { map (λ d. d.1) result ≡ map (λ d. d.1 columns.now) columns_of_detections }
+{
+    let (sums, detections) = (&columns.sums, &columns.detections);
+    let pairs = &sums.pairs;
+    [
         ("detections", Sum(detections.count)),
         ("undetected", Sum(pairs.undetected)),
         ("at_once", Sum(pairs.at_once)),
@@ -78,6 +103,20 @@ pub(crate) fn columns_of(layer: u8, columns: &Columns) -> [(&'static str, Told);
         ("detection_p99", IfAny(detections.p99)),
         ("detection_max", IfAny(detections.greatest)),
         ("detection_bound", IfAny(sums.bounds.told().map(u128::from))),
+    ]
+}
+
+/// The columns of the verdicts and the decisions, and of the runs to look at first.
+#[tactic(auto, unfolding(crate::specs::ColumnTable::columns_of_outcomes))]
+pub(crate) fn outcome_columns(columns: &Columns) -> [Column; 22]
+    ensures names { map (λ d. d.0.now) result ≡ map (λ d. d.0) columns_of_outcomes }
+    ensures told { map (λ d. d.1) result ≡ map (λ d. d.1 columns.now) columns_of_outcomes }
+{
+    let sums = &columns.sums;
+    let (v, decisions, counts) = (&sums.verdicts, &sums.decisions, &sums.counts);
+    let (last, rounds) = (&columns.last_decisions, &columns.rounds);
+    let first = &columns.first_runs;
+    [
         ("strong_completeness", Count(v.strong_completeness)),
         ("weak_completeness", Count(v.weak_completeness)),
         ("strong_accuracy", Count(v.strong_accuracy)),

@@ -1,5 +1,5 @@
 //! The decisions of a run's processes.
-ghost use Rattle.std.specs.Prelude.{◌≡◌, ◌≤◌, ◌*◌, ◌^◌, List, length, IfOk};
+ghost use Rattle.std.specs.Prelude.{◌≡◌, ◌*◌, ◌^◌, List, length, IfOk};
 ghost use Rattle.std.specs.List.{list_all, list_any};
 ghost use Rattle.sweep.specs.Inside.Adding.{of_outcome, differ};
 ghost use Rattle.sweep.specs.Columns.{AreDecisionSums};

@@ -1,5 +1,5 @@
 //! Runs scenarios and measures them.
-ghost use Rattle.std.specs.Prelude.{◌≡◌, ◌+◌, ◌*◌, ◌^◌, ◌<◌, ◌≤◌, length, IfOk};
+ghost use Rattle.std.specs.Prelude.{◌+◌, ◌*◌, ◌^◌, ◌<◌, ◌≤◌, length, IfOk};
 ghost use Rattle.study.specs.Sources.{sources_of};
 ghost use Rattle.study.specs.Grid.{points, runs};
 ghost use Rattle.sweep.specs.Inside.Numbering.{point_of, IsAnswerAt, AreNumbersFrom};

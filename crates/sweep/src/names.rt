@@ -1,12 +1,14 @@
 //! The names of the columns that rows may have.
-ghost use Rattle.std.specs.Prelude.{◌≡◌, ◌++◌, ◌∷◌, [], ◌≤◌, map, length, string_bytes, codes, IfOk, OnOk};
+ghost use Rattle.std.specs.Prelude.{◌≡◌, ◌++◌, ◌≤◌, map, length, string_bytes, IfOk, OnOk};
 ghost use Rattle.study.specs.Grid.{paths_of};
 ghost use Rattle.study.specs.Settings.{chosen, path_of, key_text};
 ghost use Rattle.sweep.specs.ColumnTable.{column_names};
 ghost use Rattle.sweep.specs.Groups.{group_names};
 ghost use Rattle.sweep.specs.StudyText.{lead_names, names_of as names_in};
 
-use crate::column_table::columns_of;
+use crate::column_table::{
+    Column, detection_columns, mistake_columns, outcome_columns, run_columns,
+};
 use crate::columns::Columns;
 use crate::group::{Group, are_any_said};
 use crate::layout::Rows;
@@ -87,14 +89,30 @@ fn push_lead_names(
     }
 }
 
+/// Adds the names of these columns.
+fn push_names_of(
+    alloc: Global,
+    names: &mut Vec<String>,
+    columns: &[Column],
+) -> Result<(), AllocError>
+    ensures { OnOk result (map string_bytes names.new.items
+        ≡ map string_bytes names.old.items ++ map (λ d. d.0.now) columns.now) }
+{
+    for (name, _) in columns {
+        names.push(String::from_str(alloc, name)?)?;
+    }
+    Ok(())
+}
+
 /// Adds the names of the columns.
 fn push_column_names(alloc: Global, names: &mut Vec<String>) -> Result<(), AllocError>
     ensures { OnOk result (map string_bytes names.new.items ≡ map string_bytes names.old.items ++ column_names) }
 {
-    for (name, _) in columns_of(1, &Columns::default()) {
-        names.push(String::from_str(alloc, name)?)?;
-    }
-    Ok(())
+    let none = Columns::default();
+    push_names_of(alloc, names, &run_columns(1, &none))?;
+    push_names_of(alloc, names, &mistake_columns(&none))?;
+    push_names_of(alloc, names, &detection_columns(&none))?;
+    push_names_of(alloc, names, &outcome_columns(&none))
 }
 
 /// Adds the name of the column for groups' words, where groups are said.

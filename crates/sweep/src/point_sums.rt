@@ -112,8 +112,8 @@ impl LayerTotals {
     }
 }
 
-/// The sums of a point, over the runs that were added, of a group of pairs. Memory grows with how many different lengths
-/// of mistakes, detection times, ticks of last decisions and rounds there are, and not with the runs.
+/// The sums of a point, over the runs that were added, of a group of pairs. Memory grows with how many different
+/// lengths of mistakes, detection times, ticks of last decisions and rounds there are, and not with the runs.
 #[derive(Drop)]
 pub struct PointSums {
     first: LayerTotals,

@@ -2,12 +2,14 @@
 ghost use Rattle.std.specs.Prelude.{◌≡◌, ◌<◌, ◌++◌, [], length, map, IfOk, OnOk};
 ghost use Rattle.study.specs.Grid.{points};
 ghost use Rattle.csv.specs.Records.{fields_of};
-ghost use Rattle.sweep.specs.ColumnTable.{numbers_of};
+ghost use Rattle.sweep.specs.ColumnTable.{number_of, numbers_of};
 ghost use Rattle.sweep.specs.Groups.{group_word};
 ghost use Rattle.sweep.specs.RowText.{number_text, header_text, layer_text, line_text, picked};
 ghost use Rattle.sweep.specs.StudyText.{names_of as names_in, unit_point, lead_of};
 
-use crate::column_table::columns_of;
+use crate::column_table::{
+    Column, detection_columns, mistake_columns, outcome_columns, run_columns,
+};
 use crate::columns::Columns;
 use crate::fields::{push_numbers, push_settings, push_texts};
 use crate::group::Group;
@@ -20,15 +22,30 @@ use csv::{StringRecord, Writer};
 use std::alloc::{AllocError, Global};
 use study::Grid;
 
+/// What these columns tell.
+fn push_told(
+    fields: &mut StringRecord,
+    columns: &Columns,
+    part: &[Column],
+) -> Result<(), AllocError>
+    ensures { OnOk result (fields_of fields.new
+        ≡ fields_of fields.old ++ map number_text (map (number_of columns.now) (map (λ d. d.1) part.now))) }
+{
+    for (_, told) in part {
+        push_numbers(fields, &[told.number(columns)])?;
+    }
+    Ok(())
+}
+
 /// The columns of a row on a layer.
 fn push_columns(fields: &mut StringRecord, layer: u8, columns: &Columns) -> Result<(), AllocError>
     ensures { OnOk result (fields_of fields.new
         ≡ fields_of fields.old ++ map number_text (numbers_of layer columns.now)) }
 {
-    for (_, told) in columns_of(layer, columns) {
-        push_numbers(fields, &[told.number(columns)])?;
-    }
-    Ok(())
+    push_told(fields, columns, &run_columns(layer, columns))?;
+    push_told(fields, columns, &mistake_columns(columns))?;
+    push_told(fields, columns, &detection_columns(columns))?;
+    push_told(fields, columns, &outcome_columns(columns))
 }
 
 /// What a unit's rows begin with.

@@ -23,8 +23,8 @@ fn skips_to(lines: &mut Lines<'_>, wanted: &str) -> bool {
     false
 }
 
-/// Whether the text fits the pattern, line by line. Its line `...` stands for any lines, and `...PART` for any lines and one
-/// that has this part.
+/// Whether the text fits the pattern, line by line. Its line `...` stands for any lines, and `...PART` for any lines
+/// and one that has this part.
 pub fn fits(text: &str, pattern: &str) -> bool {
     let mut lines = text.lines();
     let mut skips = false;

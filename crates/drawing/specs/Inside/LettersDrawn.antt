@@ -19,7 +19,8 @@ turn_bars run q p =
     (row_end run.scenario.now run.ticks.until q)
 
 abbrev pub lines_in : Run → List Shape
-lines_in run = flat_map (λ q. own_of run (own_top run.scenario.now.processes q) q) (numbers_to run.scenario.now.processes)
+lines_in run =
+    flat_map (λ q. own_of run (own_top run.scenario.now.processes q) q) (numbers_to run.scenario.now.processes)
 
 -- the bands of a link from process q
 unfoldable pub link_bands_in : Run → (q p : ℕ) → List Shape

@@ -1,9 +1,11 @@
 //! Two whole pictures, worked out by hand: of ticks 5 to 9, each 160 units wide.
 use super::letters_pictures::letters_of;
-use crate::comparisons::is_made_of;
+use crate::comparisons::{NO_MEMORY, is_made_of};
 use crate::traces::trace_of;
 use drawing::{draw_letters, draw_suspicions};
 use scenario::read_scenario;
+use std::alloc::Global;
+use std::process::Abort;
 
 /// Process 2 of two crashes at tick 6, there is a reduction, and the link from process 2 to process 1 is cut at ticks 6
 /// and 7.
@@ -194,30 +196,6 @@ const LETTERS_LEGEND: &str = "\
 <rect class=\"outage\" x=\"248\" y=\"152\" width=\"320\" height=\"16\"/>
 ";
 
-/// The same labels. The rooms end at 188.
-const LETTERS_AXIS: &str = "\
-<line class=\"axis\" x1=\"88\" y1=\"72\" x2=\"888\" y2=\"72\"/>
-<line class=\"axis\" x1=\"88\" y1=\"188\" x2=\"888\" y2=\"188\"/>
-<line class=\"grid\" x1=\"88\" y1=\"72\" x2=\"88\" y2=\"188\"/>
-<text class=\"label\" x=\"88\" y=\"68\" text-anchor=\"middle\">5</text>
-<text class=\"label\" x=\"88\" y=\"202\" text-anchor=\"middle\">5</text>
-<line class=\"grid\" x1=\"248\" y1=\"72\" x2=\"248\" y2=\"188\"/>
-<text class=\"label\" x=\"248\" y=\"68\" text-anchor=\"middle\">6</text>
-<text class=\"label\" x=\"248\" y=\"202\" text-anchor=\"middle\">6</text>
-<line class=\"grid\" x1=\"408\" y1=\"72\" x2=\"408\" y2=\"188\"/>
-<text class=\"label\" x=\"408\" y=\"68\" text-anchor=\"middle\">7</text>
-<text class=\"label\" x=\"408\" y=\"202\" text-anchor=\"middle\">7</text>
-<line class=\"grid\" x1=\"568\" y1=\"72\" x2=\"568\" y2=\"188\"/>
-<text class=\"label\" x=\"568\" y=\"68\" text-anchor=\"middle\">8</text>
-<text class=\"label\" x=\"568\" y=\"202\" text-anchor=\"middle\">8</text>
-<line class=\"grid\" x1=\"728\" y1=\"72\" x2=\"728\" y2=\"188\"/>
-<text class=\"label\" x=\"728\" y=\"68\" text-anchor=\"middle\">9</text>
-<text class=\"label\" x=\"728\" y=\"202\" text-anchor=\"middle\">9</text>
-<line class=\"grid\" x1=\"888\" y1=\"72\" x2=\"888\" y2=\"188\"/>
-<text class=\"label\" x=\"888\" y=\"68\" text-anchor=\"middle\">10</text>
-<text class=\"label\" x=\"888\" y=\"202\" text-anchor=\"middle\">10</text>
-";
-
 /// The lines of the processes are at 106 and 160; arrows and marks stand on them.
 const LETTERS_SHAPES: &str = "\
 <text class=\"title\" x=\"78\" y=\"110\" text-anchor=\"end\">process 1</text>
@@ -235,6 +213,15 @@ const LETTERS_SHAPES: &str = "\
 <text class=\"remark\" x=\"568\" y=\"100\" text-anchor=\"middle\">+2</text>
 </svg>
 ";
+
+/// The same labels where the rooms end at 188, 40 units further down.
+fn letters_axis<R: Abort>(rt: &R, alloc: Global) -> String {
+    let lines = SUSPICIONS_AXIS.replace(alloc, "\"148\"", "\"188\"");
+    let axis = lines
+        .expect(rt, NO_MEMORY)
+        .replace(alloc, "\"162\"", "\"202\"");
+    axis.expect(rt, NO_MEMORY)
+}
 
 #[test]
 fn whole_pictures(rt: HostRuntime) {
@@ -255,11 +242,12 @@ fn whole_pictures(rt: HostRuntime) {
     let letters = letters_of(&rt, alloc, SENT);
     let text = draw_letters(alloc, &scenario, &trace, &letters, &[], 5, 10);
     let text = text.expect(&rt, "no picture");
+    let axis = letters_axis(&rt, alloc);
     let pieces = [
         LETTERS_HEAD,
         STYLE,
         LETTERS_LEGEND,
-        LETTERS_AXIS,
+        axis.as_str(),
         LETTERS_SHAPES,
     ];
     is_made_of(&rt, &text, &pieces);

@@ -77,8 +77,8 @@ fn words(rt: HostRuntime) {
 }
 
 /// The rows of three processes in a circle, of which each watches the next, for groups. The first has two blocks, and
-/// both have the pair of 2 and 3, which counts once: it has the mistake, and is watched for 3 ticks, as is the pair of 1
-/// and 2. The second has the pair of 3 and 1, without a mistake, and of the third none is watched.
+/// both have the pair of 2 and 3, which counts once: it has the mistake, and is watched for 3 ticks, as is the pair of
+/// 1 and 2. The second has the pair of 3 and 1, without a mistake, and of the third none is watched.
 #[test]
 fn circle_in_groups(rt: HostRuntime) {
     let alloc = rt.alloc();
@@ -100,7 +100,8 @@ fn circle_in_groups(rt: HostRuntime) {
     is_text(
         &rt,
         &rows_in(&rt, alloc, &grid, &layout, &sums),
-        "5,1..=2:2..=3+2:1..=3,1,2,1,12,4,0,6,1,2,6,333333,1,1,,0,0,2,1,2,2,0,0,1,0,1,0,0,0,0,0,6,1,1,1,1,1,1,0,0,0,,0,,,,,,,,0,2,2,\n\
+        "5,1..=2:2..=3+2:1..=3,1,2,1,12,4,0,6,1,2,6,333333,1,1,,0,0,2,1,2,2,0,0,1,0,1,0,0,0,0,0,6,1,1,1,1,1,1,\
+         0,0,0,,0,,,,,,,,0,2,2,\n\
          5,3:1,1,2,1,12,4,0,10,0,0,,0,0,0,,0,0,0,0,,,0,0,0,0,0,0,,,,,,1,1,1,1,1,1,0,0,0,,0,,,,,,,,0,,,\n\
          5,2:1,1,2,1,12,4,0,0,0,0,,,0,0,,0,0,0,0,,,0,0,0,0,0,0,,,,,,1,1,1,1,1,1,0,0,0,,0,,,,,,,,0,,,\n",
     );

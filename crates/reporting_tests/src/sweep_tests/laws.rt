@@ -134,7 +134,8 @@ fn surplus(points: u32, number: u32, another: u32, shards: u32) -> Option<u32>
     Some((these.end - these.start).saturating_sub(those.end - those.start))
 }
 
-/// The seeds of two runs of a point, from 0, where no axis' values are added up: two different runs have different ones.
+/// The seeds of two runs of a point, from 0, where no axis' values are added up: two different runs have different
+/// ones.
 fn two_seeds(alloc: Global, grid: &Grid, one: u64, other: u64) -> Result<(u64, u64), AllocError>
     requires alone { grid.now.over ≡ [] }
     requires one { one < length (runs grid.now) }

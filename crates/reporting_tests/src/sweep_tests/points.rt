@@ -21,8 +21,8 @@ pub const HEADER: &str =
      mistaken_ppm,mistakes_squared_sum,runs_with_mistakes,mistakes_error,recurrence_sum,recurrence_count,\
      duration_sum,duration_count,duration_p99,duration_max,good_sum,good_count,detections,undetected,at_once,\
      detection_sum,detection_p50,detection_p90,detection_p99,detection_max,detection_bound,\
-     strong_completeness,weak_completeness,strong_accuracy,weak_accuracy,eventual_strong_accuracy,eventual_weak_accuracy,\
-     to_decide,decided,decision_tick_sum,decision_tick_max,all_decided,last_decision_p50,\
+     strong_completeness,weak_completeness,strong_accuracy,weak_accuracy,eventual_strong_accuracy,\
+     eventual_weak_accuracy,to_decide,decided,decision_tick_sum,decision_tick_max,all_decided,last_decision_p50,\
      last_decision_p90,last_decision_p99,last_decision_max,rounds_p50,rounds_p99,rounds_max,\
      disagreements,mistake_run,detection_max_run,disagreement_run\n";
 

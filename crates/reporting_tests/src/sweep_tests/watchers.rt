@@ -124,8 +124,8 @@ fn hears_of_all_runs(rt: HostRuntime) {
     }
 }
 
-/// With the crash at tick 3 a run has 12 entries, with the crash at tick 5 it has 15: of the second of three points both
-/// pass the limit, of the third one does.
+/// With the crash at tick 3 a run has 12 entries, with the crash at tick 5 it has 15: of the second of three points
+/// both pass the limit, of the third one does.
 #[test]
 fn hears_of_limits(rt: HostRuntime) {
     let alloc = rt.alloc();

@@ -1,4 +1,4 @@
-use Rattle.std.proofs.Common.{◌≡◌, ◌∙◌, ◌-◌, sym, refl, length, take, get_or, replicate, is_some, None, rules, arith, true, false, codes}
+use Rattle.std.proofs.Common.{◌≡◌, ◌∙◌, ◌-◌, sym, refl, length, take, get_or, replicate, is_some, None, rules, arith, true, false}
 use Rattle.std.proofs.lemmas.List.{take_all}
 use Rattle.toml.specs.View.{table_view}
 use Rattle.scenario.specs.Text.{crash_tick}

@@ -1,4 +1,4 @@
-use Rattle.std.proofs.Common.{◌≡◌, ◌∙◌, sym, refl, take, rules, arith, true, codes}
+use Rattle.std.proofs.Common.{◌≡◌, ◌∙◌, sym, refl, take, rules, arith, true}
 use Rattle.std.proofs.lemmas.List.{take_all, length-map}
 use Rattle.toml.specs.View.{table_view}
 use Rattle.scenario.specs.Rules.{is_bad_outage}

@@ -1,5 +1,5 @@
 use Rattle.sweep.proofs.Words.{◌≡◌, ◌++◌, append_assoc, map, length, length-append, length-map, string_bytes, ap, ◌∙◌, arith}
-use Rattle.sweep.specs.ColumnTable.{column_names, columns}
+use Rattle.sweep.specs.ColumnTable.{column_names, columns_of_runs}
 use Rattle.sweep.specs.Groups.{group_names}
 use Rattle.sweep.specs.StudyText.{lead_names}
 use Rattle.sweep.proofs.names.names_of.Goals as goal
@@ -14,6 +14,6 @@ returns-clause-names c =
     ∙ append_assoc leads groups column_names
 
 pub returns-clause-some : goal.returns-clause-some
-unfolding columns
+unfolding columns_of_runs
 returns-clause-some c =
     omega (arith, ap length (returns-clause-names c), length-map c.push_column_names.new.names.items string_bytes, length-append (lead_names c.args.rows c.args.grid.now) (group_names c.args.groups.now ++ column_names), length-append (group_names c.args.groups.now) column_names)

@@ -7,7 +7,7 @@ use Rattle.network.specs.Inside.Coming.{to_come}
 use Rattle.scenario.specs.declared.drawn.LinkOutage.{LinkOutage}
 use Rattle.network.proofs.Adding.{adds_more, all_taken, full_more, number_at}
 use Rattle.network.proofs.Records.{replayed-turns}
-use Rattle.network.proofs.network.Replay.draw.Goals as goal
+use Rattle.network.proofs.replay.ReplaySource.draw_on.Goals as goal
 
 pub loop-turn-preserved : goal.loop-turn-preserved
 loop-turn-preserved c =

@@ -4,7 +4,7 @@ use Rattle.network.specs.Inside.Coming.{to_come}
 use Rattle.scenario.specs.declared.drawn.LinkOutage.{LinkOutage}
 use Rattle.network.proofs.Adding.{none_each}
 use Rattle.network.proofs.Turns.{adds_one, all_seen, full_at, goes_on, seen, starts}
-use Rattle.network.proofs.rhythm.Rhythm.draw.Goals as goal
+use Rattle.network.proofs.rhythm.RhythmSource.draw_on.Goals as goal
 
 pub loop-begin-init : goal.loop-begin-init
 loop-begin-init c =

@@ -2,7 +2,7 @@ use Rattle.std.proofs.Common.{ℕ, ◌≡◌, ◌-◌, ◌++◌}
 use Rattle.network.specs.Drawn.{on_each}
 use Rattle.network.specs.Inside.Coming.{to_come}
 use Rattle.network.proofs.Turns.{IsAt, seen}
-use Rattle.network.proofs.rhythm.Rhythm.draw.Given as goal
+use Rattle.network.proofs.rhythm.RhythmSource.draw_on.Given as goal
 
 -- the episodes so far
 abbrev pub invariant-loop-begin : goal.invariant-loop-begin

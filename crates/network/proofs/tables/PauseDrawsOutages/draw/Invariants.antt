@@ -1,7 +1,7 @@
 use Rattle.std.proofs.Common.{◌≡◌, ◌++◌, take}
 use Rattle.std.specs.List.{flat_map}
 use Rattle.network.specs.Drawn.{pause_of}
-use Rattle.network.proofs.network.Pause.draw.Given as goal
+use Rattle.network.proofs.tables.PauseDrawsOutages.draw.Given as goal
 
 -- those of the processes so far
 abbrev pub invariant-loop-p : goal.invariant-loop-p

@@ -4,46 +4,41 @@ use Rattle.std.proofs.lemmas.List.{take_all}
 use Rattle.std.proofs.lemmas.Grind.{common_steps}
 use Rattle.network.specs.Groups.{links_of}
 use Rattle.network.specs.Words.{Words, stream_number, stream_of, words_of}
-use Rattle.network.specs.Episodes.{episodes}
 use Rattle.scenario_record.specs.declared.outage.Outage.{Outage}
-use Rattle.network.specs.Drawn.{burst_on, most_outages, of_burst, on_each}
+use Rattle.network.specs.Drawn.{alone, most_outages, on_each}
 use Rattle.network.specs.Inside.Coming.{to_come}
 use Rattle.network.specs.declared.group.Ends.{Ends}
-use Rattle.network.specs.declared.kind.Kind.TheVariants as kind
 use Rattle.scenario.specs.declared.drawn.LinkOutage.{LinkOutage}
 use Rattle.network.proofs.Adding.{full_more}
-use Rattle.network.proofs.network.Burst.draw.Goals as goal
+use Rattle.network.proofs.tables.draw_alone.Goals as goal
 
-pub returns-in_err-draw-clause-full : goal.returns-in_err-draw-clause-full
-unfolding of_burst
-returns-in_err-draw-clause-full c = λ is.
-    let its = c.args.self.now in
+pub returns-in_err-draw_on-clause-full : goal.returns-in_err-draw_on-clause-full
+returns-in_err-draw_on-clause-full g c = λ is.
     let seed = c.args.course.seed in
-    let f : Ends → List LinkOutage = burst_on c.args.course.processes c.args.course.horizon seed c.args.before its in
+    let source : Words → List Outage = λ words. g.S.Source.outages c.args.source.now words c.args.course.horizon in
+    let f : Ends → List LinkOutage = alone seed c.args.kind c.args.before source in
     let xs = c.deref-link-items.result.now in
     let i = c.loop-link.link-index in
     let x = c.link-item.result in
     let direct : xs ≡ c.in_ok-links.links.items = cc in
-    let links : xs ≡ links_of its.links c.args.course.processes = direct ∙ c.in_ok-links.ensures in
-    let words : to_come c.new-words.result ≡ words_of seed (stream_number kind.Burst c.args.before (stream_of x.from x.to)) =
-    c.new-words.ensures ∙ ap (words_of seed) (c.stream-stream.ensures ∙ ap (stream_number kind.Burst c.args.before) c.link_place.ensures.value) in
-    let source : Words → List Outage = λ words. episodes its.rhythm words c.args.course.horizon in
+    let links : xs ≡ links_of c.args.set.now c.args.course.processes = direct ∙ c.in_ok-links.ensures in
+    let words : to_come c.new-words.result ≡ words_of seed (stream_number c.args.kind c.args.before (stream_of x.from x.to)) =
+    c.new-words.ensures ∙ ap (words_of seed) (c.stream-stream.ensures ∙ ap (stream_number c.args.kind c.args.before) c.link_place.ensures.value) in
     let one : on_each c.from_ref.result.now (source (to_come c.new-words.result)) ≡ f x =
     λ k. on_each (c.from_ref.ensures.value k) (source (words k)) in
     let Added : List LinkOutage → Type 0 = λ ys. most_outages < length (c.loop-link.drawn ++ ys) in
     let Whole : List Ends → Type 0 = λ ys. most_outages < length (c.args.drawn.now ++ flat_map f ys) in
-    let added = subst Added one (c.in_err-draw.ensures.full (search rules)) in
+    let added = subst Added one (c.in_err-draw_on.ensures.full (search rules)) in
     subst Whole links
     (full_more f most_outages c.args.drawn.now c.loop-link.drawn xs i x (grind (arith, common_steps)) (sym c.link-item.is) c.loop-link.invariant added)
 
 pub returns-clause-ok : goal.returns-clause-ok
-unfolding of_burst
-returns-clause-ok c =
-    let its = c.args.self.now in
-    let f : Ends → List LinkOutage = burst_on c.args.course.processes c.args.course.horizon c.args.course.seed c.args.before its in
+returns-clause-ok g c =
+    let source : Words → List Outage = λ words. g.S.Source.outages c.args.source.now words c.args.course.horizon in
+    let f : Ends → List LinkOutage = alone c.args.course.seed c.args.kind c.args.before source in
     let xs = c.deref-link-items.result.now in
     let direct : xs ≡ c.in_ok-links.links.items = cc in
-    let links : xs ≡ links_of its.links c.args.course.processes = direct ∙ c.in_ok-links.ensures in
+    let links : xs ≡ links_of c.args.set.now c.args.course.processes = direct ∙ c.in_ok-links.ensures in
     c.loop-link.invariant
     ∙ (ap (λ ys. c.args.drawn.now ++ flat_map f ys) (take_all c.loop-link.link-index xs (grind (arith, common_steps)))
     ∙ ap (λ ys. c.args.drawn.now ++ flat_map f ys) links)

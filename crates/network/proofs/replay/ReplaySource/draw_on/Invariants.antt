@@ -2,7 +2,7 @@ use Rattle.std.proofs.Common.{◌≡◌, ◌+◌, ◌*◌, ◌/◌, ◌++◌, ta
 use Rattle.std.specs.List.{flat_map, range_with_len}
 use Rattle.network.specs.Drawn.{on_each}
 use Rattle.network.specs.Replays.{replayed_in}
-use Rattle.network.proofs.network.Replay.draw.Given as goal
+use Rattle.network.proofs.replay.ReplaySource.draw_on.Given as goal
 
 -- those of the turns so far
 abbrev pub invariant-loop-turn : goal.invariant-loop-turn

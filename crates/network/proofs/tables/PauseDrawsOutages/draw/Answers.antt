@@ -6,7 +6,7 @@ use Rattle.network.specs.Groups.{holds}
 use Rattle.network.specs.Drawn.{most_outages, of_pause, pause_of}
 use Rattle.scenario.specs.declared.drawn.LinkOutage.{LinkOutage}
 use Rattle.network.proofs.Adding.{full_more}
-use Rattle.network.proofs.network.Pause.draw.Goals as goal
+use Rattle.network.proofs.tables.PauseDrawsOutages.draw.Goals as goal
 
 pub returns-in_err-draw_of-clause-full : goal.returns-in_err-draw_of-clause-full
 unfolding of_pause

@@ -1,0 +1,10 @@
+use Rattle.std.proofs.Common.{◌≡◌, ◌++◌, take}
+use Rattle.std.specs.List.{flat_map}
+use Rattle.network.specs.Drawn.{alone}
+use Rattle.network.proofs.tables.draw_alone.Given as goal
+
+-- those of the links so far
+abbrev pub invariant-loop-link : goal.invariant-loop-link
+invariant-loop-link g l = l.drawn ≡ l.fn.drawn
+    ++ flat_map (alone l.course.seed l.kind l.before (λ words. g.S.Source.outages l.source words l.course.horizon))
+    (take l.link-index l.link-items)
