@@ -26,8 +26,8 @@ use std::sync::Wait;
 use std::thread::Threads;
 use trace_merge::Merging;
 
-/// How many entries a piece of a window has at least, but for the last one. A piece is still in a processor's cache as
-/// it is handed on; with fewer entries, each call of the sink would cost more than that saves.
+/// How many entries a piece of a window has at least, but for the last one. A piece is still in the processor's first
+/// cache as it is handed on, where one of 1,024 entries is not.
 const PIECE: usize = 256;
 
 /// Merges the parts, and hands them on in pieces that rise end to end. Their memory joins that of others.
