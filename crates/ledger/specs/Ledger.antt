@@ -12,7 +12,7 @@ module _ {T : Type 0} where
 
   -- ---- the steps
 
-  -- the first pass of an empty queue
+  -- the first pass of an empty queue, once it counts
   abbrev pub first_pass : Account T
   first_pass = account 1 1 [] [] None
 

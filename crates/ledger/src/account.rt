@@ -17,8 +17,9 @@ pub struct Account<T> {
     pub told: Option<LinkedList<T>>,
 }
 
-/// A first pass that rests, as one that was given back does, begins to count. Another that rests comes of it. Where a
-/// queue itself makes passes, such as for items that are popped together, each of these rests, and so does its first.
+/// Makes the first pass count. A queue that makes passes by itself, such as one for each item that is popped together
+/// with others, makes each of them at rest, as one that was given back is, and its first one too. A split also answers
+/// a second pass, which rests.
 pub struct Opening;
 
 impl<T> Split<Account<T>> for Opening {

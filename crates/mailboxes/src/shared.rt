@@ -1,9 +1,7 @@
 //! The part of the mailboxes that threads share: the queues.
-ghost use Rattle.std.specs.Prelude.{◌≡◌, ◌≤◌, ◌<◌, ◌+◌, ◌++◌, ℕ, [], length, slice_index_or, map, replicate, IfOk, IfErr, OnOk, OnErr, vec_len};
-ghost use Rattle.std.specs.List.{All};
+ghost use Rattle.std.specs.Prelude.{◌≡◌, ◌≤◌, ◌<◌, ◌+◌, ◌++◌, [], length, replicate, IfErr, OnOk, OnErr};
 ghost use Rattle.ledger.specs.Places.{each_with};
-ghost use Rattle.mailboxes.specs.Mailbox.{one_out, all_back};
-ghost use Rattle.mailboxes.specs.Mailboxes.{IsSlipOf, letters_in, unused, with_letter, with_lists};
+ghost use Rattle.mailboxes.specs.Mailboxes.{IsSlipOf, with_letter, with_lists};
 
 use crate::mailbox::Mailbox;
 use crate::slip::Slip;
@@ -45,8 +43,8 @@ impl SharedMailboxes {
 
     /// Posts the letters of a tray, receiver by receiver, those to one in the order in which they came. It begins with
     /// the receiver at place `from`, and comes to those before it last: threads that begin at different places seldom
-    /// post to one receiver at once. The tray is empty then, and keeps its memory. The error is that memory was refused.
-    /// Nothing is known then of what was posted by the slip, nor of the letters in the tray.
+    /// post to one receiver at once. The tray is empty then, and keeps its memory. The error is that memory was
+    /// refused. Nothing is known then of what was posted by the slip, nor of the letters in the tray.
     pub fn post_all<R: Wait>(
         &self,
         rt: &R,

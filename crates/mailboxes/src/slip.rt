@@ -1,6 +1,5 @@
 //! Slips: the permit to post.
-ghost use Rattle.std.specs.Prelude.{◌≡◌, [], length, replicate, IfOk, vec_len};
-ghost use Rattle.mailboxes.specs.Mailboxes.{letters_in};
+ghost use Rattle.std.specs.Prelude.{◌≡◌, [], length, replicate, IfOk};
 
 use crate::mailbox::Ticket;
 use crate::tray::Tray;

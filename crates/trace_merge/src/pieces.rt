@@ -19,7 +19,8 @@ use std::marker::Model;
 pub struct Merging {
     alloc: Global,
     lanes: Vec<Lane>,
-    // for how many entries the next piece gets memory: a quarter more than the last one had
+    // a quarter more entries than the last piece had, and 0 before the first: the next gets memory for so many, or for
+    // twice those that are asked for
     room: usize,
 }
 

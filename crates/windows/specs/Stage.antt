@@ -58,8 +58,8 @@ module _ {M : Type 0} (mind : M → Mind) where
         mailbox = λ r. events.empty;
       }
 
-  -- each process is in its berth, of process 1 first. It put at most 4,096 letters and wakes on each link for each
-  -- entry so far
+  -- each berth of the list is that of the process of its place, of process 1 first. It put at most 4,096 letters and
+  -- wakes on each link for each entry so far
   abbrev pub AreHome : Record → (entries : ℕ) → List (Berth M) → Type 0
   AreHome s entries berths = (i : ℕ) (b : Berth M)
       → slice_get berths i ≡ Some b → IsBerth mind s (suc i) (most_step_actions * entries) b

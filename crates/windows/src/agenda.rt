@@ -1,5 +1,5 @@
 //! The pending events of a process in a window.
-ghost use Rattle.std.specs.Prelude.{◌≡◌, ◌<◌, ◌++◌, ◌∷◌, [], ℕ, List, map, MatchOption, IfOk, OnOk, OnErr, IsPermutation, true};
+ghost use Rattle.std.specs.Prelude.{◌≡◌, ◌<◌, ◌++◌, ◌∷◌, [], ℕ, List, map, MatchOption, IfOk, OnOk, OnErr, true};
 ghost use Rattle.std.specs.FinMap as events;
 ghost use Rattle.trace_laws.specs.Step.{Event as EventPair};
 ghost use Rattle.trace_laws.specs.World.{IsLeast, NoneBelow, joined};

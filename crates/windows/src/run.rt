@@ -1,5 +1,5 @@
 //! A run by windows.
-ghost use Rattle.std.specs.Prelude.{◌≡◌, ◌≤◌, ◌<◌, ◌+◌, ◌-◌, ◌^◌, ◌⊎◌, ◌++◌, List, [], length, map, IfErr, IfOk, Ok, OnOk, OnErr, IsErrOf};
+ghost use Rattle.std.specs.Prelude.{◌≡◌, ◌≤◌, ◌<◌, ◌+◌, ◌-◌, ◌^◌, ◌⊎◌, List, [], length, map, IfErr, IfOk, Ok, OnOk, OnErr, IsErrOf};
 ghost use Rattle.process_api.specs.EntryRecord.{EntryRecord};
 ghost use Rattle.process_api.specs.Numbers.{numbers_to};
 ghost use Rattle.scenario_record.specs.Record.{opening_mind};

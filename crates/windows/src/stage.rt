@@ -4,7 +4,7 @@ ghost use Rattle.std.specs.List.{All};
 ghost use Rattle.process_api.specs.Numbers.{numbers_to};
 ghost use Rattle.scenario_record.specs.Record.{opening_mind};
 ghost use Rattle.trace_laws.specs.ScenarioSetting.{setting_of};
-ghost use Rattle.steps.specs.Seat.{process_of, own_of, IsMindIn, IsSeated};
+ghost use Rattle.steps.specs.Seat.{process_of, IsMindIn};
 ghost use Rattle.trace_laws.specs.World.{opened, opening};
 ghost use Rattle.mailboxes.specs.Mailboxes.{IsSlipOf, posted_to};
 ghost use Rattle.trace_merge.specs.Parts.{all_of};
@@ -12,7 +12,7 @@ ghost use Rattle.windows.specs.Inside.Agenda.{AreOne, in_box};
 ghost use Rattle.window_laws.specs.Machine.{StandsFor};
 ghost use Rattle.windows.specs.Refusals.{IsRefusalOfOne};
 ghost use Rattle.windows.specs.Inside.Closing.{delivered, kept_in, IsClosed};
-ghost use Rattle.windows.specs.Stage.{stage_of, start_event, IsOpened, IsNextStart, IsStageAfter};
+ghost use Rattle.windows.specs.Stage.{stage_of, IsOpened, IsNextStart, IsStageAfter};
 
 use crate::agenda::Agenda;
 use crate::berth::Berth;
@@ -80,7 +80,8 @@ fn keep(kept: &mut Vec<Inbox>, inbox: Option<Inbox>) -> Result<(), AllocError>
     Ok(())
 }
 
-/// An empty list for about so many entries, in the memory of the last room where that is large enough.
+/// An empty list for about so many entries, in the memory of the last room where that is large enough. A room that is
+/// too small is dropped.
 fn empty_part(
     alloc: Global,
     rooms: &mut Vec<Vec<Entry>>,
@@ -120,7 +121,7 @@ fn hand_over<M: Process, R: Wait>(
         let Some(inbox) = inboxes.next() else {
             unreachable!()
         };
-        // as much room as this window's part took, or that of another
+        // at least as much room as this window's part took
         let next = empty_part(alloc, rooms, berth.part.len())?;
         parts.push(replace(&mut berth.part, next))?;
         keep(&mut emptied, berth.pending.deliver(rt, inbox)?)?;

@@ -1,5 +1,5 @@
 //! One window: workers share the processes that have something to do in it, and their results are put in order.
-ghost use Rattle.std.specs.Prelude.{◌≡◌, ◌≤◌, ◌<◌, ◌+◌, ◌++◌, ◌⊎◌, ℕ, List, length, map, min, IfOk, IfErr, OnOk, IsErrOf, vec_len, IsPermutation};
+ghost use Rattle.std.specs.Prelude.{◌≡◌, ◌≤◌, ◌<◌, ◌+◌, ◌++◌, ◌⊎◌, ℕ, List, length, map, min, IfOk, IfErr, OnOk, IsErrOf, vec_len};
 ghost use Rattle.std.specs.List.{All};
 ghost use Rattle.std.specs.Thread.{IsSync};
 ghost use Rattle.process_api.specs.EntryRecord.{EntryRecord};

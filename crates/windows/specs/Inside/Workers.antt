@@ -94,7 +94,7 @@ module _ {M : Type 0} where
       pub of_mailboxes : All (IsSlipOf mailboxes) slips
       pub posted : (r : ℕ) → 1 ≤ r → r ≤ s.processes → posted_to slips r ≡ filter (is_to r) (sent_in stays)
 
-    -- the same in the order of the processes
+    -- in the order of the processes; a letter is among those to a receiver just where one of the runs sent it
     pub record IsOutcome (end : ℕ) (olds news : List (Berth M)) (slips : List SlipView) : Type 0 where
       pub stays : List (Stay M)
       pub each : All (IsStay end) stays
