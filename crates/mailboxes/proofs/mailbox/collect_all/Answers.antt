@@ -39,11 +39,11 @@ loop-pass-preserved g c = (
         e.2 ∙ ap (λ l. e.0 ++ l) s.2 ∙ sym (append_assoc e.0 (s.0 ∷ []) s.1),
         n.1,
         on_ok_weaker c.collect_after-told.result
-          (λ p first so_far had.
-              let T = g.T.Collects.collected in
-              let before : (f : g.row.T.Denot) (so : List Letter) → T f c.args.to.now so → T f c.loop-pass.to (so ++ e.0) =
-                  subst (λ t. OnOk t ((f : g.row.T.Denot) (so : List Letter) → T f c.args.to.now so → T f c.loop-pass.to (so ++ e.0))) p.0 e.4 in
-              subst (T first c.collect_after-told.new.to) (append_assoc so_far e.0 _ ∙ ap (λ y. so_far ++ (e.0 ++ y ∷ [])) n.0) (p.1 first (so_far ++ e.0) (before first so_far had))) c.collect_after-told.ensures,
+            (λ p first so_far had.
+            let T = g.T.Collects.collected in
+            let before : (f : g.row.T.Denot) (so : List Letter) → T f c.args.to.now so → T f c.loop-pass.to (so ++ e.0) =
+            subst (λ t. OnOk t ((f : g.row.T.Denot) (so : List Letter) → T f c.args.to.now so → T f c.loop-pass.to (so ++ e.0))) p.0 e.4 in
+            subst (T first c.collect_after-told.new.to) (append_assoc so_far e.0 _ ∙ ap (λ y. so_far ++ (e.0 ++ y ∷ [])) n.0) (p.1 first (so_far ++ e.0) (before first so_far had))) c.collect_after-told.ensures,
       ),
 )
 
@@ -51,6 +51,6 @@ pub returns-clause-to : goal.returns-clause-to
 returns-clause-to g c =
     let T = g.T.Collects.collected in
     told_of_all (Holds c.args.queue.now c.args.pass.now c.args.batch) (λ l. (f : g.row.T.Denot) (so : List Letter) → T f c.args.to.now so → T f c.loop-pass.to (so ++ l)) c.loop-pass.told (λ letters holds.
-      let e = c.loop-pass.invariant.3 letters holds in
-      let none : e.1 ≡ [] = nil_from_length e.1 (omega (arith, c.loop-pass-test.false, c.len.ensures, e.3.8)) in
-      on_ok_weaker c.loop-pass.told (λ had first so_far was. subst (g.T.Collects.collected first c.loop-pass.to) (ap (λ l. so_far ++ l) (sym (e.2 ∙ ap (λ l. e.0 ++ l) none ∙ append-nil e.0))) (had first so_far was)) e.4)
+    let e = c.loop-pass.invariant.3 letters holds in
+    let none : e.1 ≡ [] = nil_from_length e.1 (omega (arith, c.loop-pass-test.false, c.len.ensures, e.3.8)) in
+    on_ok_weaker c.loop-pass.told (λ had first so_far was. subst (g.T.Collects.collected first c.loop-pass.to) (ap (λ l. so_far ++ l) (sym (e.2 ∙ ap (λ l. e.0 ++ l) none ∙ append-nil e.0))) (had first so_far was)) e.4)
