@@ -83,11 +83,14 @@ impl<T: Drop> Row<T> {
     }
 }
 
-/// Makes a row at least so wide, with empty cells.
+/// Makes a row at least so wide, with empty cells. It grows by 64 places at least, so that it seldom grows.
 fn widen<T: Drop>(cells: &mut Vec<Option<T>>, places: usize) -> Result<(), AllocError>
     ensures same { cell_of cells.new.items ≡ cell_of cells.old.items }
     ensures wide { OnOk result (places ≤ length cells.new.items) }
 {
+    if cells.capacity() < places {
+        cells.reserve(64)?;
+    }
     'wide: while cells.len() < places {
         cells.push(None)?;
     }
