@@ -11,7 +11,7 @@ count_of counts q = slice_index_or counts q 0
 
 -- the process that a machine and its counts are
 abbrev pub process_of : {M : Type 0} → (M → Mind) → Seat M → Process Mind
-process_of mind seat = record { mind = mind seat.machine; counts = count_of seat.links.counts.items }
+process_of mind seat = record { mind = mind seat.machine; counts = count_of seat.links.value.counts.items }
 
 -- the number of the process
 abbrev pub own_of : {M : Type 0} → (M → Mind) → Seat M → ℕ
@@ -28,7 +28,7 @@ pub record IsSeated {M : Type 0} (mind : M → Mind) (s : Record) (most : ℕ) (
   pub low : 1 ≤ own_of mind seat
   pub high : own_of mind seat ≤ s.processes
   pub is_mind : IsTrue (is_mind_at (place_in s (own_of mind seat)) (mind seat.machine))
-  pub horizon : seat.links.horizon ≡ s.horizon
+  pub horizon : seat.links.value.horizon ≡ s.horizon
   pub crash : seat.crash ≡ crash s (own_of mind seat)
-  pub places : length seat.links.counts.items ≡ s.processes + 1
-  pub counts : (q : ℕ) → count_of seat.links.counts.items q ≤ most
+  pub places : length seat.links.value.counts.items ≡ s.processes + 1
+  pub counts : (q : ℕ) → count_of seat.links.value.counts.items q ≤ most

@@ -1,5 +1,5 @@
 //! The letters that a process puts on its links.
-ghost use Rattle.std.specs.Prelude.{◌≡◌, ◌≢◌, ◌≤◌, ◌<◌, ◌+◌, ◌^◌, ◌++◌, ◌∷◌, [], ℕ, IfOk, MatchOption, OnOk, length, replicate, vec_len};
+ghost use Rattle.std.specs.Prelude.{◌≡◌, ◌≢◌, ◌≤◌, ◌<◌, ◌+◌, ◌^◌, ◌++◌, ◌∷◌, [], ℕ, IfOk, MatchOption, OnOk, length, replicate, vec_len, vec_capacity};
 ghost use Rattle.std.specs.List.{AllByRecursion};
 ghost use Rattle.process_api.specs.Actions.{IsAllowed};
 ghost use Rattle.process_api.specs.Bounds.{most_step_actions};
@@ -11,7 +11,7 @@ ghost use Rattle.steps.specs.Seat.{count_of};
 ghost use Rattle.trace_laws.specs.Step.{raised, in_time, counted, joining, sent_by, lost_by, noted_by, counts_after, added as added_by, sent as sent_by_all, lost as lost_by_all, noted};
 
 use crate::listener::Listener;
-use process_api::{Action, Entry, Key, Kind, Payload, Pid, StepInput, Tag};
+use process_api::{Action, Entry, Key, Kind, Note, Payload, Pid, StepInput, Tag};
 use scenario_record::Scenario;
 use std::alloc::{AllocError, Global};
 use streams::{Fate, SenderWords, Streams};
@@ -42,6 +42,18 @@ fn due_after(horizon: u32, sent: Key, ticks: u32) -> Option<Key>
         });
     }
     None
+}
+
+/// Room for one note more. A step that notes more than the first few often notes many.
+#[inline(always)]
+fn make_room(notes: &mut Vec<Note>) -> Result<(), AllocError>
+    ensures same { notes.new.items ≡ notes.old.items }
+    ensures room { OnOk result (vec_len notes.new < vec_capacity notes.new) }
+{
+    if notes.len() == notes.capacity() {
+        notes.reserve(if notes.is_empty() { 1 } else { 60 })?;
+    }
+    Ok(())
 }
 
 impl Links {
@@ -249,7 +261,7 @@ impl Links {
             }
             &mut Action::Wake { pause, tag } => self.set_wake(*key, pause, tag, added),
             &mut Action::Note(note) => {
-                entry.notes.reserve(1)?;
+                make_room(&mut entry.notes)?;
                 entry.notes.push_reserved(note);
                 Ok(())
             }

@@ -21,7 +21,8 @@ pub struct Seat<M> {
     machine: M,
     // the tick at which the process crashes, if it does
     crash: Option<u32>,
-    links: Links,
+    // boxed, since a seat is moved often
+    links: Box<Links>,
 }
 
 /// The kind of the entry of whoever takes a letter that says this.
@@ -80,7 +81,8 @@ impl<M: Process> Seat<M> {
     {
         let own = machine.pid();
         let crash = scenario.crash(own);
-        let links = Links::new(alloc, scenario, own)?;
+        let made = Links::new(alloc, scenario, own)?;
+        let links = Box::new(alloc, made)?;
         Ok(Seat {
             machine,
             crash,
@@ -138,7 +140,7 @@ impl<M: Process> Seat<M> {
         actions.clear();
         self.machine.on_input(key.tick, &input, actions)?;
         drop(input);
-        self.links
-            .perform(streams, key, kind, actions, added, listener)
+        let links = &mut *self.links;
+        links.perform(streams, key, kind, actions, added, listener)
     }
 }

@@ -41,15 +41,15 @@ returns-clause-seated g c =
     let still = kept s p key.0.tick key.1 (mind seat.machine) after c.in_ok-on_input.ensures.mind (omega (arith, was.low, was.high)) was.is_mind in
     let stays : p ≡ after.lower.place.own = sym still.1 in
     on_ok_three c.perform.result
-    (λ (places : vec_len c.perform.new.self.counts ≡ vec_len seat.links.counts) (horizon : c.perform.new.self.horizon ≡ seat.links.horizon) room most (h : IsSeated mind s most seat). record {
+    (λ (places : vec_len c.perform.new.self.counts ≡ vec_len seat.links.value.counts) (horizon : c.perform.new.self.horizon ≡ seat.links.value.horizon) room most (h : IsSeated mind s most seat). record {
       low = subst (λ q. 1 ≤ q) stays h.low;
       high = subst (λ q. q ≤ s.processes) stays h.high;
       is_mind = subst (λ q. IsTrue (is_mind_at (place_in s q) after)) stays still.0;
       horizon = horizon ∙ h.horizon;
       crash = h.crash ∙ ap (crash s) stays;
-      places = sym c.perform.new.self.counts.ok.0 ∙ (places ∙ (seat.links.counts.ok.0 ∙ h.places));
+      places = sym c.perform.new.self.counts.ok.0 ∙ (places ∙ (seat.links.value.counts.ok.0 ∙ h.places));
       counts = λ q. omega (arith, room q, h.counts q);
-    }) c.perform.ensures.places c.perform.ensures.horizon c.perform.ensures.room
+    }) (rw c.deref_mut-links.ensures.value at c.perform.ensures.places) (rw c.deref_mut-links.ensures.value at c.perform.ensures.horizon) (rw c.deref_mut-links.ensures.value at c.perform.ensures.room)
 
 pub returns-clause-entry : goal.returns-clause-entry
 returns-clause-entry g c =
@@ -69,4 +69,4 @@ returns-clause-entry g c =
       sent = sent (does i);
       lost = lost S key.receiver key.tick before.counts (does i);
       notes = noted (does i);
-    }) ∙ sym (ap (λ b. (cond b (record { process = before; entry = dead key; added = [] }) (made_by S before key x answer)).entry) up))) c.perform.ensures.entry
+    }) ∙ sym (ap (λ b. (cond b (record { process = before; entry = dead key; added = [] }) (made_by S before key x answer)).entry) up))) (rw c.deref_mut-links.ensures.value at c.perform.ensures.entry)
