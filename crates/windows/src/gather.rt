@@ -86,7 +86,11 @@ pub(crate) fn gather<M: Process>(
         works.items r.0.taken r.1.items r.2.items) }
 {
     let mut hands = Vec::with_capacity(alloc, works.len())?;
-    let mut done = Vec::new(alloc);
+    let count = works.iter().fold(
+        0,
+        |count: usize, work| count.saturating_add(work.done.len()),
+    );
+    let mut done = Vec::with_capacity(alloc, count)?;
     let mut slips = Vec::with_capacity(alloc, works.len())?;
     for mut work in works {
         done.append(&mut work.done)?;

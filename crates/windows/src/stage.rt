@@ -115,7 +115,7 @@ fn hand_over<M: Process, R: Wait>(
 {
     let mut done = Vec::with_capacity(alloc, berths.len())?;
     let mut parts = Vec::with_capacity(alloc, berths.len())?;
-    let mut emptied = Vec::new(alloc);
+    let mut emptied = Vec::with_capacity(alloc, berths.len())?;
     let mut inboxes = inboxes.into_iter();
     for mut berth in berths {
         let Some(inbox) = inboxes.next() else {

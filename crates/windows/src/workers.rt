@@ -131,7 +131,8 @@ pub(crate) fn run_berths<M: Process, G: Gate, R: Wait>(
     let Start { mut hand, mut slip } = start;
     let mut tray = slip.tray()?;
     let first = first_receiver(worker, shared.fronts.len(), tray.receivers());
-    let mut done = Vec::new(shared.alloc);
+    let share = tray.receivers().div_ceil(shared.fronts.len().max(1));
+    let mut done = Vec::with_capacity(shared.alloc, share)?;
     for _ in rt.forever() {
         let Some(berth) = hand.take(rt, shared.fronts) else {
             break;

@@ -21,7 +21,7 @@ loop-work-init g c =
       count = omega (arith, many, c.in_ok-slips.ensures.len);
       works = λ s end m count is.
           let W : Work _ → Type 0 = λ w. IsWork mind s end (deques_of dealt) m w.hand w.slip w.done.items in
-          (subst (All W) (sym all) is, run_none mind s end m _ _ _ (ap (flat_map (λ (h : HandView _). h.taken)) none) c.new-done.ensures.items c.in_ok-slips.ensures.items);
+          (subst (All W) (sym all) is, run_none mind s end m _ _ _ (ap (flat_map (λ (h : HandView _). h.taken)) none) c.in_ok-done.ensures.items c.in_ok-slips.ensures.items);
     }
 
 pub loop-work-preserved : goal.loop-work-preserved

@@ -13,7 +13,7 @@ loop-berth-init g c =
       parts = opens _ _ _ _ _ c.in_ok-parts.ensures.items all;
       same = omega (arith, ap length letters, ap length all, c.requires.count, c.args.berths.ok.0, c.args.inboxes.ok.0);
       one = subst (All AreOne) (sym letters) c.requires.one;
-      emptied = All-same (λ i. i ≡ []) _ [] c.new-emptied.ensures.items (All-nil (λ i. i ≡ []));
+      emptied = All-same (λ i. i ≡ []) _ [] c.in_ok-emptied.ensures.items (All-nil (λ i. i ≡ []));
     }
 
 pub deliver-requires : goal.deliver-requires

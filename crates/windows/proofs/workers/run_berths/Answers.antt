@@ -10,7 +10,7 @@ loop-init g c =
     let w = c.args.shared.now in
     let fresh = c.requires.0 in
     let begins = posting_opens _ _ _ (ap (λ (s : SlipView). s.mailboxes) fresh.none_posted) c.in_ok-tray.ensures.fits c.in_ok-tray.ensures.empty _ c.in_ok-tray.ensures.slip in (
-      subst (λ s. IsWorkBy g.M.Process.mind w c.args.start.hand s c.new-done.result.items) (sym begins.1) (work_begins g.M.Process.mind w.window.now.streams w.window.now.end w.mailboxes.now w.fronts.now.items _ _ _ fresh c.new-done.ensures.items),
+      subst (λ s. IsWorkBy g.M.Process.mind w c.args.start.hand s c.in_ok-done.done.items) (sym begins.1) (work_begins g.M.Process.mind w.window.now.streams w.window.now.end w.mailboxes.now w.fronts.now.items _ _ _ fresh c.in_ok-done.ensures.items),
       begins.0,
       refl,
       refl,
