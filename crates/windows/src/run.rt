@@ -60,6 +60,13 @@ fn hand_on<K: Sink>(
     }
 }
 
+/// Parts that wait to be handed on, and memory in which the next window's may lie.
+#[derive(Drop)]
+struct Waiting {
+    parts: Vec<Vec<Entry>>,
+    rooms: Vec<Vec<Entry>>,
+}
+
 /// Parts that wait to be handed on, memory of those that were, and what the sink answered to these.
 #[derive(Drop)]
 struct Left {
@@ -102,19 +109,19 @@ fn run_and_hand_on<M: Process, G: Gate, K: Sink, R: Threads + Wait + Sync>(
     plan: &Plan,
     gate: &G,
     sink: &mut K,
-    parts: Vec<Vec<Entry>>,
-    mut rooms: Vec<Vec<Entry>>,
+    waiting: Waiting,
 ) -> (Result<Vec<Vec<Entry>>, RunError>, Left)
     requires window { HasNextWindow M.mind plan.now stage.old }
-    requires waiting { AreParts parts.items }
+    requires waiting { AreParts waiting.parts.items }
     requires failures { K.failed sink.old < 2 ^ 64 - 1 }
 
-    ensures handed { HandedOn K.took K.took_front K.failed parts.items result.1.parts.items sink.old sink.new
+    ensures handed { HandedOn K.took K.took_front K.failed waiting.parts.items result.1.parts.items sink.old sink.new
         result.1.told }
     ensures window { IfOk result.0 (λ parts. IsNextWindow M.mind plan.now stage.old parts.items stage.new) }
     ensures errors { IfErr result.0 IsRefusal }
     ensures limit { IsErrOf result.0 RunError.Limit → IsOverLimit stage.old.scenario.now }
 {
+    let Waiting { parts, mut rooms } = waiting;
     let left = Left {
         parts,
         rooms: Vec::new(alloc),
@@ -167,14 +174,15 @@ pub fn run_windows_into<M: Process, G: Gate, K: Sink, R: Threads + Wait + Sync>(
     let mut parts = Vec::new(alloc);
     let mut rooms = Vec::new(alloc);
     while !stage.finished() {
-        let (ran, left) = run_and_hand_on(rt, alloc, &mut stage, plan, gate, sink, parts, rooms);
+        let waiting = Waiting { parts, rooms };
+        let (ran, left) = run_and_hand_on(rt, alloc, &mut stage, plan, gate, sink, waiting);
         let Left {
-            parts: waiting,
+            parts: rest,
             rooms: mut kept,
             told,
         } = left;
         told?;
-        hand_on(alloc, sink, waiting, &mut kept)?;
+        hand_on(alloc, sink, rest, &mut kept)?;
         parts = ran?;
         rooms = kept;
     }
