@@ -101,10 +101,6 @@ pub in_turn : {A : Type 0} {old new front more its : List A} → new ≡ old ++ 
     → new ≡ front ++ its
 in_turn adds before same = adds ∙ (λ k. before k ++ same k)
 
--- where a front is too many, all is
-pub front_full : {A : Type 0} (most : ℕ) (xs ys : List A) → most < length xs → most < length (xs ++ ys)
-front_full most xs ys full = omega (arith, length-append xs ys)
-
 -- of groups of outages, those of each group
 pub each_group : {X : Type 0} (links : List Ends) (g : X → List Outage) (xs : List X)
     → on_each links (flat_map g xs) ≡ flat_map (λ x. on_each links (g x)) xs
