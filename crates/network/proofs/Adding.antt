@@ -1,8 +1,8 @@
 -- Outages that are added table by table, or source by source.
-use Rattle.std.proofs.Common.{◌≡◌, ℕ, ◌+◌, ◌<◌, ◌≤◌, Bool, true, false, cond, refl, ap, sym, ◌∙◌, List, [], ◌∷◌, ◌++◌, length, get_or, map, filter, take, append-nil, append_assoc, length-append, length-take-le, if◌then◌else◌, arith}
+use Rattle.std.proofs.Common.{◌≡◌, ℕ, ◌+◌, ◌<◌, ◌≤◌, Bool, true, false, cond, refl, ap, sym, ◌∙◌, List, [], ◌∷◌, ◌++◌, length, get_or, map, filter, take, append-nil, append_assoc, length-append, if◌then◌else◌, arith}
 use Rattle.std.specs.List.{flat_map, range_with_len, enumerate_from}
 use Rattle.std.proofs.lemmas.Grind.{flat_map-append}
-use Rattle.std.proofs.lemmas.List.{flat_map_more, take_more, map-append, length-map, take_all}
+use Rattle.std.proofs.lemmas.List.{flat_map_more, take_more, map-append, take_all}
 use Rattle.std.proofs.lemmas.List.Elements.{filter_more}
 use Rattle.std.proofs.lemmas.List.FromFn.{length-range_with_len, get_or-range_with_len, get_or-enumerate_from}
 use Rattle.std.proofs.lemmas.List.Folds.{length-flat_map-take}
@@ -28,13 +28,6 @@ full_more f most old now xs i x below at before full =
     let part : length (flat_map f (take i xs)) + length (f (get_or xs i x)) ≤ length (flat_map f xs) = length-flat_map-take f xs i x below in
     let same : length (f (get_or xs i x)) ≡ length (f x) = ap (λ y. length (f y)) at in
     omega (arith, length-append now (f x), length-append old (flat_map f xs))
-
--- where those of a front and one more are too many, all are
-pub full_each : {X A : Type 0} (f : X → A) (most : ℕ) (old now : List A) (xs : List X) (i : ℕ) (y : A)
-    → i < length xs → now ≡ old ++ map f (take i xs) → most < length (now ++ y ∷ []) → most < length (old ++ map f xs)
-full_each f most old now xs i y below before full =
-    let counted : length now ≡ length old + length (map f (take i xs)) = ap length before ∙ length-append old (map f (take i xs)) in
-    omega (arith, length-append now (y ∷ []), length-append old (map f xs), length-map xs f, length-map (take i xs) f, length-take-le i xs (omega arith))
 
 -- the numbers from 1 on, and from 0 on, by their places
 pub one_at : (n i x : ℕ) → i < n → x ≡ i + 1 → get_or (range_with_len 1 n) i x ≡ x
@@ -107,10 +100,6 @@ none_each links = refl
 pub in_turn : {A : Type 0} {old new front more its : List A} → new ≡ old ++ more → old ≡ front → more ≡ its
     → new ≡ front ++ its
 in_turn adds before same = adds ∙ (λ k. before k ++ same k)
-
--- where a front is too many, all is
-pub front_full : {A : Type 0} (most : ℕ) (xs ys : List A) → most < length xs → most < length (xs ++ ys)
-front_full most xs ys full = omega (arith, length-append xs ys)
 
 -- of groups of outages, those of each group
 pub each_group : {X : Type 0} (links : List Ends) (g : X → List Outage) (xs : List X)

@@ -3,7 +3,7 @@ use Rattle.std.proofs.Common.{◌≡◌, ℕ, zero, suc, ◌<◌, ◌+◌, ◌++
 use Rattle.std.specs.List.{AllZip}
 use Rattle.std.proofs.lemmas.List.{length-map, get_or-map}
 use Rattle.std.proofs.lemmas.Option.{slice_get-get_or}
-use Rattle.toml.specs.Data.{Data, Items, Members, no_items, item, table, string, integer, float, boolean, datetime, array, as_array, as_table, get_item, get_member}
+use Rattle.toml.specs.Data.{Data, Items, Members, no_items, item, table, array, as_array, as_table, get_item, get_member}
 use Rattle.toml.specs.View.{view, items_view}
 use Rattle.toml.specs.declared.value.Value.{Value}
 use Rattle.toml.proofs.Views.{get_item_within}
@@ -18,12 +18,7 @@ use Rattle.network.specs.Fields.{items_in}
 items_counted : (ds : Items) → all_items is_table ds ≡ true → length (the_tables ds) ≡ count ds
 items_counted no_items e = refl
 items_counted (item (table ms) ds) e = ap suc (items_counted ds e)
-items_counted (item (string _) ds) e = cc
-items_counted (item (integer _) ds) e = cc
-items_counted (item (float _) ds) e = cc
-items_counted (item (boolean _) ds) e = cc
-items_counted (item (datetime _) ds) e = cc
-items_counted (item (array _) ds) e = cc
+items_counted _ e = cc
 
 pub counted : (vs : List Value) → all_items is_table (items_view vs) ≡ true → length (the_tables (items_view vs)) ≡ length vs
 counted vs are = items_counted (items_view vs) are ∙ count_view vs
@@ -33,12 +28,7 @@ item_at : (ds : Items) (i : ℕ) (m : Members) → all_items is_table ds ≡ tru
 item_at no_items i m e g = cc
 item_at (item (table ms) ds) zero m e g = g
 item_at (item (table ms) ds) (suc i) m e g = item_at ds i m e g
-item_at (item (string _) ds) i m e g = cc
-item_at (item (integer _) ds) i m e g = cc
-item_at (item (float _) ds) i m e g = cc
-item_at (item (boolean _) ds) i m e g = cc
-item_at (item (datetime _) ds) i m e g = cc
-item_at (item (array _) ds) i m e g = cc
+item_at _ i m e g = cc
 
 -- the table at a place, by its number
 pub table_numbered : (vs : List Value) (i : ℕ) (v : Value) (m : Members) → all_items is_table (items_view vs) ≡ true → i < length vs
@@ -61,36 +51,21 @@ module _ (key : List ℕ) (file : Members) (d : Data) (there : get_member key fi
     where
       of_array : (d : Data) → get_member key file ≡ Some d → is_of kind.Tables d ≡ true → tables_at key file ≡ the_tables (items_in d)
       of_array (array ds) e are = tables_at-array key file ds true (ap (option_and_then as_array) e) (sym are)
-      of_array (table _) e are = cc
-      of_array (string _) e are = cc
-      of_array (integer _) e are = cc
-      of_array (float _) e are = cc
-      of_array (boolean _) e are = cc
-      of_array (datetime _) e are = cc
+      of_array _ e are = cc
 
   pub tables_missing : is_of kind.Tables d ≡ false → tables_at key file ≡ []
   tables_missing other = of_array d there other
     where
       of_array : (d : Data) → get_member key file ≡ Some d → is_of kind.Tables d ≡ false → tables_at key file ≡ []
       of_array (array ds) e other = tables_at-array key file ds false (ap (option_and_then as_array) e) (sym other)
-      of_array (table _) e other = tables_at-none key file (ap (option_and_then as_array) e)
-      of_array (string _) e other = tables_at-none key file (ap (option_and_then as_array) e)
-      of_array (integer _) e other = tables_at-none key file (ap (option_and_then as_array) e)
-      of_array (float _) e other = tables_at-none key file (ap (option_and_then as_array) e)
-      of_array (boolean _) e other = tables_at-none key file (ap (option_and_then as_array) e)
-      of_array (datetime _) e other = tables_at-none key file (ap (option_and_then as_array) e)
+      of_array _ e other = tables_at-none key file (ap (option_and_then as_array) e)
 
   pub are_items : is_of kind.Tables d ≡ true → all_items is_table (items_in d) ≡ true
   are_items are = of_array d are
     where
       of_array : (d : Data) → is_of kind.Tables d ≡ true → all_items is_table (items_in d) ≡ true
       of_array (array ds) are = are
-      of_array (table _) are = cc
-      of_array (string _) are = cc
-      of_array (integer _) are = cc
-      of_array (float _) are = cc
-      of_array (boolean _) are = cc
-      of_array (datetime _) are = cc
+      of_array _ are = cc
 
 pub nothing_there : (key : List ℕ) (file : Members) → get_member key file ≡ None → tables_at key file ≡ []
 nothing_there key file e = tables_at-none key file (ap (option_and_then as_array) e)
@@ -98,6 +73,5 @@ nothing_there key file e = tables_at-none key file (ap (option_and_then as_array
 -- one more of two lists, place by place
 pub AllZip-more : {A B : Type 0} (R : A → B → Type 0) (xs : List A) (ys : List B) (x : A) (y : B) → AllZip R xs ys → R x y → AllZip R (xs ++ x ∷ []) (ys ++ y ∷ [])
 AllZip-more R [] [] x y zip one = (one, tt)
-AllZip-more R [] (b ∷ bs) x y zip one = absurd zip
-AllZip-more R (a ∷ rest) [] x y zip one = absurd zip
 AllZip-more R (a ∷ rest) (b ∷ bs) x y zip one = (zip.0, AllZip-more R rest bs x y zip.1 one)
+AllZip-more R _ _ x y zip one = absurd zip

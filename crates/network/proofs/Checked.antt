@@ -1,14 +1,13 @@
 -- Files and tables that are as they should be.
-use Rattle.std.proofs.Common.{◌≡◌, ◌≤◌, [], List, length, true, Result, Ok, Err, OnOk, false, Some, None, refl, sym, subst, arith}
+use Rattle.std.proofs.Common.{◌≡◌, ◌≤◌, [], List, length, true, Result, Ok, Err, OnOk, Some, None, refl, sym, subst, arith}
 use Rattle.std.specs.List.{All}
 use Rattle.toml.specs.Data.{Data, Members, get_member}
 use Rattle.scenario.specs.Table.{is_of, the_tables, tables_at}
 use Rattle.scenario.specs.declared.field.Kind.TheVariants as kind
 use Rattle.network.specs.Words.{most_tables}
-use Rattle.network.specs.Fields.{file_keys, has_unlisted, items_in, key_of}
-use Rattle.network.specs.Refusals.{AreTablesOf, IsNetworkFile, IsTableOf}
+use Rattle.network.specs.Fields.{items_in, key_of}
+use Rattle.network.specs.Refusals.{AreTablesOf, IsTableOf}
 use Rattle.network.specs.declared.field.TableKind.{TableKind}
-use Rattle.network.specs.declared.field.TableKind.TheVariants.{Links, Bursts, Cuts, Pauses, Replays}
 use Rattle.network.proofs.ArrayTables.{nothing_there, tables_there}
 
 no_tables : (k : TableKind) (ts : List Members) → ts ≡ [] → (length ts ≤ most_tables) × All (IsTableOf k) ts
@@ -26,17 +25,6 @@ pub present : (k : TableKind) (file : Members) (d : Data) → get_member (key_of
 present k file d e are few each =
     let same = tables_there (key_of k) file d e are in
     record { shape = rw e are; few = rw same few; each = subst (All (IsTableOf k)) (sym same) each }
-
-pub all_kinds : (file : Members) → has_unlisted file_keys file ≡ false → AreTablesOf Links file → AreTablesOf Bursts file → AreTablesOf Cuts file
-    → AreTablesOf Pauses file → AreTablesOf Replays file → IsNetworkFile file
-all_kinds file known links bursts cuts pauses replays = record { known = known; tables = of_kind }
-  where
-    of_kind : (k : TableKind) → AreTablesOf k file
-    of_kind Links = links
-    of_kind Bursts = bursts
-    of_kind Cuts = cuts
-    of_kind Pauses = pauses
-    of_kind Replays = replays
 
 pub on_ok : {T E P Q : Type 0} (r : Result T E) → (P → Q) → OnOk r P → OnOk r Q
 on_ok (Ok x) f p = f p

@@ -1,5 +1,5 @@
 -- The first number of a range that passes, and what is said of each item.
-use Rattle.std.proofs.Common.{◌≡◌, ℕ, suc, ◌<◌, ◌+◌, ◌-◌, Bool, true, false, cond, Some, None, List, [], ◌∷◌, map, refl, ap, ◌∙◌, arith, add-one}
+use Rattle.std.proofs.Common.{◌≡◌, ℕ, suc, ◌<◌, ◌+◌, ◌-◌, Bool, true, false, cond, Some, List, [], ◌∷◌, map, refl, ap, ◌∙◌, arith, add-one}
 use Rattle.std.specs.List.{find, range_with_len}
 use Rattle.toml.specs.Data.{Data}
 use Rattle.toml.specs.View.{view, items_view}
@@ -11,11 +11,6 @@ range_next i n low =
     let more : n - i ≡ suc (n - (i + 1)) = omega (arith, low) in
     rw (more, add-one) refl
 
-pub range_done : (i n : ℕ) → n < i + 1 → range_with_len (i + 1) (n - i) ≡ []
-range_done i n high =
-    let none : n - i ≡ 0 = omega (arith, high) in
-    rw none refl
-
 module _ (p : ℕ → Bool) (i n : ℕ) (b : Bool) (q : ℕ) (low : i < n) (is : q ≡ i + 1) (test : b ≡ p q) where
   step : find p (range_with_len (i + 1) (n - i)) ≡ cond b (Some q) (find p (range_with_len (i + 1 + 1) (n - (i + 1))))
   step = ap (find p) (range_next i n low) ∙ rw (← is, ← test) refl
@@ -26,9 +21,6 @@ module _ (p : ℕ → Bool) (i n : ℕ) (b : Bool) (q : ℕ) (low : i < n) (is :
 
   pub passed_next : b ≡ false → find p (range_with_len (i + 1) (n - i)) ≡ find p (range_with_len (i + 1 + 1) (n - (i + 1)))
   passed_next fails = step ∙ rw fails refl
-
-pub found_none : (p : ℕ → Bool) (i n : ℕ) → n < i + 1 → find p (range_with_len (i + 1) (n - i)) ≡ None
-found_none p i n high = ap (find p) (range_done i n high)
 
 pub each_view : {T : Type 0} (says : Data → T) (vs : List Value) → each says (items_view vs) ≡ map (λ v. says (view v)) vs
 each_view says [] = refl

@@ -2,11 +2,11 @@
 use Rattle.std.proofs.Common.{◌≡◌, ℕ, zero, suc, ◌≤◌, ◌==◌, ◌&&◌, ℤ, pos, negsuc, min, nat_le, nat_lt, List, [], ◌∷◌, length, find, Bool, true, false, not, Option, Some, None, option_map, option_and_then, is_some, refl, ap, sym, ◌∙◌, subst, arith, codes, if◌then◌else◌}
 use Rattle.std.specs.List.{All, AllZip}
 use Rattle.std.specs.Option.{option_map_or, option_or}
-use Rattle.std.proofs.lemmas.Bool.{leb-true, ltb-true, ltb-false}
-use Rattle.std.proofs.lemmas.List.Elements.{All-nil, All-cons, All-head, All-tail}
+use Rattle.std.proofs.lemmas.Bool.{leb-true, ltb-true, ltb-false, not-false}
+use Rattle.std.proofs.lemmas.List.Elements.{All-nil, All-cons, All-head, All-tail, All-weaker}
 use Rattle.std.proofs.lemmas.List.Sorted.{All-permutation, length_permutation}
 use Rattle.std.proofs.lemmas.Slice.Zip.{AllZip-long}
-use Rattle.toml.specs.Data.{Data, Items, Members, no_items, item, table, string, integer, float, boolean, datetime, array, get_member}
+use Rattle.toml.specs.Data.{Data, Items, Members, no_items, item, table, integer, array, get_member}
 use Rattle.scenario.specs.Table.{all_items, is_number, tables_at}
 use Rattle.scenario.specs.Text.{natural}
 use Rattle.scenario.specs.Rules.{is_within}
@@ -58,10 +58,6 @@ some_counted : (n : ℕ) → (n == 0) ≡ false → 1 ≤ n
 some_counted zero e = cc
 some_counted (suc n) e = omega arith
 
-true_of : (b : Bool) → not b ≡ false → b ≡ true
-true_of true e = refl
-true_of false e = cc
-
 not_first : {X : Type 0} (x : X) (b : Bool) (o : Option X) → (if b then Some x else o) ≡ None → (b ≡ false) × (o ≡ None)
 not_first x true o e = cc
 not_first x false o e = (refl, e)
@@ -72,15 +68,11 @@ none_found p (x ∷ xs) e =
     let parts = not_first x (p x) (find p xs) e in
     All-cons (λ y. p y ≡ false) x xs parts.0 (none_found p xs parts.1)
 
-each_one : {X : Type 0} (P Q : X → Type 0) → ((x : X) → P x → Q x) → (xs : List X) → All P xs → All Q xs
-each_one P Q f xs h i d low = f _ (h i d low)
-
 zip_all : {A B : Type 0} (R : A → B → Type 0) (P : A → Type 0) (Q : B → Type 0) → ((a : A) (b : B) → R a b → P a → Q b)
     → (xs : List A) (ys : List B) → AllZip R xs ys → All P xs → All Q ys
 zip_all R P Q f [] [] zip h = All-nil Q
-zip_all R P Q f [] (y ∷ ys) zip h = absurd zip
-zip_all R P Q f (x ∷ xs) [] zip h = absurd zip
 zip_all R P Q f (x ∷ xs) (y ∷ ys) zip h = All-cons Q y ys (f x y zip.0 (All-head P x xs h)) (zip_all R P Q f xs ys zip.1 (All-tail P x xs h))
+zip_all R P Q f _ _ zip h = absurd zip
 
 -- ---- values with no fault
 
@@ -94,9 +86,7 @@ chain : (f : Field) (a b c : Bool) (o : Option ℤ)
     → (if not a then Some (fault.OtherShape f.shape) else if b then Some fault.NoMember else if c then Some fault.TooManyValues else option_map (λ z. fault.OutOfRange z f.low f.high) o) ≡ None
     → (a ≡ true) × (b ≡ false) × (c ≡ false) × (o ≡ None)
 chain f true false false o e = (refl, refl, refl, nothing_mapped (λ z. fault.OutOfRange z f.low f.high) o e)
-chain f true false true o e = cc
-chain f true true c o e = cc
-chain f false b c o e = cc
+chain f _ _ _ o e = cc
 
 good_value : (f : Field) (d : Data) → fault_of_value f d ≡ None → IsGood f.shape f.low f.high d
 unfolding fault_of_value
@@ -132,12 +122,7 @@ integer_inside low high (negsuc n) fits e = cc
 number_inside : (low high : ℕ) (d : Data) → high ≤ 4294967295 → is_number d ≡ true → outside low high d ≡ None → (low ≤ number_of d) × (number_of d ≤ high)
 unfolding number_of
 number_inside low high (integer z) fits is none = integer_inside low high z fits (inside_of (is_within low high z) z none)
-number_inside low high (string _) fits is none = cc
-number_inside low high (float _) fits is none = cc
-number_inside low high (boolean _) fits is none = cc
-number_inside low high (datetime _) fits is none = cc
-number_inside low high (array _) fits is none = cc
-number_inside low high (table _) fits is none = cc
+number_inside low high _ fits is none = cc
 
 is_ticks : (d : Data) → is_number d ≡ true → outside 1 10000000 d ≡ None → IsTicks (number_of d)
 is_ticks d is none =
@@ -176,12 +161,7 @@ good_values (array ds) are some few none =
       few = let n = ltb-false most_values (count ds) few in omega (arith, long, n);
       each = each_ticks ds are none;
     }
-good_values (string _) are some few none = cc
-good_values (integer _) are some few none = cc
-good_values (float _) are some few none = cc
-good_values (boolean _) are some few none = cc
-good_values (datetime _) are some few none = cc
-good_values (table _) are some few none = cc
+good_values _ are some few none = cc
 
 good_table : (b : Bool) (m v : Option Data) → (b && option_map_or is_number m (option_map_or is_numbers v false)) ≡ true
     → option_map_or is_empty_array v false ≡ false → option_map_or (λ v. nat_lt most_values (count (items_in v))) v false ≡ false
@@ -196,11 +176,7 @@ good_said : (d : Data) → IsGood shape.Spell 1 10000000 d → IsGoodSaid (said_
 unfolding is_spell_table
 good_said (integer z) good = is_ticks (integer z) refl (neither_of (outside 1 10000000 (integer z)) None good.inside).0
 good_said (table ms) good = good_table _ (get_member (codes "mean") ms) (get_member (codes "values") ms) good.shaped good.some good.few good.inside
-good_said (string _) good = let e = good.shaped in cc
-good_said (float _) good = let e = good.shaped in cc
-good_said (boolean _) good = let e = good.shaped in cc
-good_said (datetime _) good = let e = good.shaped in cc
-good_said (array _) good = let e = good.shaped in cc
+good_said _ good = let e = good.shaped in cc
 
 good_spell : (s : Spell) → IsGoodSaid (said_of s) → IsSpell s
 good_spell (spell.Ticks n) good = good
@@ -246,24 +222,19 @@ pause_in_range t p says is =
 
 within_record : (lasts : ℕ) (o : Outage) → not (lies_within lasts o) ≡ false → IsWithin lasts o
 within_record lasts o e =
-    let tests = both (nat_lt o.begin o.until) (nat_le o.until lasts) (true_of (lies_within lasts o) e) in
+    let tests = both (nat_lt o.begin o.until) (nat_le o.until lasts) (not-false (lies_within lasts o) e) in
     record { some = ltb-true o.begin o.until tests.0; within = leb-true o.until lasts tests.1 }
 
 all_within : (t : Members) → replay_fault t ≡ None → All (IsWithin (lasts_in t)) (outages_in t)
 unfolding replay_fault
 all_within t e =
-    each_one (λ o. not (lies_within (lasts_in t) o) ≡ false) (IsWithin (lasts_in t)) (within_record (lasts_in t)) (outages_in t)
+    All-weaker (λ o. not (lies_within (lasts_in t) o) ≡ false) (IsWithin (lasts_in t)) (within_record (lasts_in t)) (outages_in t)
     (none_found (λ o. not (lies_within (lasts_in t) o)) (outages_in t)
     (nothing_mapped (λ o. together.NotWithin o.begin o.until (lasts_in t)) (find (λ o. not (lies_within (lasts_in t) o)) (outages_in t)) e))
 
 some_outages : (d : Data) → IsGood shape.Outages 0 10000000 d → 1 ≤ length (each outage_of (items_in d))
 some_outages (array ds) good = let n = some_counted (count ds) good.some in omega (arith, each_counted outage_of ds, n)
-some_outages (string _) good = let e = good.shaped in cc
-some_outages (integer _) good = let e = good.shaped in cc
-some_outages (float _) good = let e = good.shaped in cc
-some_outages (boolean _) good = let e = good.shaped in cc
-some_outages (datetime _) good = let e = good.shaped in cc
-some_outages (table _) good = let e = good.shaped in cc
+some_outages _ good = let e = good.shaped in cc
 
 record_in_range : (t : Members) (r : Replay) → SaysReplay t r → fault_at (needed (codes "lasts") shape.Number 1 10000000) t ≡ None
     → fault_at (needed (codes "outages") shape.Outages 0 10000000) t ≡ None → replay_fault t ≡ None → IsReplay r

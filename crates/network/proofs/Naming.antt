@@ -1,6 +1,7 @@
 -- The groups of a table, and their members above n.
-use Rattle.std.proofs.Common.{◌≡◌, ℕ, zero, suc, ◌+◌, ◌-◌, List, [], ◌∷◌, map, take, Some, None, refl, ap, sym, arith}
+use Rattle.std.proofs.Common.{◌≡◌, ℕ, ◌+◌, ◌-◌, List, [], ◌∷◌, map, take, Some, None, ap, sym, arith}
 use Rattle.std.specs.List.{All}
+use Rattle.std.proofs.lemmas.List.{take-map}
 use Rattle.std.proofs.lemmas.List.Elements.{All-nil, All-cons, All-map}
 use Rattle.network.specs.Above.{AreAllWithin, AreWithin, HasKeyAbove, Named, member_above, named}
 use Rattle.network.specs.declared.group.Group.{Group}
@@ -38,14 +39,11 @@ module _ (n : ℕ) where
     above = above;
   }
 
-take_map : {X Y : Type 0} (f : X → Y) (i : ℕ) (xs : List X) → take i (map f xs) ≡ map f (take i xs)
-take_map f zero xs = refl
-take_map f (suc i) [] = refl
-take_map f (suc i) (x ∷ xs) = ap (λ ys. f x ∷ ys) (take_map f i xs)
+pub ruleset naming = (first_named, second_named, both_within)
 
 -- no group of the tables before one
 pub all_before : {T : Type 0} (n : ℕ) (groups : T → List Named) (tables : List T) (i : ℕ)
     → All (λ t. AreAllWithin n (groups t)) (take i tables) → AreWithin n (take (i + 1 - 1) (map groups tables))
 all_before n groups tables i all =
     let back : i + 1 - 1 ≡ i = omega arith in
-    rw (back, take_map groups i tables) (All-map (AreAllWithin n) groups (take i tables) all)
+    rw (back, take-map groups i tables) (All-map (AreAllWithin n) groups (take i tables) all)

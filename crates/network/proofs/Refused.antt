@@ -1,7 +1,9 @@
 -- A file that is refused is no network file.
-use Rattle.std.proofs.Common.{◌≡◌, ◌≢◌, ℕ, zero, suc, ◌<◌, ◌||◌, List, [], ◌∷◌, length, get_or, slice_get, Bool, true, false, not, Some, is_some, refl, ap, subst, arith}
+use Rattle.std.proofs.Common.{◌≡◌, ◌≢◌, ℕ, zero, suc, ◌<◌, List, length, get_or, Bool, true, false, not, Some, is_some, refl, ap, ◌∙◌, subst, arith}
 use Rattle.std.specs.List.{All, Contains, list_any}
-use Rattle.std.proofs.lemmas.List.Elements.{All-head, All-tail}
+use Rattle.std.proofs.lemmas.List.Elements.{All-get_or}
+use Rattle.std.proofs.lemmas.List.Folds.{list_any_at}
+use Rattle.std.proofs.lemmas.Option.{slice_get-get_or, slice_get_within}
 use Rattle.toml.specs.Data.{Members}
 use Rattle.scenario.specs.Table.{keys_of, tables_at}
 use Rattle.scenario.specs.Place.{numbered}
@@ -12,18 +14,9 @@ use Rattle.network.specs.declared.refusal.NetworkError.{NetworkError}
 use Rattle.network.specs.declared.refusal.NetworkError.TheVariants as error
 use Rattle.network.specs.declared.refusal.ValueFault.{ValueFault}
 
-or_true : (a b : Bool) → b ≡ true → (a || b) ≡ true
-or_true true b e = refl
-or_true false b e = e
-
 -- a test that one of a list passes
-any_at : {X : Type 0} (p : X → Bool) (xs : List X) (k : ℕ) (x : X) → k < length xs → get_or xs k x ≡ x → p x ≡ true → list_any p xs ≡ true
-any_at p [] k x low is passes = absurd (omega (arith, low))
-any_at p (y ∷ ys) zero x low is passes = rw (is, passes) refl
-any_at p (y ∷ ys) (suc k) x low is passes = or_true (p y) (list_any p ys) (any_at p ys k x (omega (arith, low)) is passes)
-
 any_contained : {X : Type 0} (p : X → Bool) (xs : List X) (x : X) → Contains xs x → p x ≡ true → list_any p xs ≡ true
-any_contained p xs x there passes = any_at p xs there.0 x there.1 there.2 passes
+any_contained p xs x there passes = list_any_at p xs there.0 x there.1 (ap p there.2 ∙ passes)
 
 has_other : (keys : List (List ℕ)) (t : Members) (key : List ℕ) → HasOther keys t key → ¬ (has_unlisted keys t ≡ false)
 unfolding has_unlisted
@@ -40,16 +33,12 @@ faulty fields t key its has good =
     cc
 
 -- a table of a network file, by its number
-of_place : (ts : List Members) (k : TableKind) (i : ℕ) (t : Members) → slice_get ts i ≡ Some t → All (IsTableOf k) ts → IsTableOf k t
-of_place [] k i t there all = cc
-of_place (u ∷ ts) k zero t there all =
-    let same : u ≡ t = cc in
-    subst (IsTableOf k) same (All-head (IsTableOf k) u ts all)
-of_place (u ∷ ts) k (suc i) t there all = of_place ts k i t there (All-tail (IsTableOf k) u ts all)
-
 of_number : (ts : List Members) (k : TableKind) (number : ℕ) (t : Members) → numbered number ts ≡ Some t → All (IsTableOf k) ts → IsTableOf k t
 of_number ts k zero t there all = cc
-of_number ts k (suc i) t there all = of_place ts k i t there all
+of_number ts k (suc i) t there all =
+    let low : i < length ts = slice_get_within ts i t there in
+    let same : get_or ts i t ≡ t = cc (slice_get-get_or ts i t low) in
+    subst (IsTableOf k) same (All-get_or (IsTableOf k) ts i t low all)
 
 pub no_file : (e : NetworkError) (file : Members) → e ≢ error.Memory → Refuses e file → ¬ IsNetworkFile file
 no_file (error.UnknownTable key) file other refuses is = has_other file_keys file _ refuses is.known

@@ -40,11 +40,12 @@ abbrev pub of_each : {T : Type 0} → (ℕ → T → List LinkOutage) → List T
 of_each of_one tables = flat_map (λ numbered. of_one numbered.0 numbered.1) (enumerate_from 0 tables)
 
 -- those of a link that is a source by itself, in a table with so many of its kind before it; `its` are the outages that
--- the words make. And those of all links of a set
+-- the words make
 abbrev pub alone : (seed : ℕ) → Kind → ℕ → (Words → List Outage) → Ends → List LinkOutage
 alone seed kind i its link =
     on_each (link ∷ []) (its (words_of seed (stream_number kind i (stream_of link.from link.to))))
 
+-- those of all links of a set, each of them a source by itself
 abbrev pub of_links : (n seed : ℕ) → Kind → ℕ → LinkSet → (Words → List Outage) → List LinkOutage
 of_links n seed kind i set its = flat_map (alone seed kind i its) (links_of set n)
 

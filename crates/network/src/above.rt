@@ -75,7 +75,7 @@ fn key_above(key: &'static str, group: &Group, n: u16) -> Option<KeyAbove>
 }
 
 /// A process above n of the ends of links.
-#[tactic(auto, using(crate::proofs::Naming::first_named, crate::proofs::Naming::second_named, crate::proofs::Naming::both_within))]
+#[tactic(auto, using(crate::proofs::Naming::naming))]
 fn link_above(links: &LinkSet, n: u16) -> Option<KeyAbove>
     ensures none { result ≡ None → AreAllWithin n (link_groups links.now) }
     ensures some { IfSome result (λ a. HasKeyAbove n (link_groups links.now) a.key.now a.process) }
@@ -122,7 +122,7 @@ impl NamesGroups for Cut {
 
     ghost groups = { cut_groups };
 
-    #[tactic(auto, using(crate::proofs::Naming::first_named, crate::proofs::Naming::second_named, crate::proofs::Naming::both_within))]
+    #[tactic(auto, using(crate::proofs::Naming::naming))]
     fn above(&self, n: u16) -> Option<KeyAbove> {
         if let Some(above) = key_above("between", &self.one, n) {
             return Some(above);

@@ -1,6 +1,6 @@
 -- The least pair below the lookahead, of a record and of its parts.
 use Rattle.std.proofs.Common.{◌≡◌, ℕ, List, find, refl}
-use Rattle.scenario_record.specs.Record.{Record, link}
+use Rattle.scenario_record.specs.Record.{Record}
 use Rattle.scenario.specs.Rules.{is_below, pairs, pair_below}
 use Rattle.scenario.specs.Parts.{link_in}
 use Rattle.scenario_record.specs.declared.link.Link.{Link}
@@ -9,6 +9,3 @@ pub below_of_parts : (s : Record) (n lookahead : ℕ) (links : List Link) → n 
     → pair_below s ≡ find (is_below (link_in n links) lookahead) (pairs n)
 unfolding pair_below
 below_of_parts s n lookahead links e f g = rw (e, f, g) refl
-
-pub link_of_parts : (s : Record) (n : ℕ) (links : List Link) (pair : ℕ × ℕ) → n ≡ s.processes → links ≡ s.links → link_in n links pair ≡ link s pair.0 pair.1
-link_of_parts s n links pair e f = rw (e, f) refl

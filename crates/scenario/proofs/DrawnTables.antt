@@ -1,5 +1,6 @@
 -- A file's table with drawn outages.
 use Rattle.std.proofs.Common.{◌≡◌, ℕ, ◌+◌, ◌<◌, length, take, get_or, nat_le, ◌==◌, List, [], ◌∷◌, ◌++◌, map, Bool, true, false, not, ◌&&◌, ◌||◌, Option, Some, None, is_some, refl, ap, sym, ◌∙◌, Ordering, Less, Equal, Greater}
+use Rattle.std.proofs.Math.Bool.{or-true}
 use Rattle.std.specs.List.{list_any}
 use Rattle.std.specs.Ordering.{nat_cmp, match_ordering, is_eq}
 use Rattle.std.specs.Cmp.Lexicographic.{slice_cmp}
@@ -110,14 +111,10 @@ unlisted_there fields k (member l e ms) other there = go (slice_cmp nat_cmp k l)
     bad : List ℕ → Bool
     bad key = not (is_listed fields key)
 
-    later : (b : Bool) → (b || true) ≡ true
-    later true = refl
-    later false = refl
-
     go : (o : Ordering) → slice_cmp nat_cmp k l ≡ o → (is_some (get_member k ms) ≡ true → list_any bad (keys_of ms) ≡ true)
         → is_some (match_ordering o (get_member k ms) (Some e) (get_member k ms)) ≡ true → (bad l || list_any bad (keys_of ms)) ≡ true
     go Equal is rest here = ap (λ x. not (is_listed fields x) || list_any bad (keys_of ms)) (sym (exact_bytes k l is)) ∙ ap (λ b. not b || list_any bad (keys_of ms)) other
-    go _ is rest here = ap (λ b. bad l || b) (rest here) ∙ later (bad l)
+    go _ is rest here = ap (λ b. bad l || b) (rest here) ∙ or-true (bad l)
 
 -- ---- tables of an array
 

@@ -2,6 +2,7 @@
 use Rattle.std.proofs.Common.{Bor, BTreeMap, ◌≡◌, ℕ, ◌<◌, ◌+◌, List, [], ◌∷◌, map, length, get_or, Some, refl, ap, sym, ◌∙◌, add-one, String, Global, string_bytes}
 use Rattle.std.specs.List.{Contains, All}
 use Rattle.std.proofs.lemmas.List.{length-map, get_or-map}
+use Rattle.std.proofs.lemmas.Simd.{map-map}
 use Rattle.std.proofs.lemmas.Option.{slice_get-get_or}
 use Rattle.toml.specs.Data.{Members}
 use Rattle.toml.specs.View.{members_view, table_view}
@@ -35,10 +36,6 @@ keys_view : (es : List (String Global × Value)) → keys_of (members_view es) �
 keys_view [] = refl
 keys_view (e ∷ es) = ap (λ ks. string_bytes e.0 ∷ ks) (keys_view es)
 
-map_map : {A B C : Type 0} (f : A → B) (g : B → C) (xs : List A) → map (λ x. g (f x)) xs ≡ map g (map f xs)
-map_map f g [] = refl
-map_map f g (x ∷ xs) = ap (λ ys. g (f x) ∷ ys) (map_map f g xs)
-
 -- each key of a map's entries is one of the table's
 pub keys_there : (es : List (String Global × Value)) → All (λ k. Contains (keys_of (members_view es)) (string_bytes k)) (map (λ e. e.0) es)
-keys_there es i k lt = rw (keys_view es, map_map (λ e. e.0) string_bytes es) (contains_image string_bytes (map (λ e. e.0) es) i k lt)
+keys_there es i k lt = rw (keys_view es, ← map-map string_bytes (λ (e : String Global × Value). e.0) es) (contains_image string_bytes (map (λ e. e.0) es) i k lt)

@@ -1,11 +1,12 @@
 -- The keys of tables: processes, and pairs of them.
-use Rattle.std.proofs.Common.{◌≡◌, ℕ, ◌+◌, ◌-◌, ◌*◌, ◌/◌, ◌<◌, ◌==◌, ◌&&◌, Bool, true, false, refl, ap, sym, ◌∙◌, arith}
+use Rattle.std.proofs.Common.{◌≡◌, ℕ, ◌+◌, ◌-◌, ◌*◌, ◌/◌, ◌<◌, ◌==◌, true, refl, ap, sym, ◌∙◌, arith}
 use Rattle.std.proofs.lemmas.Bool.{eqb-true, eq-eqb}
 use Rattle.std.proofs.lemmas.Nat.{div-mul-add, mul-add-lt}
 use Rattle.scenario.specs.Text.{pair_of, same_pair, crash_process}
 use Rattle.scenario.specs.Rules.{same_process}
 use Rattle.scenario.specs.Parts.{IsProcess, AreProcesses}
 use Rattle.scenario.proofs.Slots.{Keys}
+use Rattle.scenario.proofs.Within.{both}
 
 pub process_within : (n a : ℕ) → IsProcess n a → a - 1 < n
 process_within n a good = omega arith
@@ -27,16 +28,11 @@ process_keys n = record {
   apart = process_apart n;
 }
 
-both_true : (p q : Bool) → (p && q) ≡ true → (p ≡ true) × (q ≡ true)
-both_true true true e = (refl, refl)
-both_true true false e = cc
-both_true false q e = cc
-
 same_parts : (a b : ℕ × ℕ) → a.0 ≡ b.0 → a.1 ≡ b.1 → a ≡ b
 same_parts a b first second = ap (λ x. (x, a.1)) first ∙ ap (λ y. (b.0, y)) second
 
 pub pair_alike : (a b : ℕ × ℕ) → same_pair a b ≡ true → a ≡ b
-pair_alike a b e = let tests = both_true (a.0 == b.0) (a.1 == b.1) e in same_parts a b (eqb-true a.0 b.0 tests.0) (eqb-true a.1 b.1 tests.1)
+pair_alike a b e = let tests = both (a.0 == b.0) (a.1 == b.1) e in same_parts a b (eqb-true a.0 b.0 tests.0) (eqb-true a.1 b.1 tests.1)
 
 pub pair_itself : (a : ℕ × ℕ) → same_pair a a ≡ true
 pair_itself a = rw (eq-eqb a.0 a.0 refl, eq-eqb a.1 a.1 refl) refl

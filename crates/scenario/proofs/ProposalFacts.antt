@@ -1,5 +1,6 @@
 -- Lemmas on the proposals of a table.
-use Rattle.std.proofs.Common.{◌≡◌, ℕ, zero, suc, ◌≤◌, ◌==◌, List, [], length, map, Bool, true, false, not, ◌||◌, Some, None, option_and_then, is_some, refl, ap, ◌∙◌, arith}
+use Rattle.std.proofs.Common.{◌≡◌, ℕ, zero, suc, ◌≤◌, ◌==◌, List, [], length, map, true, false, not, ◌||◌, Some, None, option_and_then, is_some, refl, ap, ◌∙◌, arith}
+use Rattle.std.proofs.Math.Bool.{or-true}
 use Rattle.std.specs.List.{list_any}
 use Rattle.std.specs.Option.{option_map_or}
 use Rattle.std.proofs.lemmas.List.{length-map}
@@ -9,10 +10,6 @@ use Rattle.scenario.specs.Table.{the_integers, integers_at, has_key}
 use Rattle.scenario.specs.Text.{natural}
 use Rattle.scenario.specs.Rules.{is_bad_proposal, are_other_than}
 
-pub or_true : (a : Bool) → (a || true) ≡ true
-or_true true = refl
-or_true false = refl
-
 none_of_some : (n : ℕ) → 1 ≤ n → (0 == n) ≡ false
 none_of_some zero low = absurd (omega arith)
 none_of_some (suc n) low = eqb-zero-suc n
@@ -21,7 +18,7 @@ none_of_some (suc n) low = eqb-zero-suc n
 pub no_array : (n : ℕ) (key : List ℕ) (t : Members) → 1 ≤ n → None ≡ option_and_then as_array (get_member key t)
     → are_other_than n (has_key key t) (integers_at key t) ≡ true
 unfolding are_other_than integers_at
-no_array n key t low e = rw (← e, none_of_some n low) (or_true (not (has_key key t)))
+no_array n key t low e = rw (← e, none_of_some n low) (or-true (not (has_key key t)))
 
 there : (key : List ℕ) (t : Members) (ds : Items) → Some ds ≡ option_and_then as_array (get_member key t) → has_key key t ≡ true
 unfolding has_key
@@ -40,7 +37,7 @@ of_array n key t ds e = rw (there key t ds e, integers_of_array key t ds e) refl
 
 pub bad_number : (n : ℕ) (key : List ℕ) (t : Members) (ds : Items) → Some ds ≡ option_and_then as_array (get_member key t)
     → list_any is_bad_proposal (the_integers ds) ≡ true → are_other_than n (has_key key t) (integers_at key t) ≡ true
-bad_number n key t ds e bad = of_array n key t ds e ∙ rw bad (or_true (not (length (the_integers ds) == n)))
+bad_number n key t ds e bad = of_array n key t ds e ∙ rw bad (or-true (not (length (the_integers ds) == n)))
 
 -- another count of numbers, or the right one
 pub other_count : (n : ℕ) (key : List ℕ) (t : Members) (ds : Items) (found : List ℕ) → Some ds ≡ option_and_then as_array (get_member key t)

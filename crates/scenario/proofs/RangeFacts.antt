@@ -2,7 +2,7 @@
 use Rattle.std.proofs.Common.{◌≡◌, ◌≢◌, ℕ, zero, suc, ◌-◌, ◌<◌, ◌≤◌, ◌^◌, ◌==◌, ℤ, List, [], ◌∷◌, ◌++◌, map, filter, find, length, get_or, Bool, true, false, not, ◌&&◌, ◌||◌, Option, Some, None, is_some, is_none, refl, ap, sym, ◌∙◌, arith, subst, codes, cond, IfSome}
 use Rattle.std.specs.Option.{option_map, option_map_or, unwrap_or, ForSome}
 use Rattle.std.specs.List.{range_with_len, flat_map, list_any, slice_get}
-use Rattle.std.proofs.lemmas.Bool.{ltb-false, ne_eqb, eqb-true}
+use Rattle.std.proofs.lemmas.Bool.{ltb-false, ne_eqb, eqb-true, not-false}
 use Rattle.std.proofs.lemmas.List.{length-map, get_or_past}
 use Rattle.std.proofs.lemmas.Option.{slice_get-get_or, slice_get_past}
 use Rattle.std.proofs.lemmas.List.FromFn.{length-range_with_len, get_or-range_with_len, length-map-range_with_len}
@@ -187,11 +187,7 @@ unfolding are_other_than
 not_other n b zs e =
     let first = neither (not b) (not (length zs == n) || list_any is_bad_proposal zs) e in
     let second = neither (not (length zs == n)) (list_any is_bad_proposal zs) first.1 in
-    (eqb-true (length zs) n (is_true (length zs == n) second.0), second.1)
-  where
-    is_true : (b : Bool) → not b ≡ false → b ≡ true
-    is_true true e = refl
-    is_true false e = cc
+    (eqb-true (length zs) n (not-false (length zs == n) second.0), second.1)
 
 module _ (n : ℕ) (t : Members) where
   abbrev pub values : List ℕ

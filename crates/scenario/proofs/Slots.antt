@@ -1,8 +1,9 @@
 -- Tables put in places by their keys, and lists of tables of which two have the same key.
-use Rattle.std.proofs.Common.{◌≡◌, ◌≢◌, ℕ, ◌+◌, ◌<◌, List, [], ◌∷◌, ◌++◌, length, take, drop, set, get_or, replicate, Bool, true, false, cond, ◌||◌, Option, Some, None, find, is_some, refl, ap, sym, ◌∙◌, subst}
+use Rattle.std.proofs.Common.{◌≡◌, ◌≢◌, ℕ, ◌+◌, ◌<◌, List, [], ◌∷◌, ◌++◌, length, take, drop, set, get_or, Bool, true, false, cond, ◌||◌, Option, Some, None, find, is_some, refl, ap, sym, ◌∙◌, subst}
+use Rattle.std.proofs.Math.Bool.{or-true}
 use Rattle.std.specs.Option.{option_map}
 use Rattle.std.specs.List.{filter, list_any}
-use Rattle.std.proofs.lemmas.List.{take_more, map-append, append-nil, take-append-drop, length-map, length-set, length-replicate, get_or-map, get_or-set_same, get_or-set_other, get_or-replicate, get_or_default}
+use Rattle.std.proofs.lemmas.List.{take_more, map-append, append-nil, take-append-drop, length-map, length-set, get_or-map, get_or-set_same, get_or-set_other, get_or_default}
 use Rattle.std.proofs.lemmas.List.Elements.{filter-append}
 use Rattle.std.proofs.lemmas.List.Folds.{list_any-append, list_any_at}
 use Rattle.toml.specs.Data.{Members}
@@ -30,10 +31,6 @@ bad_one bad tables i m spot e =
     let its : get_or (tables_in tables) i (table_view m.now) ≡ table_view m.now = get_or-map (λ t. table_view t.now) tables i m (table_view m.now) spot.low ∙ ap (λ t. table_view t.now) (sym spot.is) in
     list_any_at bad (tables_in tables) i (table_view m.now) (simp length-map spot.low) (ap bad its ∙ e)
 
-pub none_more : (bad : Members → Bool) (tables : List Lent) (i : ℕ) (m : Lent) → IsAt tables i m → list_any bad (tables_in (take i tables)) ≡ false → bad (table_view m.now) ≡ false
-    → list_any bad (tables_in (take (i + 1) tables)) ≡ false
-none_more bad tables i m spot none good = rw (one_more tables i m spot, list_any-append, none, good) refl
-
 -- ---- keys
 
 -- each key has a place of its own
@@ -57,12 +54,6 @@ module _ {K X : Type 0} (P : Keys K) (whole : List Members → X) where
   pub record AreHeld (slots : List X) (done : List Members) : Type 0 where
     pub full : length slots ≡ P.count
     pub held : (k : K) → P.IsKey k → get_or slots (P.place k) (whole []) ≡ whole (of P k done)
-
-  pub none_held : (slots : List X) → slots ≡ replicate P.count (whole []) → AreHeld slots []
-  none_held slots none = record {
-    full = ap length none ∙ length-replicate P.count (whole []);
-    held = λ k good. ap (λ s. get_or s (P.place k) (whole [])) none ∙ get_or-replicate P.count (P.place k) (whole []) (whole []) (P.within k good);
-  }
 
   of_more : (done : List Members) (t : Members) (k : K) (b : Bool) → P.same (P.key t) k ≡ b → of P k (done ++ t ∷ []) ≡ of P k done ++ cond b (t ∷ []) []
   of_more done t k b e = filter-append (λ u. P.same (P.key u) k) done (t ∷ []) ∙ ap (λ c. of P k done ++ cond c (t ∷ []) []) e
@@ -111,10 +102,6 @@ none_kept p (x ∷ xs) e = elim (p x) as (λ b. (b || list_any p xs) ≡ false �
 
 -- ---- refused lists
 
-or_true : (a : Bool) → (a || true) ≡ true
-or_true true = refl
-or_true false = refl
-
 regroup : (a b r s : Bool) → ((a || (b || false)) || (r || s)) ≡ ((a || r) || (b || s))
 regroup true b r s = refl
 regroup false true true s = refl
@@ -141,7 +128,7 @@ module _ {K : Type 0} (P : Keys K) where
   repeat_kept (t ∷ ts) us e =
       ap (λ a. a || repeats (ts ++ us)) (list_any-append (λ v. P.same (P.key t) (P.key v)) ts us)
       ∙ elim (list_any (λ v. P.same (P.key t) (P.key v)) ts) as (λ b. (b || repeats ts) ≡ true → ((b || list_any (λ v. P.same (P.key t) (P.key v)) us) || repeats (ts ++ us)) ≡ true)
-      [ true ↦ λ h. refl | false ↦ λ h. rw (repeat_kept ts us h) (or_true (list_any (λ v. P.same (P.key t) (P.key v)) us)) ] e
+      [ true ↦ λ h. refl | false ↦ λ h. rw (repeat_kept ts us h) (or-true (list_any (λ v. P.same (P.key t) (P.key v)) us)) ] e
 
 -- ---- one more table, where each key has one
 
@@ -164,9 +151,9 @@ module _ {K V : Type 0} (P : Keys K) (bad : Members → Bool) (value : Members �
 
     pub again : is_some (get_or slots (P.place k) None) ≡ true → refused (tables_in tables) ≡ true
     again e =
-        let here : repeats P (tables_in (take i tables) ++ table_view m.now ∷ []) ≡ true = repeat_more P (tables_in (take i tables)) (table_view m.now) ∙ rw (before true e) (or_true (repeats P (tables_in (take i tables)))) in
+        let here : repeats P (tables_in (take i tables) ++ table_view m.now ∷ []) ≡ true = repeat_more P (tables_in (take i tables)) (table_view m.now) ∙ rw (before true e) (or-true (repeats P (tables_in (take i tables)))) in
         rw (cut tables i m spot, repeat_kept P (tables_in (take i tables) ++ table_view m.now ∷ []) (tables_in (drop (i + 1) tables)) here)
-        (or_true (list_any bad ((tables_in (take i tables) ++ table_view m.now ∷ []) ++ tables_in (drop (i + 1) tables))))
+        (or-true (list_any bad ((tables_in (take i tables) ++ table_view m.now ∷ []) ++ tables_in (drop (i + 1) tables))))
 
     pub clean : is_some (get_or slots (P.place k) None) ≡ false → refused (tables_in (take i tables)) ≡ false → bad (table_view m.now) ≡ false → refused (tables_in (take (i + 1) tables)) ≡ false
     clean e so_far fine =

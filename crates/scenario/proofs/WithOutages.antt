@@ -1,5 +1,7 @@
 -- A file with drawn outages, beside the file.
 use Rattle.std.proofs.Common.{◌≡◌, ℕ, List, [], ◌∷◌, map, Bool, true, false, not, ◌||◌, cond, Option, Some, None, is_some, refl, ap, sym, ◌∙◌, codes}
+use Rattle.std.proofs.Math.Bool.{or-false}
+use Rattle.std.proofs.lemmas.Bool.{not-false, not-true}
 use Rattle.std.specs.List.{list_any}
 use Rattle.std.specs.Option.{option_map_or}
 use Rattle.std.proofs.lemmas.List.{append-nil}
@@ -17,18 +19,6 @@ use Rattle.scenario.proofs.Alike.{is_other, inner, tables, second, processes, re
 use Rattle.scenario.proofs.Within.{neither}
 use Rattle.scenario.proofs.DrawnTables.{listed_drawn, whole_drawn, typed_drawn, read_put, keep_put, unlisted_put, unlisted_there, all_tables, back, none_drawn}
 
-or_false : (b : Bool) → (b || false) ≡ b
-or_false true = refl
-or_false false = refl
-
-is_true : (b : Bool) → not b ≡ false → b ≡ true
-is_true true e = refl
-is_true false e = cc
-
-is_false : (b : Bool) → not b ≡ true → b ≡ false
-is_false true e = cc
-is_false false e = refl
-
 -- ---- the fields of the top table
 
 any_alike : (p q : Field → Bool) → ((f : Field) → is_other f.key ≡ false → p f ≡ q f) → (fs : List Field) → list_any (λ f. is_other f.key) fs ≡ false → list_any p fs ≡ list_any q fs
@@ -44,7 +34,7 @@ others = refl
 -- those of version 2 are those of version 1, and behind them that of outages
 with_last : (p : Field → Bool) → list_any p (top_fields true) ≡ (list_any p (top_fields false) || p outages_field)
 unfolding top_fields
-with_last p = list_any-append p (top_fields false) (outages_field ∷ []) ∙ ap (λ b. list_any p (top_fields false) || b) (or_false (p outages_field))
+with_last p = list_any-append p (top_fields false) (outages_field ∷ []) ∙ ap (λ b. list_any p (top_fields false) || b) (or-false (p outages_field))
 
 listed : is_listed (top_fields true) (codes "outage") ≡ true
 unfolding is_listed top_fields
@@ -104,7 +94,7 @@ module _ (t : Members) (drawn : List LinkOutage) where
       let kept = put_kept t (all_outages drawn t) in
       let behind : list_any (fault outage_fields) (all_outages drawn t) ≡ list_any (fault outage_fields) (tables_at (codes "outage") t) =
       list_any-append (fault outage_fields) (tables_at (codes "outage") t) (map outage_table drawn)
-      ∙ (ap (λ b. list_any (fault outage_fields) (tables_at (codes "outage") t) || b) (none_drawn (fault outage_fields) good drawn) ∙ or_false (list_any (fault outage_fields) (tables_at (codes "outage") t))) in
+      ∙ (ap (λ b. list_any (fault outage_fields) (tables_at (codes "outage") t) || b) (none_drawn (fault outage_fields) good drawn) ∙ or-false (list_any (fault outage_fields) (tables_at (codes "outage") t))) in
       rw (
         second t put_drawn kept,
         is,
@@ -143,7 +133,7 @@ keys_alike (o ∷ os) t fits = by (is_mistyped outages_field t) refl
   where
     by : (b : Bool) → is_mistyped outages_field t ≡ b → key_refusals (cond b t (put_drawn t (o ∷ os))) ≡ key_refusals t
     by true e = refl
-    by false e = keys_put t (o ∷ os) (is_true (is_second t) fits) e
+    by false e = keys_put t (o ∷ os) (not-false (is_second t) fits) e
 
 -- ---- a file that has no key for them
 
@@ -153,7 +143,7 @@ unknown u is there = rw (is, there) refl
 
 older : (os : List LinkOutage) (t : Members) → lacks_outages os t ≡ true → is_second t ≡ false
 older [] t e = cc
-older (o ∷ os) t e = is_false (is_second t) e
+older (o ∷ os) t e = not-true (is_second t) e
 
 some_value : (o : Option Data) → option_map_or (λ d. not (is_of outages_field.kind d)) o false ≡ true → is_some o ≡ true
 some_value None e = cc
@@ -186,7 +176,7 @@ pub all_there : (drawn : List LinkOutage) (t : Members) → lacks_outages drawn 
 unfolding with_outages some_table has_mistyped
 all_there [] t fits typed = sym (append-nil (tables_at (codes "outage") t))
 all_there (o ∷ os) t fits typed =
-    let top : has_mistyped (top_fields true) t ≡ false = ap (λ b. has_mistyped (top_fields b) t) (sym (is_true (is_second t) fits)) ∙ (neither _ _ typed).0 in
+    let top : has_mistyped (top_fields true) t ≡ false = ap (λ b. has_mistyped (top_fields b) t) (sym (not-false (is_second t) fits)) ∙ (neither _ _ typed).0 in
     let right : is_mistyped outages_field t ≡ false = (neither _ _ (sym (with_last (λ f. is_mistyped f t)) ∙ top)).1 in
     rw right (put_there t (all_outages (o ∷ os) t))
 

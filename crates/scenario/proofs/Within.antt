@@ -1,7 +1,7 @@
 -- Tests of numbers, and what they say.
 use Rattle.std.proofs.Common.{◌≡◌, ℕ, ◌≤◌, pos, nat_le, List, Bool, true, false, not, ◌&&◌, ◌||◌, Option, Some, None, refl}
 use Rattle.std.specs.Option.{option_map_or, unwrap_or}
-use Rattle.std.proofs.lemmas.Bool.{leb-true}
+use Rattle.std.proofs.lemmas.Bool.{leb-true, not-false}
 use Rattle.toml.specs.Data.{Members}
 use Rattle.scenario.specs.Table.{number_or}
 use Rattle.scenario.specs.Text.{natural_of, number_at}
@@ -11,19 +11,15 @@ pub neither : (a b : Bool) → (a || b) ≡ false → (a ≡ false) × (b ≡ fa
 neither true b e = cc
 neither false b e = (refl, e)
 
-both : (a b : Bool) → (a && b) ≡ true → (a ≡ true) × (b ≡ true)
+pub both : (a b : Bool) → (a && b) ≡ true → (a ≡ true) × (b ≡ true)
 both true b e = (refl, e)
 both false b e = cc
 
 pub within_of : (low high : ℕ) (o : Option ℕ) → not (option_map_or (λ n. nat_le low n && nat_le n high) o false) ≡ false → (low ≤ unwrap_or o 0) × (unwrap_or o 0 ≤ high)
 within_of low high None e = cc
 within_of low high (Some n) e =
-    let tests = both (nat_le low n) (nat_le n high) (holds (nat_le low n && nat_le n high) e) in
+    let tests = both (nat_le low n) (nat_le n high) (not-false (nat_le low n && nat_le n high) e) in
     (leb-true low n tests.0, leb-true n high tests.1)
-  where
-    holds : (b : Bool) → not b ≡ false → b ≡ true
-    holds true e = refl
-    holds false e = cc
 
 pub within : (low high : ℕ) (key : List ℕ) (default : ℕ) (t : Members) → is_outside low high key default t ≡ false → (low ≤ number_at key default t) × (number_at key default t ≤ high)
 unfolding is_outside number_at

@@ -1,5 +1,5 @@
 -- Keys as words, alone and one after the other.
-use Rattle.std.proofs.Common.{◌≡◌, ◌≢◌, ℕ, zero, suc, ◌^◌, ◌≤◌, ◌<◌, List, [], ◌∷◌, ◌++◌, append_assoc, length, length-append, get_or, Bool, true, false, not, ◌==◌, codes, decimal, Option, Some, None, Result, Ok, Err, Bor, MatchOption, IfOk, IfErr, IsErrAnd, refl, sym, ◌∙◌, ap, subst, inl, inr, arith, lit<, ◌+◌, map, take}
+use Rattle.std.proofs.Common.{◌≡◌, ◌≢◌, ℕ, zero, suc, ◌^◌, ◌≤◌, ◌<◌, List, [], ◌∷◌, ◌++◌, append_assoc, length, length-append, get_or, Bool, true, false, not, ◌==◌, codes, decimal, Option, Some, None, Result, Ok, Err, Bor, MatchOption, IfErr, IsErrAnd, refl, sym, ◌∙◌, ap, subst, inl, inr, arith, lit<, ◌+◌, map, take}
 use Rattle.std.proofs.lemmas.Bool.{and_parts, and_from, eq-eqb, ne_eqb, false≢true}
 use Rattle.std.proofs.lemmas.Fmt.{decimal-digits_value, digits_decimal, digits_value-decimal, decimal_nonempty, first_decimal, decimal_digit}
 use Rattle.std.proofs.lemmas.List.{append_cancel_right, get_or_at, map_more, map_push}
@@ -13,6 +13,7 @@ use Rattle.study.specs.Words.{Word, is_natural, natural}
 use Rattle.study.specs.KeyWords.{is_name_byte, is_name, is_place, IsPlace, IsPlaceOf, HasNoPlace, IsListed, IsOwner, IsInArray, HasFileNames, HasNames, IsNetworkText, SaysNoKey, is_memory, SaysKey, SayNoKeys}
 use Rattle.study.specs.declared.error.KeyError.{KeyError}
 use Rattle.study.specs.declared.error.KeyError.TheVariants as error
+use Rattle.network.proofs.ArrayTables.{AllZip-more}
 use Rattle.study.proofs.Numerals.{own, natural_digits, natural_some}
 use Rattle.study.specs.declared.key.Key.{Key}
 
@@ -189,10 +190,6 @@ module _ (w : Word) (array place : Bor (List ℕ)) (split : IsSplitOnceResult 91
       absurd (found 91 w array.now place.now (name_lacks 91 refl w name) (split_parts 91 w (Some (array, place)) split (lit< tt)).0)
   in_owner (inr is) = in_list is
 
-pub no_place : (place : Word) → place ≢ codes "*]" → HasNoPlace place → IsPlace place → ⊥
-no_place place other none (inl at) = none at.0 at.1.0 at.1.1 at.1.2
-no_place place other none (inr all) = other all
-
 -- a word with a dot
 pub dotted : (w owner key : Word) → w ≡ owner ++ (46 ∷ key) → is_name w ≡ false
 dotted w owner key e = none (is_name w) refl
@@ -249,28 +246,12 @@ pub every_written : (array place key a k : Word) → place ≡ codes "*]" → a 
 every_written array place key a k star same_array same_key =
     rw (star, same_array, same_key) (sym (every_split array key))
 
-pub element_written : (array place key : Word) (n : ℕ) (a k : Word) → place ≡ decimal n ++ codes "]" → a ≡ array → k ≡ key
-    → (array ++ (91 ∷ place)) ++ (46 ∷ key) ≡ a ++ codes "[" ++ decimal n ++ codes "]." ++ k
-element_written array place key n a k is same_array same_key =
-    rw (is, same_array, same_key) (sym (element_split array (decimal n) key))
-
 pub network_text : (owner rest array key : Word) (p : FilePath) → owner ≡ codes "network" → rest ≡ array ++ (46 ∷ key)
     → array ++ (46 ∷ key) ≡ file_key_text p → owner ++ (46 ∷ rest) ≡ key_text (network p)
 network_text owner rest array key p same split text =
     ap (λ o. o ++ (46 ∷ rest)) same ∙ ap (λ r. codes "network" ++ (46 ∷ r)) (split ∙ text)
 
-pub says_dotted : (w : Word) (r : Result Key KeyError) {d : Word} → w ≢ codes "seed" → w ≡ d
-    → IfOk r (λ k. d ≡ key_text (path_of k)) → IfOk r (λ k. HasNames (path_of k)) → IfOk r (λ k. SaysKey w (path_of k))
-says_dotted w (Ok k) no_seed split text names = record { text = split ∙ text; names = names; no_seed = no_seed }
-says_dotted w (Err e) no_seed split text names = tt
-
 -- ---- words that say keys
-
-said_more : (ws : List Word) (ps : List Path) (w : Word) (p : Path) → AllZip SaysKey ws ps → SaysKey w p
-    → AllZip SaysKey (ws ++ (w ∷ [])) (ps ++ (p ∷ []))
-said_more [] [] w p said says = (says, tt)
-said_more (v ∷ ws) (q ∷ ps) w p said says = (said.0, said_more ws ps w p said.1 says)
-said_more _ _ w p said says = absurd said
 
 -- one more word says one more key
 pub key_more : (ws : List (Bor (List ℕ))) (i : ℕ) (d : Bor (List ℕ)) (old new : List Key) (key : Key) → i < length ws
@@ -278,7 +259,7 @@ pub key_more : (ws : List (Bor (List ℕ))) (i : ℕ) (d : Bor (List ℕ)) (old 
     → new ≡ old ++ (key ∷ []) → AllZip SaysKey (map (λ x. x.now) (take (i + 1) ws)) (map path_of new)
 key_more ws i d old new key within so_far says pushed =
     rw (map_more (λ x. x.now) ws i d within, pushed, map_push path_of old key)
-    (said_more (map (λ x. x.now) (take i ws)) (map path_of old) (get_or ws i d).now (path_of key) so_far says)
+    (AllZip-more SaysKey (map (λ x. x.now) (take i ws)) (map path_of old) (get_or ws i d).now (path_of key) so_far says)
 
 -- a word says none, and those before it say some
 pub key_fails : (ws : List (Bor (List ℕ))) (i : ℕ) (d : Bor (List ℕ)) (ps : List Path) (e : KeyError) → i < length ws

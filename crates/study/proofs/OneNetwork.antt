@@ -48,26 +48,22 @@ first_taken_by (mean m) = digits_drawn
 ticks_said : (s : Spell) (words : Words) → ticks_of s words ≡ ticks_by (said_of s) words
 unfolding ticks_of
 ticks_said (spell.Ticks n) words = refl
-ticks_said (spell.Values vs) words = refl
-ticks_said (spell.Mean m) words = refl
+ticks_said _ words = refl
 
 taken_said : (s : Spell) → words_taken s ≡ taken_by (said_of s)
 unfolding words_taken
 taken_said (spell.Ticks n) = refl
-taken_said (spell.Values vs) = refl
-taken_said (spell.Mean m) = refl
+taken_said _ = refl
 
 first_ticks_said : (s : Spell) (words : Words) → first_ticks_of s words ≡ first_ticks_by (said_of s) words
 unfolding first_ticks_of
 first_ticks_said (spell.Ticks n) words = refl
-first_ticks_said (spell.Values vs) words = refl
-first_ticks_said (spell.Mean m) words = refl
+first_ticks_said _ words = refl
 
 first_taken_said : (s : Spell) → first_words_taken s ≡ first_taken_by (said_of s)
 unfolding first_words_taken
 first_taken_said (spell.Ticks n) = refl
-first_taken_said (spell.Values vs) = refl
-first_taken_said (spell.Mean m) = refl
+first_taken_said _ = refl
 
 module _ (a b : Spell) (said : said_of a ≡ said_of b) where
   one_ticks : (words : Words) → ticks_of a words ≡ ticks_of b words

@@ -37,9 +37,6 @@ below_all a b c (inl p) (inr q) = inl (omega (arith, q.0))
 below_all a b c (inr p) (inl q) = inl (omega (arith, p.0))
 below_all a b c (inr p) (inr q) = inr (p.0 ∙ q.0, omega (arith, p.1, q.1))
 
-made : ℕ → ℕ → Outage
-made begin until = record { begin = begin; until = until }
-
 one_outage : (a b : Outage) → a.begin ≡ b.begin → a.until ≡ b.until → a ≡ b
 one_outage a b begin until = λ i. record { begin = begin i; until = until i }
 

@@ -83,21 +83,6 @@ number_pushed old now new r k row pushed is so_far =
 
 -- ---- one part of a value after the other
 
-abbrev parts_in : List (Bor (List ℕ)) → List Piece
-parts_in ws = map piece_said (map (λ x. x.now) ws)
-
-pub part_more : (ws : List (Bor (List ℕ))) (i : ℕ) (d : Bor (List ℕ)) → i < length ws
-    → (old new : List Setting) (s : Setting) → part_fault (piece_said (get_or ws i d).now) ≡ None
-    → values (piece_said (get_or ws i d).now) ≡ given_by s ∷ [] → new ≡ old ++ (s ∷ [])
-    → (parts_fault (parts_in (drop (i + 1) ws)) ≡ parts_fault (parts_in (drop i ws)))
-    × (map given_by new ++ flat_map values (parts_in (drop (i + 1) ws))
-    ≡ map given_by old ++ flat_map values (parts_in (drop i ws)))
-part_more ws i d within old new s fine is pushed =
-    let p : Piece = piece_said (get_or ws i d).now in
-    let rest : List Piece = parts_in (drop (i + 1) ws) in
-    let here : parts_in (drop i ws) ≡ p ∷ rest = at_drop_more parts_in ws i d within in
-    (rw (here, fine) refl, rw (here, pushed, map_push, is, append_assoc) refl)
-
 -- ---- one entry after the other
 
 or_none : (f g : Option AxisError) → option_or f g ≡ None → (f ≡ None) × (g ≡ None)

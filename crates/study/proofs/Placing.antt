@@ -1,5 +1,5 @@
 -- What a change of the code's tables does to the members that they stand for.
-use Rattle.std.proofs.Common.{◌≡◌, ℕ, zero, suc, ◌<◌, ◌≤◌, List, [], ◌∷◌, length, get_or, set, BTreeMap, Result, Ok, IfOk, MatchResult, String, Global, Ordering, Less, Equal, Greater, string_bytes, refl, sym, ap, ◌∙◌, arith, Err, ◌-◌, ◌++◌, ◌+◌, drop}
+use Rattle.std.proofs.Common.{◌≡◌, ℕ, zero, suc, ◌<◌, ◌≤◌, List, [], ◌∷◌, length, get_or, set, BTreeMap, Result, Ok, IfOk, MatchResult, String, Global, Ordering, Less, string_bytes, refl, sym, ap, ◌∙◌, arith, Err, ◌-◌, ◌++◌, ◌+◌, drop}
 use Rattle.std.specs.Ordering.{match_ordering}
 use Rattle.std.specs.BTreeMap.{insert_entry}
 use Rattle.std.specs.List.{AllZip}
@@ -10,16 +10,16 @@ use Rattle.toml.specs.Data.{Data, Items, no_items, item, table, array, Members, 
 use Rattle.toml.specs.View.{view, members_view, items_view, table_view}
 use Rattle.toml.specs.declared.value.Value.{Value}
 use Rattle.toml.proofs.Views.{Entry, get_item_within, get_item_past, view-Table}
+use Rattle.scenario.specs.Drawn.{put}
 use Rattle.study.specs.Settings.{every}
-use Rattle.study.specs.Placed.{put, put_item, put_in_each, put_in_all, set_in_file, items_of, table_of, table_there, element_of, then}
+use Rattle.study.specs.Placed.{put_item, put_in_each, put_in_all, set_in_file, items_of, table_of, table_there, element_of, then}
 use Rattle.study.specs.declared.error.PlaceError.{PlaceError}
 use Rattle.study.specs.declared.error.PlaceError.TheVariants as error
 
 by_order : (o : Ordering) (a b c : List Entry)
     → members_view (match_ordering o a b c) ≡ match_ordering o (members_view a) (members_view b) (members_view c)
 by_order Less a b c = refl
-by_order Equal a b c = refl
-by_order Greater a b c = refl
+by_order _ a b c = refl
 
 -- an insert into a map
 pub inserted : (es : List Entry) (k : String Global) (v : Value)

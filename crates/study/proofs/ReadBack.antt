@@ -1,49 +1,26 @@
 -- What is read of files in which a path was set.
-use Rattle.std.proofs.Common.{◌≡◌, ◌≢◌, ◌⊎◌, inl, inr, ℕ, zero, suc, List, Option, Some, None, Result, Ok, Err, Ordering, Less, Equal, Greater, refl, sym, ap, ◌∙◌, subst, arith}
+use Rattle.std.proofs.Common.{◌≡◌, ◌≢◌, ◌⊎◌, inl, inr, ℕ, zero, suc, List, Option, Some, None, Result, Ok, Err, Ordering, Equal, false, refl, sym, ap, ◌∙◌, subst, arith}
 use Rattle.std.specs.Option.{option_and_then}
-use Rattle.std.specs.Ordering.{nat_cmp, match_ordering}
+use Rattle.std.specs.Ordering.{nat_cmp, is_eq}
 use Rattle.std.specs.Cmp.Lexicographic.{slice_cmp}
 use Rattle.std.proofs.lemmas.Map.Lookups.{exact_bytes}
-use Rattle.std.proofs.lemmas.Cmp.{nat_list_cmp_total, tied_itself}
-use Rattle.toml.specs.Data.{Data, array, table, Items, no_items, item, Members, no_members, member, get_member, get_item}
+use Rattle.toml.specs.Data.{Data, array, table, Items, no_items, item, Members, no_members, get_member, get_item}
+use Rattle.scenario.specs.Drawn.{put}
+use Rattle.scenario.proofs.DrawnTables.{read_put, keep_put as kept_put}
 use Rattle.study.specs.Settings.{FilePath, top, inner, element, every, Path, scenario, network}
 use Rattle.study.specs.Sources.{SourcesRecord}
-use Rattle.study.specs.Placed.{put, put_item, put_in_each, put_in_all, set_in_file, set_at, with_scenario, with_network, network_there, items_of, table_of, table_or_new, table_there, element_of, then}
+use Rattle.study.specs.Placed.{put_item, put_in_each, put_in_all, set_in_file, set_at, with_scenario, with_network, network_there, items_of, table_of, table_or_new, table_there, element_of, then}
 use Rattle.study.specs.Reading.{in_table, at_place, in_array, value_in_file, IsReadInFile, first_key, AreBeside, AreApartInFile, SetsInFile, value_at, AreApart, Sets, AreSet}
 use Rattle.study.specs.declared.error.PlaceError.{PlaceError}
 
 -- ---- members
 
--- a key that isn't this one is looked for past it
-past : (k l : List ℕ) (a b : Option Data) → k ≢ l → match_ordering (slice_cmp nat_cmp l k) a b a ≡ a
-past k l a b other = go (slice_cmp nat_cmp l k) refl
-  where
-    go : (o : Ordering) → slice_cmp nat_cmp l k ≡ o → match_ordering o a b a ≡ a
-    go Equal is = absurd (other (sym (exact_bytes l k is)))
-    go _ is = refl
-
-read_put : (k : List ℕ) (d : Data) (t : Members) → get_member k (put k d t) ≡ Some d
-read_put k d no_members = rw (tied_itself nat_list_cmp_total k)
-read_put k d (member l e ms) = go (slice_cmp nat_cmp k l) refl (read_put k d ms)
-  where
-    go : (o : Ordering) → slice_cmp nat_cmp k l ≡ o → get_member k (put k d ms) ≡ Some d
-        → get_member k (match_ordering o (member k d (member l e ms)) (member l d ms) (member l e (put k d ms))) ≡ Some d
-    go Less is later = rw (tied_itself nat_list_cmp_total k)
-    go Equal is later = rw is
-    go Greater is later = rw (is, later)
-
 keep_put : (k l : List ℕ) (d : Data) (t : Members) → k ≢ l → get_member l (put k d t) ≡ get_member l t
-keep_put k l d no_members other = past k l None (Some d) other
-keep_put k l d (member m e ms) other = go (slice_cmp nat_cmp k m) refl (keep_put k l d ms other)
+keep_put k l d t other = kept_put k l d t (go (slice_cmp nat_cmp k l) refl)
   where
-    go : (o : Ordering) → slice_cmp nat_cmp k m ≡ o → get_member l (put k d ms) ≡ get_member l ms
-        → get_member l (match_ordering o (member k d (member m e ms)) (member m d ms) (member m e (put k d ms)))
-        ≡ get_member l (member m e ms)
-    go Less is later = past k l (get_member l (member m e ms)) (Some d) other
-    go Equal is later =
-        let apart : m ≢ l = λ h. other (exact_bytes k m is ∙ h) in
-        past m l (get_member l ms) (Some d) apart ∙ sym (past m l (get_member l ms) (Some e) apart)
-    go Greater is later = ap (λ x. match_ordering (slice_cmp nat_cmp l m) x (Some e) x) later
+    go : (o : Ordering) → slice_cmp nat_cmp k l ≡ o → is_eq o ≡ false
+    go Equal is = absurd (other (exact_bytes k l is))
+    go _ is = refl
 
 -- ---- items
 

@@ -1,33 +1,14 @@
 -- The table, the scenario and the text of a run.
-use Rattle.std.proofs.Common.{◌≡◌, ◌≤◌, ℕ, List, Option, None, Some, MatchOption, Ok, Err, sym, ap, ◌∙◌, subst}
-use Rattle.std.proofs.lemmas.Option.{same_Some}
-use Rattle.toml.specs.Data.{Members, members_depth}
-use Rattle.toml.specs.Parse.{parse_document}
+use Rattle.std.proofs.Common.{◌≡◌, Option, None, Some, MatchOption, Ok, Err, sym, ap, ◌∙◌}
+use Rattle.toml.specs.Data.{Members}
 use Rattle.scenario_record.specs.Record.{Record}
 use Rattle.scenario.specs.Drawn.{with_outages}
 use Rattle.scenario.specs.Text.{record_of, processes_of}
-use Rattle.scenario.specs.Refusals.{Accepts}
 use Rattle.network.specs.Laid.{laid_links}
 use Rattle.study.specs.Sources.{SourcesRecord}
 use Rattle.study.specs.Laid.{horizon_of, seed_of, lay_links, IsLaidBy, file_over}
 use Rattle.study.proofs.OneNetwork.{one_drawn, one_links}
-use Rattle.study.specs.Runs.{RunSources, IsRunTable, StandsFor, IsScenarioOf, IsTextOf, IsRunText}
-
--- a text that reads back as a table
-pub text_of : (t : Members) (text : List ℕ) → (members_depth t ≤ 80 → parse_document text ≡ Some t) → IsTextOf t text
-text_of t text back = record {
-  reads_back = back;
-  scenario = λ deep s accepts. same t s accepts (same_Some accepts.table t (sym accepts.is_document.1 ∙ back deep));
-}
-  where
-    same : (t : Members) (s : Record) (accepts : Accepts text s) → accepts.table ≡ t → StandsFor t s
-    same t s accepts e =
-        subst (λ u. StandsFor u s) e
-        (record { unrefused = accepts.unrefused; record_is = accepts.stands_for })
-
-pub run_text : (r : RunSources) (t : Members) (text : List ℕ) → IsRunTable r t
-    → (members_depth t ≤ 80 → parse_document text ≡ Some t) → IsRunText r text
-run_text r t text is back = record { table = t; is_table = is; is_text = text_of t text back }
+use Rattle.study.specs.Runs.{RunSources, IsRunTable, IsScenarioOf}
 
 -- ---- a run has one table and one scenario
 

@@ -4,8 +4,8 @@ use Rattle.std.specs.List.{list_any}
 use Rattle.std.specs.Option.{option_map_or}
 use Rattle.toml.specs.Data.{Data, integer, array, table, Items, no_items, item, Members, no_members, get_member, as_array, as_table}
 use Rattle.process_api.specs.Bounds.{most_processes}
-use Rattle.toml.specs.View.{table_view}
-use Rattle.scenario.specs.Drawn.{with_outages}
+use Rattle.toml.specs.View.{items_of, table_view}
+use Rattle.scenario.specs.Drawn.{put, with_outages}
 use Rattle.scenario.specs.Table.{is_of}
 use Rattle.scenario.specs.Text.{number_at, is_second, pair_of, same_pair, processes_of}
 use Rattle.scenario.specs.declared.field.Kind.TheVariants as kind
@@ -19,7 +19,6 @@ use Rattle.network.specs.declared.laid.LaidLink.{LaidLink}
 use Rattle.network.specs.declared.network.Network.{Network}
 use Rattle.scenario.specs.declared.drawn.LinkOutage.{LinkOutage}
 use Rattle.network.specs.declared.refusal.NetworkError.{NetworkError}
-use Rattle.study.specs.Placed.{put}
 use Rattle.study.specs.Sources.{SourcesRecord}
 use Rattle.study.specs.declared.error.PlaceError.{PlaceError}
 use Rattle.study.specs.declared.extent.Extent.{Extent}
@@ -68,10 +67,6 @@ abbrev pub listed : Items → List Data
 listed no_items = []
 listed (item d ds) = d ∷ listed ds
 
-abbrev pub items_from : List Data → Items
-items_from [] = no_items
-items_from (d ∷ ds) = item d (items_from ds)
-
 -- what stands in an array
 abbrev pub values_in : Data → List Data
 values_in d = option_map_or listed (as_array d) []
@@ -80,8 +75,8 @@ values_in d = option_map_or listed (as_array d) []
 -- no array of tables stays as it is
 unfoldable pub with_tables : (key : List ℕ) → (List Data → List Data) → Members → Members
 with_tables key change t =
-    option_map_or (λ d. if is_of kind.Tables d then put key (array (items_from (change (values_in d)))) t else t)
-    (get_member key t) (put key (array (items_from (change []))) t)
+    option_map_or (λ d. if is_of kind.Tables d then put key (array (items_of (change (values_in d)))) t else t)
+    (get_member key t) (put key (array (items_of (change []))) t)
 
 -- what is asked of the code: whatever the values are changed to, the table stays; or these are changed
 abbrev pub StaysAsItIs : (key : List ℕ) → Members → Type 0
@@ -89,7 +84,7 @@ StaysAsItIs key t = (change : List Data → List Data) → with_tables key chang
 
 abbrev pub HasValues : (key : List ℕ) → List Data → Members → Type 0
 HasValues key ds t =
-    (change : List Data → List Data) → with_tables key change t ≡ put key (array (items_from (change ds))) t
+    (change : List Data → List Data) → with_tables key change t ≡ put key (array (items_of (change ds))) t
 
 -- ---- what is laid over the table
 
@@ -97,12 +92,14 @@ HasValues key ds t =
 abbrev pub is_laid : List LaidLink → Data → Bool
 is_laid laid d = option_map_or (λ t. list_any (λ l. same_pair (pair_of t) (l.from, l.to)) laid) (as_table d) false
 
--- the tables of other links, and then those that are laid
-abbrev pub laid_over : List LaidLink → List Data → List Data
-laid_over laid ds = filter (λ d. not (is_laid laid d)) ds ++ map link_table laid
+-- with these tables over those of an array at a key, from which those of links that are laid are left out. It stays as
+-- it is where there are none to lay
+unfoldable pub with_rows : (key : List ℕ) → List LaidLink → (rows : List Data) → Members → Members
+with_rows key laid rows t =
+    if length rows == 0 then t else with_tables key (λ ds. filter (λ d. not (is_laid laid d)) ds ++ rows) t
 
-unfoldable pub lay_links : List LaidLink → Members → Members
-lay_links laid t = if length laid == 0 then t else with_tables (codes "links") (laid_over laid) t
+abbrev pub lay_links : List LaidLink → Members → Members
+lay_links laid t = with_rows (codes "links") laid (map link_table laid) t
 
 -- the links are laid, and then the outages are there besides that the table itself draws
 abbrev pub lay : Network → Members → Members

@@ -2,11 +2,10 @@
 use Rattle.std.specs.Prelude.{◌≡◌, ℕ, ◌-◌, zero, suc, List, [], ◌∷◌, Option, Some, None, Result, Ok, Err, pos, codes, Bool, true, false, String}
 use Rattle.std.specs.BTreeMap.{BTreeMap}
 use Rattle.std.specs.declared.alloc.Global.{Global}
-use Rattle.std.specs.Ordering.{nat_cmp, match_ordering}
-use Rattle.std.specs.Cmp.Lexicographic.{slice_cmp}
 use Rattle.toml.specs.Data.{Data, integer, string, array, table, Items, no_items, item, Members, no_members, member, get_member, get_item}
 use Rattle.toml.specs.View.{view, table_view}
 use Rattle.toml.specs.declared.value.Value.{Value}
+use Rattle.scenario.specs.Drawn.{put}
 use Rattle.study.specs.Settings.{FilePath, top, inner, element, every, Path, scenario, network, path_of, Given, number, text, Chosen}
 use Rattle.study.specs.Sources.{SourcesRecord}
 use Rattle.study.specs.Grid.{RunRecord}
@@ -17,13 +16,6 @@ use Rattle.study.specs.declared.error.PlaceError.TheVariants as error
 abbrev pub data_of : Given → Data
 data_of (number z) = integer z
 data_of (text s) = string s
-
--- the members with a value at a key: it takes the place of the one that is there, or stands where the order of the
--- keys has it
-abbrev pub put : List ℕ → Data → Members → Members
-put k d no_members = member k d no_members
-put k d (member l e ms) =
-    match_ordering (slice_cmp nat_cmp k l) (member k d (member l e ms)) (member l d ms) (member l e (put k d ms))
 
 -- the items with another one at a place, from 0
 abbrev pub put_item : ℕ → Data → Items → Items

@@ -1,13 +1,13 @@
 //! Tables of links and of outages, laid over those of a scenario's table.
 ghost use Rattle.std.specs.Prelude.{◌≡◌, ◌++◌, ◌∷◌, [], codes, pos, not, true, filter, map, IfOk, OnOk, IfErr, MatchOption, if◌then◌else◌};
 ghost use Rattle.std.specs.List.{list_any};
-ghost use Rattle.toml.specs.Data.{integer, table};
+ghost use Rattle.toml.specs.Data.{Data, integer};
 ghost use Rattle.toml.specs.View.{view, table_view};
-ghost use Rattle.scenario.specs.Drawn.{outage_table, with_outages};
+ghost use Rattle.scenario.specs.Drawn.{put as put_member, with_outages};
 ghost use Rattle.scenario.specs.Text.{same_pair};
-ghost use Rattle.study.specs.Placed.{put as put_member, is_memory};
+ghost use Rattle.study.specs.Placed.{is_memory};
 ghost use Rattle.study.specs.Laid as spec;
-ghost use Rattle.study.specs.Laid.{link_table, StaysAsItIs, HasValues};
+ghost use Rattle.study.specs.Laid.{StaysAsItIs, HasValues, with_rows};
 
 use crate::error::PlaceError;
 use crate::extent_of::natural_at;
@@ -40,31 +40,47 @@ fn put_ends(alloc: Global, table: &mut Table, from: Pid, to: Pid) -> Done
     put_number(alloc, table, "from", u32::from(from.number()))
 }
 
-/// The table of a link that is laid.
-#[tactic(auto, unfolding(crate::specs::Laid::link_table), using(crate::proofs::Placing::writing))]
-fn link_value(alloc: Global, laid: LaidLink) -> Result<Value, PlaceError>
-    ensures ok { IfOk result (λ v. view v ≡ link_table laid) }
-    ensures err { IfErr result (λ e. is_memory e ≡ true) }
-{
-    let mut table = Table::new(alloc);
-    put_number(alloc, &mut table, "loss", laid.link.loss)?;
-    put_number(alloc, &mut table, "max", laid.link.max)?;
-    put_number(alloc, &mut table, "min", laid.link.min)?;
-    put_ends(alloc, &mut table, laid.from, laid.to)?;
-    Ok(Value::Table(table))
+/// What is said by a table of an array.
+trait Row {
+    /// Its table.
+    ghost said: { Self → Data };
+
+    /// Its table, as a value.
+    fn value(&self, alloc: Global) -> Result<Value, PlaceError>
+        ensures ok { IfOk result (λ v. view v ≡ said self.now) }
+        ensures err { IfErr result (λ e. is_memory e ≡ true) };
 }
 
-/// The table of a drawn outage.
-#[tactic(auto, using(crate::proofs::Placing::writing))]
-fn outage_value(alloc: Global, outage: LinkOutage) -> Result<Value, PlaceError>
-    ensures ok { IfOk result (λ v. view v ≡ table (outage_table outage)) }
-    ensures err { IfErr result (λ e. is_memory e ≡ true) }
-{
-    let mut table = Table::new(alloc);
-    put_number(alloc, &mut table, "until", outage.until)?;
-    put_number(alloc, &mut table, "begin", outage.begin)?;
-    put_ends(alloc, &mut table, outage.from, outage.to)?;
-    Ok(Value::Table(table))
+impl Row for LaidLink {
+    ghost use Rattle.study.specs.Laid.{link_table};
+
+    ghost said = { link_table };
+
+    #[tactic(auto, unfolding(crate::specs::Laid::link_table), using(crate::proofs::Placing::writing))]
+    fn value(&self, alloc: Global) -> Result<Value, PlaceError> {
+        let mut table = Table::new(alloc);
+        put_number(alloc, &mut table, "loss", self.link.loss)?;
+        put_number(alloc, &mut table, "max", self.link.max)?;
+        put_number(alloc, &mut table, "min", self.link.min)?;
+        put_ends(alloc, &mut table, self.from, self.to)?;
+        Ok(Value::Table(table))
+    }
+}
+
+impl Row for LinkOutage {
+    ghost use Rattle.toml.specs.Data.{table};
+    ghost use Rattle.scenario.specs.Drawn.{outage_table};
+
+    ghost said = { λ o. table (outage_table o) };
+
+    #[tactic(auto, using(crate::proofs::Placing::writing))]
+    fn value(&self, alloc: Global) -> Result<Value, PlaceError> {
+        let mut table = Table::new(alloc);
+        put_number(alloc, &mut table, "until", self.until)?;
+        put_number(alloc, &mut table, "begin", self.begin)?;
+        put_ends(alloc, &mut table, self.from, self.to)?;
+        Ok(Value::Table(table))
+    }
 }
 
 /// Copies of what the array of tables at a key has: nothing where there is no such key. None: something else is there.
@@ -130,13 +146,13 @@ fn other_links(alloc: Global, values: &[Value], laid: &[LaidLink]) -> Result<Vec
     Ok(others)
 }
 
-/// Adds the tables of links that are laid.
-fn push_links(alloc: Global, values: &mut Vec<Value>, laid: &[LaidLink]) -> Done
-    ensures ok { OnOk result (map view values.new.items ≡ map view values.old.items ++ map link_table laid.now) }
+/// Adds the tables of rows.
+fn push_rows<R: Row>(alloc: Global, values: &mut Vec<Value>, rows: &[R]) -> Done
+    ensures ok { OnOk result (map view values.new.items ≡ map view values.old.items ++ map R.said rows.now) }
     ensures err { IfErr result (λ e. is_memory e ≡ true) }
 {
-    for link in laid {
-        let value = link_value(alloc, *link)?;
+    for row in rows {
+        let value = row.value(alloc)?;
         values
             .push(value)
             .map_err(|_| PlaceError::Memory(AllocError))?;
@@ -144,19 +160,27 @@ fn push_links(alloc: Global, values: &mut Vec<Value>, laid: &[LaidLink]) -> Done
     Ok(())
 }
 
-/// Adds the tables of drawn outages.
-fn push_outages(alloc: Global, values: &mut Vec<Value>, drawn: &[LinkOutage]) -> Done
-    ensures ok { OnOk result (map view values.new.items
-        ≡ map view values.old.items ++ map table (map outage_table drawn.now)) }
+/// Lays rows over those of the array of tables at a key, from which the tables of these links are left out.
+fn lay_rows<R: Row>(
+    alloc: Global,
+    table: &mut Table,
+    key: &str,
+    laid: &[LaidLink],
+    rows: &[R],
+) -> Done
+    ensures ok { OnOk result (table_view table.new
+        ≡ with_rows key.now laid.now (map R.said rows.now) (table_view table.old)) }
     ensures err { IfErr result (λ e. is_memory e ≡ true) }
 {
-    for outage in drawn {
-        let value = outage_value(alloc, *outage)?;
-        values
-            .push(value)
-            .map_err(|_| PlaceError::Memory(AllocError))?;
+    if rows.is_empty() {
+        return Ok(());
     }
-    Ok(())
+    let Some(values) = values_at(alloc, table, key)? else {
+        return Ok(());
+    };
+    let mut others = other_links(alloc, &values, laid).map_err(PlaceError::Memory)?;
+    push_rows(alloc, &mut others, rows)?;
+    put(alloc, table, key, Value::Array(others))
 }
 
 /// Lays links over those of a table.
@@ -164,28 +188,14 @@ pub(crate) fn lay_links(alloc: Global, table: &mut Table, laid: &[LaidLink]) -> 
     ensures ok { OnOk result (table_view table.new ≡ spec.lay_links laid.now (table_view table.old)) }
     ensures err { IfErr result (λ e. is_memory e ≡ true) }
 {
-    if laid.is_empty() {
-        return Ok(());
-    }
-    let Some(values) = values_at(alloc, table, "links")? else {
-        return Ok(());
-    };
-    let mut links = other_links(alloc, &values, laid).map_err(PlaceError::Memory)?;
-    push_links(alloc, &mut links, laid)?;
-    put(alloc, table, "links", Value::Array(links))
+    lay_rows(alloc, table, "links", laid, laid)
 }
 
 /// Puts drawn outages into a table, behind those that it has.
+#[tactic(auto, using(crate::proofs::LaidTables::outages_laid))]
 pub(crate) fn lay_outages(alloc: Global, table: &mut Table, drawn: &[LinkOutage]) -> Done
     ensures ok { OnOk result (table_view table.new ≡ with_outages drawn.now (table_view table.old)) }
     ensures err { IfErr result (λ e. is_memory e ≡ true) }
 {
-    if drawn.is_empty() {
-        return Ok(());
-    }
-    let Some(mut values) = values_at(alloc, table, "outage")? else {
-        return Ok(());
-    };
-    push_outages(alloc, &mut values, drawn)?;
-    put(alloc, table, "outage", Value::Array(values))
+    lay_rows(alloc, table, "outage", &[], drawn)
 }

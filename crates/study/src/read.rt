@@ -5,12 +5,10 @@ ghost use Rattle.study.specs.Settings.{chosen};
 ghost use Rattle.study.specs.Sources.{sources_of};
 ghost use Rattle.study.specs.Grid.{run_of};
 ghost use Rattle.study.specs.Placed.{sources_of_run, IsRefused, is_memory as is_place_memory};
-ghost use Rattle.study.specs.Laid.{table_of_laid};
-ghost use Rattle.study.specs.Runs.{RunSources, IsRunTable, HasNoTable, IsScenarioOf, IsRefusedFor, is_memory};
+ghost use Rattle.study.specs.Runs.{IsRunTable, HasNoTable, IsScenarioOf, IsRefusedFor, is_memory};
 
 use crate::axis::Choice;
 use crate::error::{PlaceError, ReadError};
-use crate::laid_run::LaidRun;
 use crate::laying::laid;
 use crate::placed::{put, set_choices};
 use crate::run::Run;
@@ -39,31 +37,6 @@ fn run_sources(
     Ok(changed)
 }
 
-/// What a run's files stand for, the drawn outages beside the table.
-fn laid_of_run(
-    alloc: Global,
-    sources: &Sources,
-    point: &[Choice<'_>],
-    run: &Run<'_>,
-) -> Result<LaidRun, PlaceError>
-    ensures ok { IfOk result (λ r. IsRunTable
-        (sources_of_run (map chosen point.now) (run_of run.now) (sources_of sources.now)) (table_of_laid r)) }
-    ensures err { IfErr result (λ e. is_place_memory e ≡ false
-        → HasNoTable (sources_of_run (map chosen point.now) (run_of run.now) (sources_of sources.now)) e) }
-{
-    let changed = run_sources(alloc, sources, point, run)?;
-    laid(alloc, changed)
-}
-
-/// What the files stand for as they are, the drawn outages beside the table.
-fn laid_alone(alloc: Global, sources: &Sources) -> Result<LaidRun, PlaceError>
-    ensures ok { IfOk result (λ r. IsRunTable (Ok (sources_of sources.now)) (table_of_laid r)) }
-    ensures err { IfErr result (λ e. is_place_memory e ≡ false → HasNoTable (Ok (sources_of sources.now)) e) }
-{
-    let copy = sources.copy().map_err(PlaceError::Memory)?;
-    laid(alloc, copy)
-}
-
 /// The table of a run's file: the scenario's, with the point's settings, the run's, and its seed, and with the
 /// network's file laid over it where there is one.
 ///
@@ -82,7 +55,8 @@ pub fn run_table(
     ensures err { IfErr result (λ e. is_place_memory e ≡ false
         → HasNoTable (sources_of_run (map chosen point.now) (run_of run.now) (sources_of sources.now)) e) }
 {
-    laid_of_run(alloc, sources, point, run)?.into_table(alloc)
+    let files = run_sources(alloc, sources, point, run)?;
+    laid(alloc, files)?.into_table(alloc)
 }
 
 /// The table of the files as they stand, with the scenario's own seed.
@@ -94,16 +68,16 @@ pub fn table_alone(alloc: Global, sources: &Sources) -> Result<Table, PlaceError
     ensures ok { IfOk result (λ t. IsRunTable (Ok (sources_of sources.now)) (table_view t)) }
     ensures err { IfErr result (λ e. is_place_memory e ≡ false → HasNoTable (Ok (sources_of sources.now)) e) }
 {
-    laid_alone(alloc, sources)?.into_table(alloc)
+    let files = sources.copy().map_err(PlaceError::Memory)?;
+    laid(alloc, files)?.into_table(alloc)
 }
 
-/// The scenario of a run, by what its files stand for. No table is made of a drawn outage.
-fn read_laid(alloc: Global, laid: &LaidRun) -> Result<Scenario, ReadError>
-    ensures ok { (files : RunSources) → IsRunTable files (table_of_laid laid.now)
-        → IfOk result (IsScenarioOf files) }
-    ensures err { (files : RunSources) → IsRunTable files (table_of_laid laid.now)
-        → IfErr result (λ e. is_memory e ≡ false → IsRefusedFor files e) }
+/// The scenario of a run's files. No table is made of a drawn outage.
+fn read_files(alloc: Global, files: Sources) -> Result<Scenario, ReadError>
+    ensures ok { IfOk result (IsScenarioOf (Ok (sources_of files))) }
+    ensures err { IfErr result (λ e. is_memory e ≡ false → IsRefusedFor (Ok (sources_of files)) e) }
 {
+    let laid = laid(alloc, files).map_err(ReadError::Place)?;
     match read_with_outages(alloc, &laid.table, &laid.outages) {
         Ok(scenario) => Ok(scenario),
         Err(error) => Err(ReadError::Scenario(error)),
@@ -127,8 +101,8 @@ pub fn read_run(
     ensures err { IfErr result (λ e. is_memory e ≡ false
         → IsRefusedFor (sources_of_run (map chosen point.now) (run_of run.now) (sources_of sources.now)) e) }
 {
-    let laid = laid_of_run(alloc, sources, point, run).map_err(ReadError::Place)?;
-    read_laid(alloc, &laid)
+    let files = run_sources(alloc, sources, point, run).map_err(ReadError::Place)?;
+    read_files(alloc, files)
 }
 
 /// The scenario of the files as they stand, with the scenario's own seed.
@@ -141,6 +115,8 @@ pub fn read_alone(alloc: Global, sources: &Sources) -> Result<Scenario, ReadErro
     ensures ok { IfOk result (IsScenarioOf (Ok (sources_of sources.now))) }
     ensures err { IfErr result (λ e. is_memory e ≡ false → IsRefusedFor (Ok (sources_of sources.now)) e) }
 {
-    let laid = laid_alone(alloc, sources).map_err(ReadError::Place)?;
-    read_laid(alloc, &laid)
+    let files = sources
+        .copy()
+        .map_err(|error| ReadError::Place(PlaceError::Memory(error)))?;
+    read_files(alloc, files)
 }

@@ -1,11 +1,8 @@
-use Rattle.std.proofs.Common.{ℕ, ◌∙◌, ◌++◌, ◌∷◌, [], ap, if◌then◌else◌, sym, append-nil, filter, map, arith}
+use Rattle.std.proofs.Common.{ℕ, ◌∙◌, ◌++◌, ◌∷◌, [], ap, if◌then◌else◌, filter, map, arith}
 use Rattle.network.specs.Groups.{joins}
 use Rattle.network.specs.declared.group.Ends.{Ends}
 use Rattle.network.proofs.Adding.{all_taken, mapped_more}
 use Rattle.network.proofs.group.push_links_from.Goals as goal
-
-pub loop-before-init : goal.loop-before-init
-loop-before-init c = sym (append-nil c.args.links.now.items)
 
 pub loop-before-preserved : goal.loop-before-preserved
 loop-before-preserved c =

@@ -1,6 +1,5 @@
 use Rattle.std.proofs.Common.{◌≡◌, ◌<◌, ◌∙◌, ap, sym, subst, ◌++◌, List, length, arith, rules}
 use Rattle.std.specs.List.{flat_map}
-use Rattle.std.proofs.lemmas.List.{take_all}
 use Rattle.std.proofs.lemmas.Grind.{common_steps}
 use Rattle.network.specs.Groups.{links_of}
 use Rattle.network.specs.Words.{Words, stream_number, stream_of, words_of}
@@ -31,14 +30,3 @@ returns-in_err-draw_on-clause-full g c = λ is.
     let added = subst Added one (c.in_err-draw_on.ensures.full (search rules)) in
     subst Whole links
     (full_more f most_outages c.args.drawn.now c.loop-link.drawn xs i x (grind (arith, common_steps)) (sym c.link-item.is) c.loop-link.invariant added)
-
-pub returns-clause-ok : goal.returns-clause-ok
-returns-clause-ok g c =
-    let source : Words → List Outage = λ words. g.S.Source.outages c.args.source.now words c.args.course.horizon in
-    let f : Ends → List LinkOutage = alone c.args.course.seed c.args.kind c.args.before source in
-    let xs = c.deref-link-items.result.now in
-    let direct : xs ≡ c.in_ok-links.links.items = cc in
-    let links : xs ≡ links_of c.args.set.now c.args.course.processes = direct ∙ c.in_ok-links.ensures in
-    c.loop-link.invariant
-    ∙ (ap (λ ys. c.args.drawn.now ++ flat_map f ys) (take_all c.loop-link.link-index xs (grind (arith, common_steps)))
-    ∙ ap (λ ys. c.args.drawn.now ++ flat_map f ys) links)

@@ -1,15 +1,8 @@
-use Rattle.std.proofs.Common.{◌&&◌, ◌∙◌, sym, arith}
+use Rattle.std.proofs.Common.{◌&&◌, ◌∙◌}
 use Rattle.network.specs.Groups.{holds}
-use Rattle.network.proofs.Firsts.{found_next, found_none, passed_next}
+use Rattle.network.proofs.Firsts.{passed_next}
 use Rattle.network.proofs.together.first_common.Goals as goal
-
-pub returns-then-is_common : goal.returns-then-is_common
-returns-then-is_common c =
-    sym (c.loop-before.invariant ∙ found_next (λ p. holds c.args.one.now p && holds c.args.other.now p) c.loop-before.before c.args.most c.is_common.result c.after-process.result c.loop-before-test.true c.after-process.ensures c.is_common.ensures c.if-is_common.true)
 
 pub loop-before-preserved : goal.loop-before-preserved
 loop-before-preserved c =
     c.loop-before.invariant ∙ passed_next (λ p. holds c.args.one.now p && holds c.args.other.now p) c.loop-before.before c.args.most c.is_common.result c.after-process.result c.loop-before-test.true c.after-process.ensures c.is_common.ensures c.if-is_common.false
-
-pub returns : goal.returns
-returns c = sym (c.loop-before.invariant ∙ found_none (λ p. holds c.args.one.now p && holds c.args.other.now p) c.loop-before.before c.args.most (omega arith))

@@ -1,20 +1,15 @@
-use Rattle.std.proofs.Common.{◌≡◌, ◌∙◌, ◌-◌, sym, refl, length, take, get_or, replicate, is_some, None, rules, arith, true, false}
+use Rattle.std.proofs.Common.{◌≡◌, ◌∙◌, ◌-◌, sym, length, take, get_or, is_some, None, rules, arith, true, false}
 use Rattle.std.proofs.lemmas.List.{take_all}
 use Rattle.toml.specs.View.{table_view}
 use Rattle.scenario.specs.Text.{crash_tick}
 use Rattle.scenario.specs.Rules.{is_bad_crash}
 use Rattle.scenario.specs.Parts.{IsProcess, tables_in}
 use Rattle.scenario.proofs.Elements.{IsAt}
-use Rattle.scenario.proofs.Slots.{at_place, once, none_held, bad_among, again, clean, kept}
-use Rattle.scenario.proofs.Firsts.{applies, passes}
+use Rattle.scenario.proofs.Slots.{at_place, bad_among, again, clean, kept}
+use Rattle.scenario.proofs.Firsts.{applies}
 use Rattle.scenario.proofs.KeyFacts.{process_keys}
 use Rattle.scenario.proofs.Taking.{crashes_whole}
 use Rattle.scenario.proofs.crashes.read_crashes.Goals as goal
-
-pub loop-i-init : goal.loop-i-init
-loop-i-init c =
-    let made : c.in_ok-ticks.ticks.items ≡ replicate c.args.top.now.numbers.processes None = search rules in
-    record { clean = refl; hold = none_held (process_keys c.args.top.now.numbers.processes) (once crash_tick) c.in_ok-ticks.ticks.items made }
 
 pub returns-in_default-clause-judged : goal.returns-in_default-clause-judged
 returns-in_default-clause-judged c = λ other.
@@ -45,11 +40,6 @@ loop-i-preserved c =
       clean = clean (process_keys n) (is_bad_crash n) crash_tick c.args.tables.now c.loop-i.i c.index-tables-i.result spot c.loop-i.ticks.items c.loop-i.invariant.hold p c.in-Some.ensures.process good free c.loop-i.invariant.clean (sym c.in-Some.ensures.test);
       hold = kept (process_keys n) (is_bad_crash n) crash_tick c.args.tables.now c.loop-i.i c.index-tables-i.result spot c.loop-i.ticks.items c.loop-i.invariant.hold p c.in-Some.ensures.process good c.in-Some.crash.at c.in-Some.ensures.tick free;
     }
-
-pub returns-clause-judged : goal.returns-clause-judged
-returns-clause-judged c =
-    let all : take c.loop-i.i c.args.tables.now ≡ c.args.tables.now = take_all c.loop-i.i c.args.tables.now (omega arith) in
-    passes _ _ (rw (← c.requires.numbers.processes, ← c.requires.tables) (rw all at c.loop-i.invariant.clean))
 
 pub returns-clause-value : goal.returns-clause-value
 returns-clause-value c =

@@ -1,16 +1,10 @@
 use Rattle.std.proofs.Common.{◌≡◌, ◌∙◌, map, ap, length, rules, codes}
 use Rattle.std.specs.Option.{unwrap_or}
 use Rattle.toml.specs.View.{table_view}
-use Rattle.scenario.specs.Table.{table_or_empty, tables_at}
-use Rattle.scenario.specs.Text.{delays_of, processes_of}
+use Rattle.scenario.specs.Table.{tables_at}
+use Rattle.scenario.specs.Text.{processes_of}
 use Rattle.scenario.proofs.Taking.{links_length}
 use Rattle.scenario.proofs.links.read_links.Goals as goal
-
-pub returns-clause-value : goal.returns-clause-value
-returns-clause-value c =
-    let made : c.in_ok-links.links.items ≡ map (λ l. unwrap_or l c.in_ok-common.common) c.in_ok-own.own.items = search rules in
-    let common : c.in_ok-common.common ≡ delays_of (table_or_empty (codes "link") (table_view c.args.top.now.table.now)) = search rules in
-    rw (← common) (made ∙ c.in_ok-own.ensures.value c.in_ok-common.common)
 
 pub returns-clause-all : goal.returns-clause-all
 returns-clause-all c =

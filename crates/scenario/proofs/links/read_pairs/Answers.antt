@@ -1,21 +1,15 @@
-use Rattle.std.proofs.Common.{◌≡◌, ◌∙◌, ◌<◌, ◌*◌, ℕ, ap, sym, refl, length, get_or, take, replicate, is_some, None, rules, arith, true, false, subst}
+use Rattle.std.proofs.Common.{◌≡◌, ◌∙◌, ◌<◌, ℕ, ap, sym, length, get_or, take, is_some, None, rules, arith, true, false, subst}
 use Rattle.std.proofs.lemmas.List.{take_all}
 use Rattle.toml.specs.View.{table_view}
 use Rattle.scenario.specs.Text.{delays_of}
 use Rattle.scenario.specs.Rules.{is_bad_pair}
 use Rattle.scenario.specs.Parts.{tables_in}
 use Rattle.scenario.proofs.Elements.{IsAt}
-use Rattle.scenario.proofs.Slots.{at_place, once, none_held, bad_among, again, clean, kept}
-use Rattle.scenario.proofs.Firsts.{applies, passes}
+use Rattle.scenario.proofs.Slots.{at_place, bad_among, again, clean, kept}
+use Rattle.scenario.proofs.Firsts.{applies}
 use Rattle.scenario.proofs.KeyFacts.{pair_keys, pair_place}
 use Rattle.scenario.proofs.Taking.{links_whole}
 use Rattle.scenario.proofs.links.read_pairs.Goals as goal
-
-pub loop-i-init : goal.loop-i-init
-loop-i-init c =
-    let n = c.args.top.now.numbers.processes in
-    let made : c.in_ok-links.links.items ≡ replicate (n * n) None = search rules in
-    record { clean = refl; hold = none_held (pair_keys n) (once delays_of) c.in_ok-links.links.items made }
 
 pub returns-in_default-clause-judged : goal.returns-in_default-clause-judged
 returns-in_default-clause-judged c = λ other.
@@ -44,11 +38,6 @@ loop-i-preserved c =
       clean = clean (pair_keys n) (is_bad_pair n) delays_of c.args.tables.now c.loop-i.i c.index-tables-i.result spot c.loop-i.links.items c.loop-i.invariant.hold pair c.in-Some.ensures.pair c.in-Some.ensures.processes free c.loop-i.invariant.clean (sym c.in-Some.ensures.test);
       hold = rw c.place_of-place.ensures.value (kept (pair_keys n) (is_bad_pair n) delays_of c.args.tables.now c.loop-i.i c.index-tables-i.result spot c.loop-i.links.items c.loop-i.invariant.hold pair c.in-Some.ensures.pair c.in-Some.ensures.processes c.in-Some.pair.link c.in-Some.ensures.link free);
     }
-
-pub returns-clause-judged : goal.returns-clause-judged
-returns-clause-judged c =
-    let all : take c.loop-i.i c.args.tables.now ≡ c.args.tables.now = take_all c.loop-i.i c.args.tables.now (omega arith) in
-    passes _ _ (rw (← c.requires.numbers.processes, ← c.requires.tables) (rw all at c.loop-i.invariant.clean))
 
 pub returns-clause-value : goal.returns-clause-value
 returns-clause-value c = λ common.

@@ -1,14 +1,10 @@
-use Rattle.std.proofs.Common.{◌∙◌, ◌++◌, ◌∷◌, [], ap, sym, refl, map, take, append_assoc}
-use Rattle.std.proofs.lemmas.List.{append-nil}
+use Rattle.std.proofs.Common.{◌∙◌, ◌++◌, ◌∷◌, [], ap, sym, map, take, append_assoc}
 use Rattle.scenario.specs.Text.{each_pairs_outages}
 use Rattle.scenario.specs.Drawn.{outage_table}
 use Rattle.scenario.specs.Rules.{is_bad_outage}
 use Rattle.scenario.proofs.Firsts.{applies}
 use Rattle.scenario.proofs.DrawnTables.{drawn_more, bad_among, good_more}
 use Rattle.scenario.proofs.outages.add_drawn.Goals as goal
-
-pub loop-outage-init : goal.loop-outage-init
-loop-outage-init c = record { clean = refl; all = c.requires.all; lists = λ tables are. rw (append-nil tables) are }
 
 pub loop-outage-preserved : goal.loop-outage-preserved
 loop-outage-preserved c =

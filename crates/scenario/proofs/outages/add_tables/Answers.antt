@@ -1,16 +1,13 @@
-use Rattle.std.proofs.Common.{◌≡◌, ◌∙◌, sym, refl, take, rules, arith, true}
-use Rattle.std.proofs.lemmas.List.{take_all, length-map}
+use Rattle.std.proofs.Common.{◌≡◌, ◌∙◌, sym, take, rules, true}
+use Rattle.std.proofs.lemmas.List.{length-map}
 use Rattle.toml.specs.View.{table_view}
 use Rattle.scenario.specs.Rules.{is_bad_outage}
 use Rattle.scenario.specs.Parts.{outages_in, tables_in}
 use Rattle.scenario.proofs.Elements.{IsAt}
-use Rattle.scenario.proofs.Slots.{bad_one, none_more, one_more}
-use Rattle.scenario.proofs.Firsts.{applies, passes}
+use Rattle.scenario.proofs.Slots.{bad_one}
+use Rattle.scenario.proofs.Firsts.{applies}
 use Rattle.scenario.proofs.Cuts.{pairs_length}
 use Rattle.scenario.proofs.outages.add_tables.Goals as goal
-
-pub loop-i-init : goal.loop-i-init
-loop-i-init c = record { clean = refl; lists = c.requires.none }
 
 pub returns-in_default-clause-judged : goal.returns-in_default-clause-judged
 returns-in_default-clause-judged c = λ other.
@@ -22,24 +19,3 @@ returns-in_default-clause-judged c = λ other.
 pub add-requires-clause-all : goal.add-requires-clause-all
 add-requires-clause-all c =
     sym (length-map c.loop-i.lists.items (λ v. v.items)) ∙ pairs_length c.args.top.now.numbers.processes (outages_in c.loop-i.lists.items) (tables_in (take c.loop-i.i c.args.tables.now)) c.loop-i.invariant.lists
-
-pub loop-i-preserved : goal.loop-i-preserved
-loop-i-preserved c =
-    let spot : IsAt c.args.tables.now c.loop-i.i c.index-tables-i.result = record { low = c.loop-i-test.true; is = c.index-tables-i.is } in
-    let n = c.args.top.now.numbers.processes in
-    let read = c.in-Some.ensures in
-    record {
-      clean = none_more (is_bad_outage n) c.args.tables.now c.loop-i.i c.index-tables-i.result spot c.loop-i.invariant.clean (sym read.test);
-      lists = rw (one_more c.args.tables.now c.loop-i.i c.index-tables-i.result spot)
-          (c.in_ok-add.ensures.lists (tables_in (take c.loop-i.i c.args.tables.now)) (table_view c.index-tables-i.result.now) read.pair read.outage c.loop-i.invariant.lists);
-    }
-
-pub returns-clause-judged : goal.returns-clause-judged
-returns-clause-judged c =
-    let all : take c.loop-i.i c.args.tables.now ≡ c.args.tables.now = take_all c.loop-i.i c.args.tables.now (omega arith) in
-    passes _ _ (rw all at c.loop-i.invariant.clean)
-
-pub returns-clause-lists : goal.returns-clause-lists
-returns-clause-lists c =
-    let all : take c.loop-i.i c.args.tables.now ≡ c.args.tables.now = take_all c.loop-i.i c.args.tables.now (omega arith) in
-    rw all at c.loop-i.invariant.lists

@@ -1,10 +1,7 @@
 use Rattle.std.proofs.Common.{◌≡◌, ◌∙◌, length, sym, rules}
-use Rattle.toml.specs.View.{array_view, table_view}
+use Rattle.toml.specs.View.{array_view}
 use Rattle.scenario.proofs.Items.{count_view}
 use Rattle.scenario.proofs.proposals_fault.asked_fault.Goals as goal
-
-pub returns-then-not-has : goal.returns-then-not-has
-returns-then-not-has c = λ asks same. (asks, search rules, same)
 
 pub returns-then-len-from : goal.returns-then-len-from
 returns-then-len-from c = λ asks same.
@@ -18,6 +15,3 @@ returns-then-len-from c = λ asks same.
         other = search rules;
       },
     )
-
-pub returns : goal.returns
-returns c = λ asks same. c.bad_proposal.ensures (table_view c.args.top.now) asks (search rules)

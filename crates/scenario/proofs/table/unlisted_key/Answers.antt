@@ -1,7 +1,7 @@
 use Rattle.std.proofs.Common.{◌∙◌, ◌∷◌, sym, ap, map, subst, rules, string_bytes, true, false}
 use Rattle.std.specs.Map.Iter.{deref}
 use Rattle.std.specs.List.{Contains}
-use Rattle.std.proofs.lemmas.Map.Iter.{rest_more, rest_all}
+use Rattle.std.proofs.lemmas.Map.Iter.{rest_more}
 use Rattle.std.proofs.lemmas.List.Elements.{All-head, All-rest, All-same}
 use Rattle.toml.specs.View.{table_view}
 use Rattle.scenario.specs.Table.{keys_of}
@@ -16,11 +16,6 @@ loop-key-init c = record {
   there = All-same (λ k. Contains (keys_of (table_view c.args.table.now)) (string_bytes k)) c.into_iter-key-iterator.result (map (λ e. e.0) c.args.table.now.entries) (search rules) (keys_there c.args.table.now.entries);
 }
 
-pub returns-then-not-is_listed_key-clause-test : goal.returns-then-not-is_listed_key-clause-test
-returns-then-not-is_listed_key-clause-test c =
-    let left = rest_more deref c.loop-key.key-iterator c.next.new.self c.next.result c.in-Some.key c.in-Some.is c.next.ensures.steps in
-    sym (c.loop-key.invariant.test ∙ unlisted_step (fields_of c.args.fields.now) c.loop-key.key-iterator c.in-Some.key.now c.next.new.self c.as_str.result.now false left c.as_str.ensures.value (sym c.if-not-is_listed_key.true ∙ c.is_listed_key.ensures))
-
 pub loop-key-preserved : goal.loop-key-preserved
 loop-key-preserved c =
     let left = rest_more deref c.loop-key.key-iterator c.next.new.self c.next.result c.in-Some.key c.in-Some.is c.next.ensures.steps in
@@ -28,11 +23,6 @@ loop-key-preserved c =
       test = c.loop-key.invariant.test ∙ unlisted_step (fields_of c.args.fields.now) c.loop-key.key-iterator c.in-Some.key.now c.next.new.self c.as_str.result.now true left c.as_str.ensures.value (sym c.if-not-is_listed_key.false ∙ c.is_listed_key.ensures);
       there = All-rest (λ k. Contains (keys_of (table_view c.args.table.now)) (string_bytes k)) c.in-Some.key.now c.next.new.self c.loop-key.key-iterator left c.loop-key.invariant.there;
     }
-
-pub returns-clause-test : goal.returns-clause-test
-returns-clause-test c =
-    let left = rest_all deref c.loop-key.key-iterator c.next.new.self c.next.result c.in-None.is c.next.ensures.steps in
-    sym (c.loop-key.invariant.test ∙ ap (any_unlisted (fields_of c.args.fields.now)) left)
 
 pub returns-then-not-is_listed_key-clause-there : goal.returns-then-not-is_listed_key-clause-there
 returns-then-not-is_listed_key-clause-there c =

@@ -25,7 +25,3 @@ pub returns-clause-ok : goal.returns-clause-ok
 returns-clause-ok c =
     all_read c.args.keys c.args.words.now c.loop-word.word-index (map settings_in c.loop-word.values.items)
     c.loop-word-test.false c.loop-word.invariant.read
-
-pub returns-clause-some : goal.returns-clause-some
-returns-clause-some c =
-    omega (arith, length-map c.loop-word.values.items settings_in, c.loop-word.invariant.read.some, c.loop-word-test.false)

@@ -1,4 +1,4 @@
-use Rattle.std.proofs.Common.{◌≡◌, ◌≢◌, false, Some, refl, ◌∙◌, sym, codes, rules, lit<}
+use Rattle.std.proofs.Common.{◌≡◌, ◌≢◌, false, Some, ◌∙◌, sym, codes, rules, lit<}
 use Rattle.std.proofs.lemmas.Bool.{false≢true}
 use Rattle.std.proofs.lemmas.Str.Pattern.{split_parts}
 use Rattle.study.specs.Settings.{file_path_of}
@@ -29,16 +29,6 @@ returns-in_err-key-in-Some-clause-no_network c =
     c.from_residual-in_err-key-in-Some.result c.in_err-key-in-Some.field-0.0 c.from_residual-in_err-key-in-Some.ensures.1
     (λ other same is. let parts = network_parts c.args.rest.now c.in-Some.array c.in-Some.key c.in-Some.ensures.cases is in
     false≢true (sym ((c.in_err-key-in-Some.ensures.err other).1 parts.0) ∙ parts.1))
-
-pub returns-then-ne-clause-no_scenario : goal.returns-then-ne-clause-no_scenario
-returns-then-ne-clause-no_scenario c other =
-    let split = split_parts 46 c.args.rest.now (Some (c.in-Some.array, c.in-Some.key)) c.in-Some.ensures.cases (lit< tt) in
-    (refl, λ owner. dotted c.args.rest.now c.in-Some.array.now c.in-Some.key.now split.0)
-
-pub returns-then-ne-clause-no_network : goal.returns-then-ne-clause-no_network
-returns-then-ne-clause-no_network c other same is =
-    let differs : c.args.owner.now ≢ codes "network" = search rules in
-    differs same
 
 pub returns-in_ok-key-in-Some-clause-text : goal.returns-in_ok-key-in-Some-clause-text
 returns-in_ok-key-in-Some-clause-text c =

@@ -1,17 +1,9 @@
-use Rattle.std.proofs.Common.{◌∷◌, ◌++◌, Some, refl, ◌∙◌, ap, lit<}
-use Rattle.std.proofs.lemmas.Result.{IfOk-weaker}
-use Rattle.std.proofs.lemmas.Str.Pattern.{split_parts}
+use Rattle.std.proofs.Common.{refl}
 use Rattle.study.proofs.KeyNames.{refused_by, no_list, in_list}
 use Rattle.study.proofs.key_words.network_key.Goals as goal
 
 pub returns-in-None-clause-err : goal.returns-in-None-clause-err
 returns-in-None-clause-err c other = (refl, λ is. absurd (no_list c.args.owner.now c.in-None.ensures.cases is))
-
-pub returns-in-Some-clause-ok : goal.returns-in-Some-clause-ok
-returns-in-Some-clause-ok c =
-    let split = split_parts 91 c.args.owner.now (Some (c.in-Some.array, c.in-Some.place)) c.in-Some.ensures.cases (lit< tt) in
-    IfOk-weaker c.listed_key.result _ _
-    (λ k is. (ap (λ owner. owner ++ (46 ∷ c.args.key.now)) split.0 ∙ is.0, is.1)) c.listed_key.ensures.ok
 
 pub returns-in-Some-clause-err : goal.returns-in-Some-clause-err
 returns-in-Some-clause-err c =

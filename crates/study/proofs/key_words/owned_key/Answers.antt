@@ -1,6 +1,4 @@
-use Rattle.std.proofs.Common.{◌≡◌, ◌∷◌, ◌++◌, false, Some, ◌∙◌, ap, lit<}
-use Rattle.std.proofs.lemmas.Result.{IfOk-weaker}
-use Rattle.std.proofs.lemmas.Str.Pattern.{split_parts}
+use Rattle.std.proofs.Common.{◌≡◌, false}
 use Rattle.study.specs.KeyWords.{is_name, IsOwner, is_memory}
 use Rattle.study.specs.declared.error.KeyError.TheVariants as error
 use Rattle.study.proofs.KeyNames.{carried, refused_by, no_table, in_owner}
@@ -12,12 +10,6 @@ returns-in_err-table-in-None-clause-err c =
     c.from_residual-in_err-table-in-None.result c.in_err-table-in-None.field-0.0 c.from_residual-in_err-table-in-None.ensures.1
     (λ other. let refused = c.in_err-table-in-None.ensures.err other in
     (refused.0, λ owner. absurd (no_table c.args.owner.now c.in-None.ensures.cases refused.1 owner)))
-
-pub returns-in-Some-clause-ok : goal.returns-in-Some-clause-ok
-returns-in-Some-clause-ok c =
-    let split = split_parts 91 c.args.owner.now (Some (c.in-Some.array, c.in-Some.place)) c.in-Some.ensures.cases (lit< tt) in
-    IfOk-weaker c.listed_key.result _ _
-    (λ k is. (ap (λ owner. owner ++ (46 ∷ c.args.key.now)) split.0 ∙ is.0, is.1.1)) c.listed_key.ensures.ok
 
 pub returns-in-Some-clause-err : goal.returns-in-Some-clause-err
 returns-in-Some-clause-err c =

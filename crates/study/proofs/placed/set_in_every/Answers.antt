@@ -3,7 +3,8 @@ use Rattle.std.proofs.lemmas.Bool.{eqb-false}
 use Rattle.std.proofs.lemmas.Result.{on_ok_weaker}
 use Rattle.toml.specs.View.{view, table_view, items_view}
 use Rattle.toml.proofs.Views.{view-Array}
-use Rattle.study.specs.Placed.{put, put_in_each}
+use Rattle.scenario.specs.Drawn.{put}
+use Rattle.study.specs.Placed.{put_in_each}
 use Rattle.study.proofs.Placing.{every_set}
 use Rattle.study.proofs.placed.set_in_every.Goals as goal
 

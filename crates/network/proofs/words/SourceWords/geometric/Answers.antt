@@ -1,5 +1,4 @@
 use Rattle.std.proofs.Common.{◌≡◌, ℕ, ◌+◌, ◌-◌, ◌*◌, ◌/◌, ◌^◌, ◌<◌, if◌then◌else◌, ap, sym, ◌∙◌, arith}
-use Rattle.std.proofs.Math.Nat.{pow-le-pow_right}
 use Rattle.std.proofs.lemmas.Grind.{pow_more}
 use Rattle.network.specs.Words.{after}
 use Rattle.network.specs.Spells.{digits, is_one, odds}
@@ -16,10 +15,6 @@ loop-digit-init c = record {
   small = omega arith;
   words = after-none (to_come c.args.self.now);
 }
-
-pub overflow_add-drawn : goal.overflow_add-drawn
-overflow_add-drawn c =
-    omega (arith, c.loop-digit.invariant.small, c.digit_of-drawn.ensures.high, pow-le-pow_right {n = 2} (omega arith) {i = c.loop-digit.digit} {j = 27} (omega arith))
 
 pub loop-digit-preserved : goal.loop-digit-preserved
 loop-digit-preserved c =

@@ -1,10 +1,9 @@
-use Rattle.std.proofs.Common.{◌≡◌, ◌∙◌, ap, sym, take, arith, is_some, true}
-use Rattle.std.proofs.lemmas.List.{take_all}
+use Rattle.std.proofs.Common.{◌≡◌, ◌∙◌, ap, sym, is_some, true}
 use Rattle.toml.specs.View.{table_view}
 use Rattle.scenario.specs.Parts.{fault_of}
 use Rattle.scenario.specs.Place.{array_key, fields_of_array, table_of}
 use Rattle.scenario.proofs.Elements.{IsAt, numbered_table}
-use Rattle.scenario.proofs.Slots.{bad_one, none_more}
+use Rattle.scenario.proofs.Slots.{bad_one}
 use Rattle.scenario.proofs.keys.KeyFault.among.Goals as goal
 
 pub at-found-requires : goal.at-found-requires
@@ -17,13 +16,3 @@ returns-then-is_some-clause-test c =
     let spot : IsAt c.args.tables.now c.loop-i.i c.index-tables-i.result = record { low = c.loop-i-test.true; is = c.index-tables-i.is } in
     let here : is_some c.at-found.result ≡ true = sym c.is_some.ensures ∙ c.if-is_some.true in
     here ∙ sym (bad_one (fault_of c.args.self (fields_of_array c.args.array)) c.args.tables.now c.loop-i.i c.index-tables-i.result spot (sym (rw c.place.ensures at c.at-found.ensures.test) ∙ here))
-
-pub loop-i-preserved : goal.loop-i-preserved
-loop-i-preserved c =
-    let spot : IsAt c.args.tables.now c.loop-i.i c.index-tables-i.result = record { low = c.loop-i-test.true; is = c.index-tables-i.is } in
-    none_more (fault_of c.args.self (fields_of_array c.args.array)) c.args.tables.now c.loop-i.i c.index-tables-i.result spot c.loop-i.invariant (sym (rw c.place.ensures at c.at-found.ensures.test) ∙ (sym c.is_some.ensures ∙ c.if-is_some.false))
-
-pub returns-clause-test : goal.returns-clause-test
-returns-clause-test c =
-    let all : take c.loop-i.i c.args.tables.now ≡ c.args.tables.now = take_all c.loop-i.i c.args.tables.now (omega arith) in
-    sym (rw all at c.loop-i.invariant)

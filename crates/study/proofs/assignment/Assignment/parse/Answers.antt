@@ -1,9 +1,9 @@
-use Rattle.std.proofs.Common.{◌≡◌, ◌≢◌, ◌∙◌, [], None, length, sym, subst, ap, rules, lit<}
-use Rattle.std.proofs.lemmas.Bool.{eqb-true, eqb-false}
+use Rattle.std.proofs.Common.{◌≡◌, ◌∙◌, [], None, length, sym, subst, lit<}
+use Rattle.std.proofs.lemmas.Bool.{eqb-true}
 use Rattle.std.proofs.lemmas.Str.Pattern.{split_parts}
 use Rattle.study.specs.Settings.{path_of}
 use Rattle.study.specs.KeyWords.{SaysKey, SaysNoKey}
-use Rattle.study.specs.SetWords.{value_said, no_equals, no_key, no_value}
+use Rattle.study.specs.SetWords.{no_equals, no_key, no_value}
 use Rattle.study.proofs.Parts.{has_not, split_has, nothing}
 use Rattle.study.proofs.assignment.Assignment.parse.Goals as goal
 
@@ -23,15 +23,3 @@ returns-then-is_empty-clause-err c other =
     nothing c.in-Some.parts.1.now (eqb-true (length c.in-Some.parts.1.now) 0 (sym c.is_empty.ensures ∙ c.if-is_empty.true)) in
     no_value (path_of c.in-Ok.key) split.0 (subst (λ k. SaysKey k (path_of c.in-Ok.key)) split.1 c.in-Ok.ensures.ok)
     (sym split.2 ∙ none)
-
-pub returns-clause-ok : goal.returns-clause-ok
-returns-clause-ok c =
-    let split = split_has 61 c.args.words.now c.in-Some.parts c.in-Some.ensures.cases (lit< tt) in
-    let some : c.in-Some.parts.1.now ≢ [] = λ none.
-    eqb-false (length c.in-Some.parts.1.now) 0 (sym c.is_empty.ensures ∙ c.if-is_empty.false) (ap length none) in
-    record {
-      equals = split.0;
-      key = subst (λ k. SaysKey k (path_of c.in-Ok.key)) split.1 c.in-Ok.ensures.ok;
-      some = subst (λ v. v ≢ []) split.2 some;
-      value = search rules ∙ ap value_said split.2;
-    }
