@@ -10,6 +10,6 @@ use Rattle.consensus_es.specs.declared.diffusion.Diffusion.{Diffusion}
 abbrev pub seen_of : Diffusion → Seen
 seen_of diffusion = λ round. set.contains nat_cmp diffusion.rounds round
 
--- the letters by which a decision is passed on: where it comes for the first time, to all or, by its coordinator, to none
+-- the letters by which a decision is passed on, where it comes for the first time
 abbrev pub passed_on : Membership → Bool → ℕ → ℕ → List Action
 passed_on m first round value = if first then relay m.processes m.own round value else []

@@ -165,7 +165,8 @@ impl Progress {
         suspects: &ProcSet,
         out: &mut Vec<Action>,
     ) -> Result<(), AllocError>
-        ensures { OnOk result (Does self.new out.old.items out.new.items (settled membership.now self.old suspects.now)) }
+        ensures { OnOk result (Does self.new out.old.items out.new.items (
+            settled membership.now self.old suspects.now)) }
     {
         let mut more = true;
         while more {
@@ -198,7 +199,8 @@ impl Progress {
         membership: &Membership,
         out: &mut Vec<Action>,
     ) -> Result<bool, AllocError>
-        ensures { IfOk result (λ over. Ends over self.old self.new out.old.items out.new.items (collected membership.now self.old)) }
+        ensures { IfOk result (λ over. Ends over self.old self.new out.old.items out.new.items (
+            collected membership.now self.old)) }
     {
         let round = self.round;
         if self.estimates.count(membership, round) < membership.majority() {
@@ -249,7 +251,8 @@ impl Progress {
 
     /// With a majority of replies the round is left; where a majority of acks is among them, the decision is broadcast.
     fn tally(&mut self, membership: &Membership, out: &mut Vec<Action>) -> Result<bool, AllocError>
-        ensures { IfOk result (λ over. Ends over self.old self.new out.old.items out.new.items (tallied membership.now self.old)) }
+        ensures { IfOk result (λ over. Ends over self.old self.new out.old.items out.new.items (
+            tallied membership.now self.old)) }
     {
         let round = self.round;
         if self.replies.count(membership, round) < membership.majority() {

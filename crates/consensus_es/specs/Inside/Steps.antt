@@ -56,5 +56,5 @@ module _ (m : Membership) (s : Progress) where
   -- a proposal of a round counts: it is timely, by the round's coordinator, and not early
   abbrev pub is_by_coordinator : ℕ → ℕ → Bool
   is_by_coordinator sender round =
-      is_timely sender round
-      && (nat_eq sender (coordinator m.processes round) && not (definition.is_early m.processes m.own (state_of s) sender))
+      is_timely sender round && (nat_eq sender (coordinator m.processes round)
+      && not (definition.is_early m.processes m.own (state_of s) sender))
