@@ -1,4 +1,4 @@
-use Rattle.std.proofs.Common.{◌≡◌, ◌∙◌, ◌-◌, ◌++◌, suc, sym, ap, subst, arith, append-nil, flat_map}
+use Rattle.std.proofs.Common.{◌≡◌, ◌∙◌, ◌-◌, ◌++◌, suc, sym, ap, subst, arith, flat_map}
 use Rattle.process_api.specs.Numbers.{numbers_to, others}
 use Rattle.drawing.specs.Inside.Drawn.{AreRowsOf, absent, has_row_in, pair_in, group_of, bands_in, group_bands_of, own_of}
 use Rattle.drawing.specs.Layout.{group_height}

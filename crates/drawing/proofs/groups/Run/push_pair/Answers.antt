@@ -1,8 +1,8 @@
 use Rattle.std.proofs.Common.{◌∙◌, ◌++◌, sym, ap, arith}
-use Rattle.std.proofs.lemmas.Bool.{eqb-true, eqb-false}
+use Rattle.std.proofs.lemmas.Bool.{eqb-false}
 use Rattle.drawing.specs.Suspicions.{bands}
 use Rattle.drawing.specs.Inside.Drawn.{pair_of}
-use Rattle.drawing.proofs.RowShapes.{itself_more, shown_same, with_row, without_row}
+use Rattle.drawing.proofs.RowShapes.{shown_same, with_row, without_row}
 use Rattle.drawing.proofs.groups.Run.push_pair.Goals as goal
 
 pub returns-then-not-is_shown : goal.returns-then-not-is_shown
