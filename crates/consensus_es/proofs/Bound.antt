@@ -1,5 +1,5 @@
 -- At most n rounds are left in one input, because no process passes Await as the coordinator before its own proposal came. So it makes at most 6 n + 3 actions.
-use Rattle.std.proofs.Common.{◌≡◌, ◌≢◌, ◌⊎◌, ℕ, zero, suc, ◌+◌, ◌-◌, ◌*◌, ◌/◌, ◌%◌, ◌<◌, ◌≤◌, inl, inr, refl, sym, ap, ◌∙◌, subst, Bool, true, false, cond, ◌&&◌, not, arith, nat_lt, nat_le, nat_eq, Option, None, Some, IfSome, unwrap_or, List, [], ◌∷◌, ◌++◌, length, length-append, mod-lt, mod-eq_of_lt}
+use Rattle.std.proofs.Common.{◌≡◌, ◌⊎◌, ℕ, zero, suc, ◌+◌, ◌-◌, ◌*◌, ◌/◌, ◌%◌, ◌<◌, ◌≤◌, inl, inr, refl, sym, ap, ◌∙◌, subst, Bool, true, false, cond, ◌&&◌, not, arith, nat_lt, nat_le, nat_eq, Option, None, Some, IfSome, unwrap_or, List, [], ◌∷◌, ◌++◌, length, length-append, mod-lt, mod-eq_of_lt}
 use Rattle.std.proofs.Math.Nat.{mod-add-div', add-mul-mod_self_right, add-mod_right}
 use Rattle.std.proofs.lemmas.Bool.{eqb-true, eq-eqb, cases_lt, cond_both, and_parts, not-true, both_ways, false≢true}
 use Rattle.std.proofs.lemmas.Bool.Decides.{nat_tests}

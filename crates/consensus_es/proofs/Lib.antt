@@ -1,6 +1,5 @@
 mod Cases
 mod Settled
 mod Settling
-mod Keeping
 mod Bound
 mod Choosing

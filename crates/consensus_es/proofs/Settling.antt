@@ -1,5 +1,5 @@
 -- A process whose waits end, one after the other.
-use Rattle.std.proofs.Common.{◌≡◌, ℕ, ◌+◌, ◌<◌, refl, sym, ap, ◌∙◌, Bool, true, false, cond, arith, Option, None, Some, IfSome, List, [], ◌++◌, append_assoc, append-nil, true≢false}
+use Rattle.std.proofs.Common.{◌≡◌, ℕ, ◌+◌, ◌<◌, refl, sym, ap, ◌∙◌, Bool, true, false, cond, arith, Option, None, Some, IfSome, List, ◌++◌, append_assoc, append-nil, true≢false}
 use Rattle.process_api.specs.Answer.{Answer, after, still}
 use Rattle.process_api.specs.Coordinator.{Coordinator, settle, end_wait, waits_left}
 use Rattle.process_api.specs.declared.action.Action.{Action}
@@ -16,9 +16,6 @@ module _ (n own : ℕ) (is_suspected : ℕ → Bool) where
     pub over : more ≡ false → end_wait n own is_suspected (state_of s) ≡ None
 
   module _ (first : Progress) (out : List Action) where
-    pub going_first : Going first first out out true
-    going_first = record { since = []; actions = sym (append-nil out); rest = refl; over = λ e. absurd (true≢false e) }
-
     module _ (s t : Progress) (out2 out3 : List Action) (b : Bool) where
       pub going_on : Going first s out out2 true → Ends b s t out2 out3 (end_wait n own is_suspected (state_of s)) → Going first t out out3 b
       going_on g e = go (end_wait n own is_suspected (state_of s)) refl e

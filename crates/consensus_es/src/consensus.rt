@@ -1,10 +1,7 @@
 //! Consensus by rotating coordinators.
-ghost use Rattle.std.specs.Prelude.{◌≡◌, Bool, false, IsSome, IfOk, unwrap_or};
-ghost use Rattle.process_api.specs.Coordinator.{opening_coordinator};
-ghost use Rattle.process_api.specs.Mind.{Coordinating};
-ghost use Rattle.scenario_record.specs.Opening.{place_of};
+ghost use Rattle.std.specs.Prelude.{◌≡◌, Bool, false, IsSome, IfOk};
 ghost use Rattle.consensus_es.specs.Orderly.{IsOrderly};
-ghost use Rattle.consensus_es.specs.State.{state_of};
+ghost use Rattle.consensus_es.specs.State.{state_of, opening_algorithm};
 
 use crate::progress::Progress;
 use process_api::{Action, Algorithm, Membership, ProcSet, StepInput};
@@ -38,8 +35,7 @@ impl EsConsensus {
     /// `AllocError` where memory was refused.
     pub fn open(alloc: Global, opening: &Opening) -> Result<EsConsensus, AllocError>
         requires { IsSome opening.now.proposal }
-        ensures opens { IfOk result (λ c. ⟦<EsConsensus as Algorithm>⟧.state c
-            ≡ Coordinating (place_of opening.now) (opening_coordinator (unwrap_or opening.now.proposal 0))) }
+        ensures opens { IfOk result (λ c. ⟦<EsConsensus as Algorithm>⟧.state c ≡ opening_algorithm opening.now) }
         ensures works { IfOk result (λ c. ⟦<EsConsensus as Algorithm>⟧.has_failed c ≡ false) }
     {
         Ok(EsConsensus {

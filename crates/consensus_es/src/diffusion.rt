@@ -1,5 +1,5 @@
 //! Diffusion of decisions.
-ghost use Rattle.std.specs.Prelude.{◌≡◌, ◌++◌, [], OnOk, OnErr, IfOk, not, if◌then◌else◌};
+ghost use Rattle.std.specs.Prelude.{◌≡◌, ◌++◌, OnOk, OnErr, IfOk, not, if◌then◌else◌};
 ghost use Rattle.process_api.specs.Diffusion.{none_seen, also_seen, broadcast as broadcast_of, relay as relay_of};
 
 use process_api::{Action, Membership, Payload, send_to_all};
@@ -17,7 +17,7 @@ pub struct Diffusion {
 }
 
 impl Diffusion {
-    ghost use Rattle.consensus_es.specs.Rounds.{seen_of};
+    ghost use Rattle.consensus_es.specs.Rounds.{seen_of, passed_on};
 
     /// No round was seen.
     pub fn new(alloc: Global) -> Diffusion
@@ -51,8 +51,8 @@ impl Diffusion {
         ensures first { IfOk result (λ first. first ≡ not (seen_of self.old round)) }
         ensures seen { IfOk result (λ first.
             seen_of self.new ≡ (if first then also_seen (seen_of self.old) round else seen_of self.old)) }
-        ensures relayed { IfOk result (λ first. out.new.items ≡ out.old.items
-            ++ (if first then relay_of membership.now.processes membership.now.own round value else [])) }
+        ensures relayed { IfOk result (λ first.
+            out.new.items ≡ out.old.items ++ passed_on membership.now first round value) }
         ensures unchanged { OnErr result (seen_of self.new ≡ seen_of self.old) }
     {
         if self.has_seen(round) {

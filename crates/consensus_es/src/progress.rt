@@ -1,15 +1,12 @@
 //! A process's way through the rounds.
-ghost use Rattle.std.specs.Prelude.{◌≡◌, ◌≤◌, ◌<◌, ◌+◌, ◌++◌, ◌∷◌, [], OnOk, IfOk, nat_le, if◌then◌else◌};
-ghost use Rattle.std.specs.FinSet as set;
-ghost use Rattle.process_api.specs.Answer.{still, to_all};
-ghost use Rattle.process_api.specs.Rounds.{majority as majority_of};
-ghost use Rattle.process_api.specs.Coordinator.{best_to, better as better_of, enter as enter_of, leave as leave_of, reply as reply_of, collect as collect_of, await as await_of, tally as tally_of, end_wait as end_wait_of, settle as settle_of, deliver as deliver_of, receive as receive_of, begin as begin_of, step_coordinator, opening_coordinator, is_timely as is_timely_of, is_early as is_early_of, is_running as is_running_of, is_decided as is_decided_of, is_opening as is_opening_of};
+ghost use Rattle.std.specs.Prelude.{◌≡◌, ◌++◌, ◌∷◌, [], OnOk, IfOk, if◌then◌else◌};
+ghost use Rattle.process_api.specs.Coordinator.{best_to, better as better_of, opening_coordinator, is_early as is_early_of, is_running as is_running_of, is_decided as is_decided_of, is_opening as is_opening_of};
 ghost use Rattle.process_api.specs.declared.action.Action.TheVariants as Action;
 ghost use Rattle.process_api.specs.declared.action.Note.TheVariants as Note;
 ghost use Rattle.process_api.specs.declared.consensus.Phase.TheVariants as Phase;
-ghost use Rattle.process_api.specs.declared.message.Payload.TheVariants as Payload;
 ghost use Rattle.consensus_es.specs.Kept.{by_sender};
-ghost use Rattle.consensus_es.specs.State.{state_of, Does, Ends, is_collecting, acks_of};
+ghost use Rattle.consensus_es.specs.State.{state_of, stepped, Does, Ends, is_collecting, acks_of};
+ghost use Rattle.consensus_es.specs.Inside.Steps.{begun, entered, left, replied, settled, wait_ended, collected, awaited, tallied, received, delivered, is_timely as is_timely_of, is_for_coordinator as is_for_coordinator_of, is_by_coordinator as is_by_coordinator_of};
 
 use crate::diffusion::Diffusion;
 use crate::proposals::Proposals;
@@ -63,8 +60,7 @@ impl Progress {
         out: &mut Vec<Action>,
     ) -> Result<(), AllocError>
         ensures { OnOk result (Does self.new out.old.items out.new.items (
-            step_coordinator membership.now.processes membership.now.own
-            (set.contains suspects.now) input.now (state_of self.old))) }
+            stepped membership.now self.old suspects.now input.now)) }
     {
         self.begin(membership, input, out)?;
         self.settle(membership, suspects, out)
@@ -77,8 +73,7 @@ impl Progress {
         input: &StepInput,
         out: &mut Vec<Action>,
     ) -> Result<(), AllocError>
-        ensures { OnOk result (Does self.new out.old.items out.new.items (
-            begin_of membership.now.processes membership.now.own input.now (state_of self.old))) }
+        ensures { OnOk result (Does self.new out.old.items out.new.items (begun membership.now self.old input.now)) }
     {
         match input {
             StepInput::Start => {
@@ -106,8 +101,7 @@ impl Progress {
         round: u64,
         out: &mut Vec<Action>,
     ) -> Result<(), AllocError>
-        ensures { OnOk result (Does self.new out.old.items out.new.items (
-            enter_of membership.now.processes membership.now.own round (state_of self.old))) }
+        ensures { OnOk result (Does self.new out.old.items out.new.items (entered membership.now self.old round)) }
     {
         self.phase = first_phase(membership.is_coordinator(round));
         self.round = round;
@@ -131,8 +125,7 @@ impl Progress {
 
     /// Leaves the own round. Past the greatest there is no other.
     fn leave(&mut self, membership: &Membership, out: &mut Vec<Action>) -> Result<(), AllocError>
-        ensures { OnOk result (Does self.new out.old.items out.new.items (
-            leave_of membership.now.processes membership.now.own (state_of self.old))) }
+        ensures { OnOk result (Does self.new out.old.items out.new.items (left membership.now self.old)) }
     {
         if self.round < GREATEST_ROUND {
             self.enter(membership, self.round + 1, out)
@@ -149,8 +142,7 @@ impl Progress {
         ack: bool,
         out: &mut Vec<Action>,
     ) -> Result<(), AllocError>
-        ensures { OnOk result (Does self.new out.old.items out.new.items (
-            reply_of membership.now.processes membership.now.own ack (state_of self.old))) }
+        ensures { OnOk result (Does self.new out.old.items out.new.items (replied membership.now self.old ack)) }
     {
         let round = self.round;
         send_to(
@@ -174,8 +166,7 @@ impl Progress {
         out: &mut Vec<Action>,
     ) -> Result<(), AllocError>
         ensures { OnOk result (Does self.new out.old.items out.new.items (
-            settle_of membership.now.processes membership.now.own
-            (set.contains suspects.now) (still (state_of self.old)))) }
+            settled membership.now self.old suspects.now)) }
     {
         let mut more = true;
         while more {
@@ -192,7 +183,7 @@ impl Progress {
         out: &mut Vec<Action>,
     ) -> Result<bool, AllocError>
         ensures { IfOk result (λ over. Ends over self.old self.new out.old.items out.new.items (
-            end_wait_of membership.now.processes membership.now.own (set.contains suspects.now) (state_of self.old))) }
+            wait_ended membership.now self.old suspects.now)) }
     {
         match self.phase {
             Phase::Collect => self.collect(membership, out),
@@ -209,7 +200,7 @@ impl Progress {
         out: &mut Vec<Action>,
     ) -> Result<bool, AllocError>
         ensures { IfOk result (λ over. Ends over self.old self.new out.old.items out.new.items (
-            collect_of membership.now.processes membership.now.own (state_of self.old))) }
+            collected membership.now self.old)) }
     {
         let round = self.round;
         if self.estimates.count(membership, round) < membership.majority() {
@@ -240,7 +231,7 @@ impl Progress {
         out: &mut Vec<Action>,
     ) -> Result<bool, AllocError>
         ensures { IfOk result (λ over. Ends over self.old self.new out.old.items out.new.items (
-            await_of membership.now.processes membership.now.own (set.contains suspects.now) (state_of self.old))) }
+            awaited membership.now self.old suspects.now)) }
     {
         let round = self.round;
         if let Some(value) = self.proposals.get(round) {
@@ -261,7 +252,7 @@ impl Progress {
     /// With a majority of replies the round is left; where a majority of acks is among them, the decision is broadcast.
     fn tally(&mut self, membership: &Membership, out: &mut Vec<Action>) -> Result<bool, AllocError>
         ensures { IfOk result (λ over. Ends over self.old self.new out.old.items out.new.items (
-            tally_of membership.now.processes membership.now.own (state_of self.old))) }
+            tallied membership.now self.old)) }
     {
         let round = self.round;
         if self.replies.count(membership, round) < membership.majority() {
@@ -274,7 +265,7 @@ impl Progress {
         Ok(true)
     }
 
-    /// Receives a letter of one of the processes.
+    /// Receives a letter of one of the processes. The first of a kind, round and sender is kept, where it counts.
     fn receive(
         &mut self,
         membership: &Membership,
@@ -283,95 +274,31 @@ impl Progress {
         out: &mut Vec<Action>,
     ) -> Result<(), AllocError>
         ensures { OnOk result (Does self.new out.old.items out.new.items (
-            receive_of membership.now.processes membership.now.own sender payload.now (state_of self.old))) }
+            received membership.now self.old sender payload.now)) }
     {
         match payload {
-            Payload::Alive
-            | Payload::Heartbeat { .. }
-            | Payload::Suspects(_)
-            | Payload::Vector { .. }
-            | Payload::Last { .. } => Ok(()),
             Payload::Estimate {
                 round,
                 value,
                 stamp,
-            } => {
+            } if self.is_for_coordinator(membership, sender, *round) => {
                 let estimate = Estimate {
                     value: *value,
                     stamp: *stamp,
                 };
-                self.receive_estimate(membership, sender, *round, estimate)
+                self.estimates.keep(*round, sender, estimate)
             }
-            Payload::Proposal { round, value } => {
-                self.receive_proposal(membership, sender, *round, *value)
+            Payload::Proposal { round, value }
+                if self.is_by_coordinator(membership, sender, *round) => {
+                self.proposals.keep(*round, *value)
             }
-            Payload::Reply { round, ack } => self.receive_reply(membership, sender, *round, *ack),
-            Payload::Decide { round, value } => {
-                if 1 <= *round && *round <= GREATEST_ROUND {
-                    self.deliver(membership, *round, *value, out)
-                } else {
-                    Ok(())
-                }
+            Payload::Reply { round, ack } if self.is_for_coordinator(membership, sender, *round) =>
+                { self.replies.keep(*round, sender, *ack) }
+            Payload::Decide { round, value } if 1 <= *round && *round <= GREATEST_ROUND => {
+                self.deliver(membership, *round, *value, out)
             }
+            _ => Ok(()),
         }
-    }
-
-    /// Keeps an estimate of the own round or a later one, as its coordinator.
-    fn receive_estimate(
-        &mut self,
-        membership: &Membership,
-        sender: Pid,
-        round: u64,
-        estimate: Estimate,
-    ) -> Result<(), AllocError>
-        ensures { OnOk result (Does self.new [] [] (
-            receive_of membership.now.processes membership.now.own
-            sender (Payload.Estimate round estimate.value estimate.stamp) (state_of self.old))) }
-    {
-        if self.is_timely(membership, sender, round) && membership.is_coordinator(round) {
-            self.estimates.keep(round, sender, estimate)?;
-        }
-        Ok(())
-    }
-
-    /// Keeps a proposal of the own round or a later one, of its coordinator. The own proposal doesn't count while
-    /// estimates are still collected.
-    fn receive_proposal(
-        &mut self,
-        membership: &Membership,
-        sender: Pid,
-        round: u64,
-        value: u32,
-    ) -> Result<(), AllocError>
-        ensures { OnOk result (Does self.new [] [] (
-            receive_of membership.now.processes membership.now.own
-            sender (Payload.Proposal round value) (state_of self.old))) }
-    {
-        if self.is_timely(membership, sender, round)
-            && sender == membership.coordinator(round)
-            && !self.is_early(membership, sender)
-        {
-            self.proposals.keep(round, value)?;
-        }
-        Ok(())
-    }
-
-    /// Keeps a reply of the own round or a later one, as its coordinator.
-    fn receive_reply(
-        &mut self,
-        membership: &Membership,
-        sender: Pid,
-        round: u64,
-        ack: bool,
-    ) -> Result<(), AllocError>
-        ensures { OnOk result (Does self.new [] [] (
-            receive_of membership.now.processes membership.now.own
-            sender (Payload.Reply round ack) (state_of self.old))) }
-    {
-        if self.is_timely(membership, sender, round) && membership.is_coordinator(round) {
-            self.replies.keep(round, sender, ack)?;
-        }
-        Ok(())
     }
 
     /// Receives the decision of a round. The first one is the process's own.
@@ -383,7 +310,7 @@ impl Progress {
         out: &mut Vec<Action>,
     ) -> Result<(), AllocError>
         ensures { OnOk result (Does self.new out.old.items out.new.items (
-            deliver_of membership.now.processes membership.now.own round value (state_of self.old))) }
+            delivered membership.now self.old round value)) }
     {
         let first = self.diffusion.receive(membership, round, value, out)?;
         if first {
@@ -395,12 +322,29 @@ impl Progress {
 
     /// Whether a letter is of a round that the algorithm has: the own one or, by another, a later one.
     fn is_timely(&self, membership: &Membership, sender: Pid, round: u64) -> bool
-        ensures { result ≡ is_timely_of membership.now.processes membership.now.own (state_of self.now) sender round }
+        ensures { result ≡ is_timely_of membership.now self.now sender round }
     {
         is_running(self.phase)
             && self.round <= round
             && round <= GREATEST_ROUND
             && !(sender == membership.own && self.round < round)
+    }
+
+    /// Whether an estimate or a reply counts: it is of the own round or a later one, and goes to its coordinator.
+    fn is_for_coordinator(&self, membership: &Membership, sender: Pid, round: u64) -> bool
+        ensures { result ≡ is_for_coordinator_of membership.now self.now sender round }
+    {
+        self.is_timely(membership, sender, round) && membership.is_coordinator(round)
+    }
+
+    /// Whether a proposal counts: it is of the own round or a later one, and of its coordinator. The own proposal
+    /// doesn't count while estimates are still collected.
+    fn is_by_coordinator(&self, membership: &Membership, sender: Pid, round: u64) -> bool
+        ensures { result ≡ is_by_coordinator_of membership.now self.now sender round }
+    {
+        self.is_timely(membership, sender, round)
+            && sender == membership.coordinator(round)
+            && !self.is_early(membership, sender)
     }
 
     /// Whether a proposal comes while its own sender still collects estimates.

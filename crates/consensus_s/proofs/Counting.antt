@@ -1,5 +1,5 @@
 -- What holds of 1 to n, looked at one by one.
-use Rattle.std.proofs.Common.{◌≡◌, ◌⊎◌, inl, inr, ℕ, zero, suc, ◌+◌, ◌≤◌, ◌<◌, refl, sym, ap, ◌∙◌, Bool, true, ◌||◌, Option, None, Some, is_some, true≢false, List, [], ◌∷◌, ◌++◌, map, arith}
+use Rattle.std.proofs.Common.{◌≡◌, ◌⊎◌, inl, inr, ℕ, zero, suc, ◌+◌, ◌≤◌, ◌<◌, refl, sym, ap, ◌∙◌, Bool, true, ◌||◌, Option, None, Some, is_some, true≢false, arith}
 use Rattle.std.proofs.Math.Bool.{or-true}
 use Rattle.process_api.specs.ConsensusS.{any_to, first_to, or_else}
 

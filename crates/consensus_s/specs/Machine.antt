@@ -1,12 +1,18 @@
 -- What a machine's part is, as plain data.
-use Rattle.std.specs.Prelude.{Bool}
+use Rattle.std.specs.Prelude.{Bool, unwrap_or}
+use Rattle.process_api.specs.ConsensusS.{opening_exchange}
 use Rattle.process_api.specs.Mind.{AlgorithmState, Exchanging}
 use Rattle.scenario_record.specs.Opening.{place_of}
+use Rattle.scenario_record.specs.declared.opening.Opening.{Opening}
 use Rattle.consensus_s.specs.declared.machine.SConsensus.{SConsensus}
 use Rattle.consensus_s.specs.State.{exchange_of}
 
 abbrev pub state_of : SConsensus → AlgorithmState
 state_of s = Exchanging (place_of s.opening) (exchange_of s.exchange)
+
+-- how the process of an opening begins, with its proposal
+abbrev pub opening_algorithm : Opening → AlgorithmState
+opening_algorithm o = Exchanging (place_of o) (opening_exchange o.processes o.own (unwrap_or o.proposal 0))
 
 -- a call of `take` has answered `Err`
 abbrev pub is_failed : SConsensus → Bool

@@ -1,12 +1,15 @@
 //! The exchange of vectors at one process.
-ghost use Rattle.std.specs.Prelude.{◌≡◌, ◌≤◌, ◌<◌, ◌+◌, ◌++◌, false, IfOk, OnOk, length};
+ghost use Rattle.std.specs.Prelude.{◌≡◌, ◌≤◌, ◌<◌, ◌+◌, ◌++◌, false, if◌then◌else◌, is_some, None, IfOk, OnOk, length};
 ghost use Rattle.std.specs.FinSet as set;
-ghost use Rattle.process_api.specs.ConsensusS.{opening_exchange, step_exchange};
+ghost use Rattle.process_api.specs.Bounds.{most_processes};
+ghost use Rattle.process_api.specs.Cells.{cell};
+ghost use Rattle.process_api.specs.ConsensusS.{cells_of, opening_exchange, or_else};
 ghost use Rattle.process_api.specs.ConsensusS.{begin as begun, decide as decided, enter as entered, gather as gathered, is_running as is_running_in, is_timely as is_timely_for, receive as received, receive_cells as received_cells};
-ghost use Rattle.consensus_s.specs.State.{end_one, exchange_of, IsOrderly};
+ghost use Rattle.consensus_s.specs.Kept.{kept_of, missed_in, told_in};
+ghost use Rattle.consensus_s.specs.State.{ended, exchange_of, stepped, IsOrderly};
 
-use crate::letters::{is_over, keep, leave};
-use crate::vectors::{common_after, first_value, known_after, known_at_first, news_after};
+use crate::letters::{is_missed, is_over, keep, leave, told};
+use crate::vectors::{cells_by, first_value, known_at_first};
 use process_api::{
     Action, Cells, Letters, Note, Payload, Pid, ProcSet, StepInput, note_that, send_to_all,
 };
@@ -42,6 +45,45 @@ impl Exchange {
         })
     }
 
+    /// What is known after the round: each empty cell takes what the letters tell.
+    fn known_after(&self, n: u16) -> Result<Cells, AllocError>
+        requires { n ≤ most_processes }
+        ensures { IfOk result (λ c. c ≡ cells_of n (λ k.
+            or_else (cell self.now.known k) (told_in n (kept_of self.now.letters) self.now.round k))) }
+    {
+        cells_by(self.alloc, n, |k| match self.known.get(k) {
+            Some(value) => Some(value),
+            None => told(&self.letters, n, self.round, k),
+        })
+    }
+
+    /// What the round brought: what the letters tell of the empty cells.
+    fn news_after(&self, n: u16) -> Result<Cells, AllocError>
+        requires { n ≤ most_processes }
+        ensures { IfOk result (λ c. c ≡ cells_of n (λ k.
+            if is_some (cell self.now.known k) then None else told_in n (kept_of self.now.letters) self.now.round k)) }
+    {
+        cells_by(self.alloc, n, |k| match self.known.get(k) {
+            Some(_) => None,
+            None => told(&self.letters, n, self.round, k),
+        })
+    }
+
+    /// What all that were heard of in the last round know.
+    fn common_after(&self, n: u16) -> Result<Cells, AllocError>
+        requires { n ≤ most_processes }
+        ensures { IfOk result (λ c. c ≡ cells_of n (λ k.
+            if missed_in n (kept_of self.now.letters) self.now.round k then None else cell self.now.known k)) }
+    {
+        cells_by(self.alloc, n, |k| {
+            if is_missed(&self.letters, n, self.round, k) {
+                None
+            } else {
+                self.known.get(k)
+            }
+        })
+    }
+
     /// Takes what the letters of the round tell, and leaves the round.
     fn gather(&mut self, opening: &Opening) -> Result<(), AllocError>
         requires { self.old.round ≤ opening.now.processes }
@@ -49,8 +91,8 @@ impl Exchange {
             ≡ gathered opening.now.processes opening.now.own (exchange_of self.old)) }
     {
         let n = opening.processes;
-        let known = known_after(self.alloc, &self.letters, n, self.round, &self.known)?;
-        let news = news_after(self.alloc, &self.letters, n, self.round, &self.known)?;
+        let known = self.known_after(n)?;
+        let news = self.news_after(n)?;
         leave(&mut self.letters, self.round);
         self.known = known;
         self.news = news;
@@ -91,7 +133,7 @@ impl Exchange {
             ++ (decided opening.now.processes opening.now.own (exchange_of self.old)).actions) }
     {
         let n = opening.processes;
-        let common = common_after(self.alloc, &self.letters, n, self.round, &self.known)?;
+        let common = self.common_after(n)?;
         let note = match first_value(&common, n) {
             Some(value) => Note::Decided(value),
             None => Note::NoValue,
@@ -110,12 +152,9 @@ impl Exchange {
         suspects: &ProcSet,
         out: &mut Vec<Action>,
     ) -> Result<(), AllocError>
-        ensures state { OnOk result (exchange_of self.new
-            ≡ (end_one opening.now.processes opening.now.own
-            (set.contains suspects.now) (exchange_of self.old)).state) }
-        ensures actions { OnOk result (out.new.items ≡ out.old.items
-            ++ (end_one opening.now.processes opening.now.own
-            (set.contains suspects.now) (exchange_of self.old)).actions) }
+        ensures state { OnOk result (exchange_of self.new ≡ (ended opening.now suspects.now self.old).state) }
+        ensures actions { OnOk result (
+            out.new.items ≡ out.old.items ++ (ended opening.now suspects.now self.old).actions) }
     {
         let n = opening.processes;
         if !self.is_running(opening) || !is_over(&self.letters, n, self.round, suspects) {
@@ -226,16 +265,13 @@ impl Exchange {
     ) -> Result<(), AllocError>
         requires orderly { IsOrderly opening.now.own (exchange_of self.old) }
         requires not_itself { set.contains suspects.now opening.now.own ≡ false }
-        ensures state { OnOk result (exchange_of self.new
-            ≡ (step_exchange opening.now.processes opening.now.own
-            (set.contains suspects.now) input.now (exchange_of self.old)).state) }
-        ensures actions { OnOk result (out.new.items ≡ out.old.items
-            ++ (step_exchange opening.now.processes opening.now.own
-            (set.contains suspects.now) input.now (exchange_of self.old)).actions) }
+        ensures state { OnOk result (
+            exchange_of self.new ≡ (stepped opening.now suspects.now input.now self.old).state) }
+        ensures actions { OnOk result (
+            out.new.items ≡ out.old.items ++ (stepped opening.now suspects.now input.now self.old).actions) }
         ensures orderly { OnOk result (IsOrderly opening.now.own (exchange_of self.new)) }
         ensures few { OnOk result (
-            length (step_exchange opening.now.processes opening.now.own
-            (set.contains suspects.now) input.now (exchange_of self.old)).actions ≤ opening.now.processes + 1) }
+            length (stepped opening.now suspects.now input.now self.old).actions ≤ opening.now.processes + 1) }
     {
         prove!(1 <= opening.own.number());
         self.begin(opening, input, out)?;

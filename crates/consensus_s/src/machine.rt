@@ -18,11 +18,8 @@ pub struct SConsensus {
 }
 
 impl SConsensus {
-    ghost use Rattle.std.specs.Prelude.{IsSome, IfOk, unwrap_or};
-    ghost use Rattle.process_api.specs.ConsensusS.{opening_exchange};
-    ghost use Rattle.process_api.specs.Mind.{Exchanging};
-    ghost use Rattle.scenario_record.specs.Opening.{place_of};
-    ghost use Rattle.consensus_s.specs.Machine.{state_of, is_failed};
+    ghost use Rattle.std.specs.Prelude.{IsSome, IfOk};
+    ghost use Rattle.consensus_s.specs.Machine.{opening_algorithm, state_of, is_failed};
 
     /// The algorithm of a process that has a proposal, before its start.
     ///
@@ -31,8 +28,7 @@ impl SConsensus {
     /// `AllocError` where memory was refused.
     pub fn open(alloc: Global, opening: &Opening) -> Result<SConsensus, AllocError>
         requires { IsSome opening.now.proposal }
-        ensures state { IfOk result (λ s. state_of s ≡ Exchanging (place_of opening.now)
-            (opening_exchange opening.now.processes opening.now.own (unwrap_or opening.now.proposal 0))) }
+        ensures state { IfOk result (λ s. state_of s ≡ opening_algorithm opening.now) }
         ensures alive { IfOk result (λ s. is_failed s ≡ false) }
     {
         let proposal = opening.proposal.unwrap();

@@ -1,16 +1,18 @@
-//! Vectors of proposals after a round.
-ghost use Rattle.std.specs.Prelude.{◌≡◌, ◌≤◌, ℕ, Option, nat_eq, is_some, None, Some, if◌then◌else◌, IfOk};
+//! Vectors of proposals.
+ghost use Rattle.std.specs.Prelude.{◌≡◌, ◌≤◌, ℕ, Option, nat_eq, None, Some, if◌then◌else◌, IfOk};
 ghost use Rattle.process_api.specs.Bounds.{most_processes};
 ghost use Rattle.process_api.specs.Cells.{cell};
-ghost use Rattle.process_api.specs.ConsensusS.{cells_of, first_to, or_else};
-ghost use Rattle.consensus_s.specs.Kept.{kept_of, missed_in, told_in};
+ghost use Rattle.process_api.specs.ConsensusS.{cells_of, first_to};
 
-use crate::letters::{is_missed, told};
-use process_api::{Cells, Letters, Pid};
+use process_api::{Cells, Pid};
 use std::alloc::{AllocError, Global};
 
 /// The vector of `n` cells, each made from its process.
-fn cells_by<F: Fn(Pid) -> Option<u32>>(alloc: Global, n: u16, cell: F) -> Result<Cells, AllocError>
+pub(crate) fn cells_by<F: Fn(Pid) -> Option<u32>>(
+    alloc: Global,
+    n: u16,
+    cell: F,
+) -> Result<Cells, AllocError>
     requires few { n ≤ most_processes }
     requires called { F.IsAlwaysCallable cell }
     ensures { IfOk result (λ c. (value_of : ℕ → Option ℕ)
@@ -34,63 +36,6 @@ pub(crate) fn known_at_first(
     ensures { IfOk result (λ c. c ≡ cells_of n (λ k. if nat_eq k own then Some proposal else None)) }
 {
     cells_by(alloc, n, |k| if k == own { Some(proposal) } else { None })
-}
-
-/// What is known after a round: each empty cell takes what the letters tell.
-pub(crate) fn known_after(
-    alloc: Global,
-    letters: &Letters<Cells>,
-    n: u16,
-    round: u64,
-    known: &Cells,
-) -> Result<Cells, AllocError>
-    requires { n ≤ most_processes }
-    ensures { IfOk result (λ c.
-        c ≡ cells_of n (λ k. or_else (cell known.now k) (told_in n (kept_of letters.now) round k))) }
-{
-    cells_by(alloc, n, |k| match known.get(k) {
-        Some(value) => Some(value),
-        None => told(letters, n, round, k),
-    })
-}
-
-/// What a round brought: what the letters tell of the empty cells.
-pub(crate) fn news_after(
-    alloc: Global,
-    letters: &Letters<Cells>,
-    n: u16,
-    round: u64,
-    known: &Cells,
-) -> Result<Cells, AllocError>
-    requires { n ≤ most_processes }
-    ensures { IfOk result (λ c. c ≡ cells_of n (λ k.
-        if is_some (cell known.now k) then None else told_in n (kept_of letters.now) round k)) }
-{
-    cells_by(alloc, n, |k| match known.get(k) {
-        Some(_) => None,
-        None => told(letters, n, round, k),
-    })
-}
-
-/// What all that were heard of in the last round know.
-pub(crate) fn common_after(
-    alloc: Global,
-    letters: &Letters<Cells>,
-    n: u16,
-    round: u64,
-    known: &Cells,
-) -> Result<Cells, AllocError>
-    requires { n ≤ most_processes }
-    ensures { IfOk result (λ c. c ≡ cells_of n (λ k.
-        if missed_in n (kept_of letters.now) round k then None else cell known.now k)) }
-{
-    cells_by(alloc, n, |k| {
-        if is_missed(letters, n, round, k) {
-            None
-        } else {
-            known.get(k)
-        }
-    })
 }
 
 /// The first value of a vector.

@@ -86,7 +86,8 @@ fn on_way(from: u32, to: u32, part: u64, whole: u64) -> u32
 
 impl Run<'_> {
     ghost use Rattle.drawing.specs.Layout.{line_of};
-    ghost use Rattle.drawing.specs.LettersPicture.{arriving, arrows, ending, leaving, lost, place};
+    ghost use Rattle.drawing.specs.LettersPicture.{arriving, ending, leaving, lost, place};
+    ghost use Rattle.drawing.specs.Inside.LettersDrawn.{arrows_in};
 
     /// Where the line of a process is, from the top.
     fn line_of(&self, process: Pid) -> u32
@@ -197,8 +198,8 @@ impl Run<'_> {
         of: &[Pid],
         letters: &[Letter],
     ) -> Result<(), AllocError>
-        ensures { OnOk result (placeless shapes.new.items ≡ placeless shapes.old.items
-            ++ arrows self.now.scenario.now.processes self.now.ticks.from self.now.ticks.until of.now letters.now) }
+        ensures { OnOk result (
+            placeless shapes.new.items ≡ placeless shapes.old.items ++ arrows_in self.now of.now letters.now) }
     {
         for letter in letters {
             if self.ticks.has(letter.sent) && is_of(of, letter) {

@@ -3,7 +3,7 @@ ghost use Rattle.std.specs.Prelude.{◌≡◌, ◌++◌, ◌≤◌, OnOk};
 ghost use Rattle.judges.specs.Outcomes.{outcome};
 ghost use Rattle.drawing.specs.Frame.{placeless};
 ghost use Rattle.drawing.specs.Layout.{line_of, shown};
-ghost use Rattle.drawing.specs.LettersPicture.{bar_turns, turn_class, turn_shapes, upper_layer, value_shapes};
+ghost use Rattle.drawing.specs.LettersPicture.{turn_class, upper_layer, value_shapes};
 ghost use Rattle.drawing.specs.Suspicions.{row_end};
 
 use crate::bars::{Bar, stretches_of};
@@ -52,6 +52,8 @@ struct Spot {
 }
 
 impl Ticks {
+    ghost use Rattle.drawing.specs.Inside.LettersDrawn.{bar_turns_at, turn_at};
+
     /// Appends a mark at a tick, if there is one to show.
     fn push_turn(
         &self,
@@ -61,8 +63,8 @@ impl Ticks {
         sign: &str,
         tick: Option<u32>,
     ) -> Result<(), AllocError>
-        ensures { OnOk result (placeless shapes.new.items ≡ placeless shapes.old.items
-            ++ turn_shapes self.now.from self.now.until spot.now.class spot.now.line sign.now spot.now.subject tick) }
+        ensures { OnOk result (
+            placeless shapes.new.items ≡ placeless shapes.old.items ++ turn_at self.now spot.now sign.now tick) }
     {
         let Some(tick) = tick else {
             return Ok(());
@@ -90,8 +92,8 @@ impl Ticks {
         spot: &Spot,
         bar: Bar,
     ) -> Result<(), AllocError>
-        ensures { OnOk result (placeless shapes.new.items ≡ placeless shapes.old.items ++ bar_turns self.now.from
-            self.now.until spot.now.class spot.now.line spot.now.end spot.now.subject bar) }
+        ensures { OnOk result (
+            placeless shapes.new.items ≡ placeless shapes.old.items ++ bar_turns_at self.now spot.now bar) }
     {
         let begin = self.shown(spot.end, Some(bar.begin));
         let end = self.shown(spot.end, Some(bar.end));

@@ -1,6 +1,7 @@
 //! The shapes that stand in rows.
-ghost use Rattle.std.specs.Prelude.{◌≡◌, ◌++◌, ◌≤◌, map, OnOk};
+ghost use Rattle.std.specs.Prelude.{◌≡◌, ◌+◌, ◌++◌, ◌≤◌, map, OnOk};
 ghost use Rattle.drawing.specs.Frame.{placeless};
+ghost use Rattle.drawing.specs.Layout.{point, x_of};
 ghost use Rattle.drawing.specs.Suspicions.{bar_shape, crash_shapes, decided, decision_shapes, life_line, stretch};
 
 use crate::bars::Bar;
@@ -47,6 +48,17 @@ pub(crate) fn push_bars(
     Ok(())
 }
 
+/// The middle of a row at a tick.
+fn middle(ticks: &Ticks, top: u32, tick: u32) -> Point
+    requires { top ≤ 1100000 }
+    ensures { result ≡ point (x_of ticks.now.from ticks.now.until tick) (top + 8) }
+{
+    Point {
+        x: ticks.x(tick),
+        y: top + 8,
+    }
+}
+
 /// Appends a crash in a row, if there is one to show.
 pub(crate) fn push_crash(
     shapes: &mut Vec<Shape>,
@@ -58,14 +70,14 @@ pub(crate) fn push_crash(
     ensures { OnOk result (placeless shapes.new.items
         ≡ placeless shapes.old.items ++ crash_shapes ticks.now.from ticks.now.until top crash) }
 {
-    let Some(tick) = crash else {
-        return Ok(());
-    };
-    let x = ticks.x(tick);
-    let y = top + 8;
-    let class = Class::Crash;
-    let center = Point { x, y };
-    push_mark(shapes, Shape::Cross { class, center })
+    match crash {
+        None => Ok(()),
+        Some(tick) => {
+            let class = Class::Crash;
+            let center = middle(ticks, top, tick);
+            push_mark(shapes, Shape::Cross { class, center })
+        }
+    }
 }
 
 /// Appends a decision in a row, if there is one to show.
@@ -79,17 +91,17 @@ pub(crate) fn push_decision(
     ensures { OnOk result (placeless shapes.new.items
         ≡ placeless shapes.old.items ++ decision_shapes ticks.now.from ticks.now.until top decision) }
 {
-    let Some(tick) = decision else {
-        return Ok(());
-    };
-    let x = ticks.x(tick);
-    let y = top + 8;
-    let disc = Shape::Disc {
-        class: Class::Decision,
-        center: Point { x, y },
-        radius: 4,
-    };
-    push_mark(shapes, disc)
+    match decision {
+        None => Ok(()),
+        Some(tick) => push_mark(
+            shapes,
+            Shape::Disc {
+                class: Class::Decision,
+                center: middle(ticks, top, tick),
+                radius: 4,
+            },
+        ),
+    }
 }
 
 /// A line from the first tick to another.

@@ -1,5 +1,5 @@
 //! The bars of a pair, as its notes go by.
-ghost use Rattle.std.specs.Prelude.{◌≡◌, ◌≤◌, ℕ, Bool, false, max, OnOk, IfOk};
+ghost use Rattle.std.specs.Prelude.{◌≡◌, ◌≤◌, ℕ, Bool, false, [], ◌∷◌, max, OnOk, IfOk};
 ghost use Rattle.judges.specs.Turns.{entry_turns, noted_turns, turn_of, turns_at};
 
 use crate::bars::Bar;
@@ -21,7 +21,7 @@ pub(crate) struct Sweep {
 }
 
 impl Sweep {
-    ghost use Rattle.drawing.specs.Inside.Sweeping.{IsPassed, IsSwept, after, after_all, stretches};
+    ghost use Rattle.drawing.specs.Inside.Sweeping.{IsPassed, IsSwept, SweptOn, stretches};
 
     /// No tick is behind, and nothing is suspected.
     pub fn open(alloc: Global, from: u32) -> Sweep
@@ -62,9 +62,8 @@ impl Sweep {
 
     /// From a tick on there is suspicion, or there is none.
     fn turn(&mut self, tick: u32, suspected: bool) -> Result<(), AllocError>
-        ensures swept { OnOk result ((test : ℕ → Bool) (from : ℕ) → IsSwept test from self.old
-            → self.old.tick ≤ max from tick
-            → IsSwept (after test (record { tick = tick; suspected = suspected })) from self.new) }
+        ensures swept { OnOk result (
+            SweptOn (record { tick = tick; suspected = suspected } ∷ []) tick self.old self.new) }
         ensures tick { OnOk result (self.new.tick ≡ max self.old.tick tick) }
     {
         self.pass(tick)?;
@@ -74,9 +73,8 @@ impl Sweep {
 
     /// One more note of the observer.
     fn note(&mut self, layer: u8, subject: Pid, tick: u32, note: &Note) -> Result<(), AllocError>
-        ensures swept { OnOk result ((test : ℕ → Bool) (from : ℕ) → IsSwept test from self.old
-            → self.old.tick ≤ max from tick
-            → IsSwept (after_all test (turns_at subject tick (turn_of layer note.now))) from self.new) }
+        ensures swept { OnOk result (
+            SweptOn (turns_at subject tick (turn_of layer note.now)) tick self.old self.new) }
         ensures tick { OnOk result (self.new.tick ≤ max self.old.tick tick) }
     {
         if let Some((who, suspected)) = turn_of(layer, note) {
@@ -95,9 +93,8 @@ impl Sweep {
         tick: u32,
         notes: &[Note],
     ) -> Result<(), AllocError>
-        ensures swept { OnOk result ((test : ℕ → Bool) (from : ℕ) → IsSwept test from self.old
-            → self.old.tick ≤ max from tick
-            → IsSwept (after_all test (noted_turns layer subject tick notes.now)) from self.new) }
+        ensures swept { OnOk result (
+            SweptOn (noted_turns layer subject tick notes.now) tick self.old self.new) }
         ensures tick { OnOk result (self.new.tick ≤ max self.old.tick tick) }
     {
         for note in notes {
@@ -115,9 +112,8 @@ impl Sweep {
         until: u32,
         entry: &Entry,
     ) -> Result<(), AllocError>
-        ensures swept { OnOk result ((test : ℕ → Bool) (from : ℕ) → IsSwept test from self.old
-            → self.old.tick ≤ max from entry.now.key.tick
-            → IsSwept (after_all test (entry_turns layer observer subject until entry.now)) from self.new) }
+        ensures swept { OnOk result (
+            SweptOn (entry_turns layer observer subject until entry.now) entry.now.key.tick self.old self.new) }
         ensures tick { OnOk result (self.new.tick ≤ max self.old.tick entry.now.key.tick) }
         ensures below { OnOk result (self.new.tick ≤ max self.old.tick until) }
     {

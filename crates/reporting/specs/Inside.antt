@@ -4,3 +4,4 @@ pub mod Values
 pub mod Plain
 pub mod Findings
 pub mod RowTexts
+pub mod Layers

@@ -16,4 +16,5 @@ pub mod Summary
 pub mod Printed
 pub mod Running
 pub mod Measured
+pub mod Telling
 pub mod Inside

@@ -2,9 +2,7 @@
 ghost use Rattle.std.specs.Prelude.{◌≡◌, ℕ, ◌*◌, ◌≤◌, ◌<◌, ◌^◌, ◌++◌, ◌∷◌, [], List, length, vec_len, IfOk, OnOk};
 ghost use Rattle.process_api.specs.EntryRecord.{EntryRecord};
 ghost use Rattle.scenario_record.specs.Record.{Record};
-ghost use Rattle.judges.specs.Judging.{AreUntil};
 ghost use Rattle.reporting.specs.Durations.{AreCaught, caught, lists_in, ticks_between};
-ghost use Rattle.reporting.specs.Panel.{IsMetering};
 
 use crate::ledger::Ledger;
 use crate::panel::{places, tally_at};
@@ -64,7 +62,8 @@ pub struct Durations {
 }
 
 impl Durations {
-    ghost use Rattle.reporting.specs.Durations.{AreDurations, AreFollowing, lengths_of};
+    ghost use Rattle.reporting.specs.Durations.{AreFollowing, lengths_of};
+    ghost use Rattle.reporting.specs.Inside.Layers.{AreClosed, FollowOn};
 
     /// Of so many processes, whose panel was fed with nothing.
     pub(crate) fn open(alloc: Global, processes: u16) -> Result<Durations, AllocError>
@@ -81,9 +80,7 @@ impl Durations {
     /// The panel was fed with one more entry.
     #[inline(always)]
     pub(crate) fn follow(&mut self, panel: &Pairs<Ledger>, entry: &Entry) -> Result<(), AllocError>
-        ensures { OnOk result ((S : Record) (layer : ℕ) (trace : List EntryRecord) → AreFollowing S layer trace self.old
-            → IsMetering S layer (trace ++ entry.now ∷ []) panel.now
-            → AreFollowing S layer (trace ++ entry.now ∷ []) self.new) }
+        ensures { OnOk result (FollowOn panel.now entry.now self.old self.new) }
     {
         let processes = usize::from(self.processes);
         let first = (usize::from(entry.key.receiver.number()) - 1) * processes;
@@ -96,8 +93,7 @@ impl Durations {
 
     /// No entry follows.
     pub(crate) fn close(&mut self, panel: &Pairs<Ledger>) -> Result<(), AllocError>
-        ensures { OnOk result ((S : Record) (layer : ℕ) (trace : List EntryRecord) → AreFollowing S layer trace self.old
-            → IsMetering S layer trace panel.now → AreDurations S layer trace self.new) }
+        ensures { OnOk result (AreClosed panel.now self.old self.new) }
     {
         let end = self.pairs.len();
         if end <= places(panel) {

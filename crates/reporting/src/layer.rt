@@ -1,10 +1,5 @@
 //! The state that is kept of a layer.
-ghost use Rattle.std.specs.Prelude.{◌≡◌, ◌++◌, [], Bool, List, ℕ, true, IfOk, OnOk};
-ghost use Rattle.process_api.specs.EntryRecord.{EntryRecord};
-ghost use Rattle.scenario_record.specs.Record.{Record};
-ghost use Rattle.judges.specs.Verdicts.{verdicts};
-ghost use Rattle.reporting.specs.Durations.{AreDurations};
-ghost use Rattle.reporting.specs.Measures.{layer_measures};
+ghost use Rattle.std.specs.Prelude.{◌≡◌, [], true, IfOk, OnOk};
 
 use crate::durations::Durations;
 use crate::ledger::Ledger;
@@ -32,6 +27,7 @@ pub struct Layer {
 }
 
 impl Layer {
+    ghost use Rattle.reporting.specs.Inside.Layers.{AreVerdicts, AreLengths, HaveMeasures};
     ghost use Rattle.reporting.specs.Running.{IsLayer};
 
     /// Nothing was fed.
@@ -54,12 +50,9 @@ impl Layer {
         self,
         rows: &mut Vec<PairMeasures>,
     ) -> Result<(Verdicts, Durations), AllocError>
-        ensures verdicts { IfOk result (λ told. (listed : Bool) (S : Record) (layer : ℕ) (trace : List EntryRecord)
-            → IsLayer listed S layer trace self → told.0 ≡ verdicts S trace layer) }
-        ensures lengths { IfOk result (λ told. (S : Record) (layer : ℕ) (trace : List EntryRecord)
-            → IsLayer true S layer trace self → AreDurations S layer trace told.1) }
-        ensures measures { OnOk result ((listed : Bool) (S : Record) (layer : ℕ) (trace : List EntryRecord)
-            → IsLayer listed S layer trace self → rows.new.items ≡ rows.old.items ++ layer_measures S trace layer) }
+        ensures verdicts { IfOk result (λ told. AreVerdicts self told.0) }
+        ensures lengths { IfOk result (λ told. AreLengths self told.1) }
+        ensures measures { OnOk result (HaveMeasures self rows.old.items rows.new.items) }
     {
         let Layer { pairs, mut lengths } = self;
         lengths.close(&pairs)?;

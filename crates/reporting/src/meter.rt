@@ -1,10 +1,9 @@
 //! A meter: the measures of one pair on one layer, in constant memory.
-ghost use Rattle.std.specs.Prelude.{◌≡◌, ◌++◌, ◌∷◌, [], ℕ, List, if◌then◌else◌, None};
+ghost use Rattle.std.specs.Prelude.{◌≡◌, [], ℕ, List, if◌then◌else◌, None};
 ghost use Rattle.process_api.specs.EntryRecord.{EntryRecord};
 ghost use Rattle.scenario_record.specs.Record.{Record};
-ghost use Rattle.judges.specs.Pairs.{AreUntil};
 ghost use Rattle.reporting.specs.Meter.{closed, crash_between, detected, opened};
-ghost use Rattle.reporting.specs.MeterFed.{IsFed};
+ghost use Rattle.reporting.specs.MeterFed.{IsFed, WasFed};
 
 use crate::ledger::Ledger;
 use crate::pair_measures::{Detection, PairMeasures};
@@ -71,8 +70,7 @@ impl Meter {
 
     /// One more entry.
     pub fn feed(&mut self, entry: &Entry)
-        ensures { (S : Record) (layer q p : ℕ) (trace : List EntryRecord) → IsFed S layer q p trace self.old
-            → AreUntil trace entry.now.key.tick → IsFed S layer q p (trace ++ entry.now ∷ []) self.new }
+        ensures { WasFed entry.now self.old self.new }
     {
         if entry.key.receiver == self.observer && entry.key.tick < self.horizon {
             self.pair.note_all(

@@ -1,10 +1,8 @@
 //! The counts of all pairs on one layer, and the numbers that are told of them.
-ghost use Rattle.std.specs.Prelude.{◌≡◌, ℕ, ◌*◌, ◌++◌, ◌<◌, List, OnOk};
-ghost use Rattle.process_api.specs.EntryRecord.{EntryRecord};
-ghost use Rattle.scenario_record.specs.Record.{Record};
+ghost use Rattle.std.specs.Prelude.{◌≡◌, ◌*◌, ◌++◌, ◌<◌, OnOk};
 ghost use Rattle.reporting.specs.Durations.{tally_at};
-ghost use Rattle.reporting.specs.Measures.{layer_measures};
-ghost use Rattle.reporting.specs.Panel.{IsMetering, closed_row, metered};
+ghost use Rattle.reporting.specs.Inside.Layers.{JoinMeasures};
+ghost use Rattle.reporting.specs.Panel.{closed_row, metered};
 
 use crate::ledger::Ledger;
 use crate::meter::{Meter, crash_between};
@@ -74,8 +72,7 @@ pub(crate) fn close_rows(
     pairs: &Pairs<Ledger>,
     rows: &mut Vec<PairMeasures>,
 ) -> Result<(), AllocError>
-    ensures { OnOk result ((S : Record) (layer : ℕ) (trace : List EntryRecord) → IsMetering S layer trace pairs.now
-        → rows.new.items ≡ rows.old.items ++ layer_measures S trace layer) }
+    ensures { OnOk result (JoinMeasures pairs.now rows.old.items rows.new.items) }
 {
     for row in 0..pairs.processes() {
         close_row(pairs, row, rows)?;

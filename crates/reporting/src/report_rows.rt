@@ -1,8 +1,8 @@
 //! Rows of a report.
 ghost use Rattle.std.specs.Prelude.{◌≡◌, ◌++◌, map, OnOk};
-ghost use Rattle.reporting.specs.ReportText.{report_row, report_rows, run_text, verdict_text, pair_text, decision_text};
+ghost use Rattle.reporting.specs.ReportText.{run_text, verdict_text, pair_text, decision_text};
 ghost use Rattle.reporting.specs.Rows.{IsBetweenRows, text_of};
-ghost use Rattle.reporting.specs.Inside.Values.{value_text};
+ghost use Rattle.reporting.specs.Inside.Values.{row_about, rows_about, value_text};
 
 use crate::pair_measures::PairMeasures;
 use crate::rows::Rows;
@@ -31,9 +31,8 @@ fn push_value(
 ) -> Result<(), AllocError>
     requires { IsBetweenRows rows.old }
     ensures between { OnOk result (IsBetweenRows rows.new) }
-    ensures text { OnOk result (text_of rows.new ≡ text_of rows.old
-        ++ report_row about.section.now about.layer about.observer about.subject
-        (name.now, value_text value)) }
+    ensures text { OnOk result (
+        text_of rows.new ≡ text_of rows.old ++ row_about about (name.now, value_text value)) }
 {
     let mut layer = Buffer::new();
     let mut observer = Buffer::new();
@@ -59,9 +58,8 @@ fn push_values(
 ) -> Result<(), AllocError>
     requires { IsBetweenRows rows.old }
     ensures between { OnOk result (IsBetweenRows rows.new) }
-    ensures text { OnOk result (text_of rows.new ≡ text_of rows.old
-        ++ report_rows about.section.now about.layer about.observer about.subject
-        (map (λ v. (v.0.now, value_text v.1)) values.now)) }
+    ensures text { OnOk result (
+        text_of rows.new ≡ text_of rows.old ++ rows_about about (map (λ v. (v.0.now, value_text v.1)) values.now)) }
 {
     for (name, value) in values {
         push_value(rows, about, name, *value)?;

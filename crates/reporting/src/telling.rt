@@ -1,14 +1,13 @@
 //! The numbers that are told of a run, once no entry follows.
-ghost use Rattle.std.specs.Prelude.{◌≡◌, ◌<◌, ◌^◌, ◌++◌, Bool, List, true, is_some, IfOk, OnOk, length};
+ghost use Rattle.std.specs.Prelude.{◌≡◌, ◌<◌, ◌^◌, ◌++◌, List, true, IfOk, OnOk, length};
 ghost use Rattle.process_api.specs.EntryRecord.{EntryRecord};
-ghost use Rattle.process_api.specs.declared.print_choice.PrintChoice.{PrintChoice};
 ghost use Rattle.scenario_record.specs.Record.{Record};
-ghost use Rattle.reporting.specs.Durations.{AreDurations};
-ghost use Rattle.reporting.specs.Measured.{AreFindings, AreRunDurations, second_verdicts};
-ghost use Rattle.reporting.specs.Measures.{second_measures};
+ghost use Rattle.reporting.specs.Inside.Layers.{AreSecondVerdicts, AreSecondLengths, HaveSecondMeasures};
+ghost use Rattle.reporting.specs.Measured.{AreRunDurations};
 ghost use Rattle.reporting.specs.Printed.{items_of};
-ghost use Rattle.reporting.specs.Running.{IsMeasuring, IsRecording, IsRunning, IsSecond, IsSumming, IsToldOf, TellsRun, rows_of};
+ghost use Rattle.reporting.specs.Running.{IsMeasuring, IsSumming, TellsRun, rows_of};
 ghost use Rattle.reporting.specs.Summary.{IsSummary};
+ghost use Rattle.reporting.specs.Telling.{OfRecorded, TellsFindings, TellsOf};
 
 use crate::durations::{Durations, RunDurations};
 use crate::findings::RunFindings;
@@ -42,12 +41,9 @@ fn close_second(
     second: Option<Layer>,
     rows: &mut Vec<PairMeasures>,
 ) -> Result<(Option<Verdicts>, Durations), AllocError>
-    ensures verdicts { IfOk result (λ told. (listed : Bool) (S : Record) (trace : List EntryRecord)
-        → IsSecond listed S trace second → told.0 ≡ second_verdicts S trace) }
-    ensures lengths { IfOk result (λ told. (S : Record) (trace : List EntryRecord)
-        → IsSecond true S trace second → is_some S.share ≡ true → AreDurations S 2 trace told.1) }
-    ensures measures { OnOk result ((listed : Bool) (S : Record) (trace : List EntryRecord)
-        → IsSecond listed S trace second → rows.new.items ≡ rows.old.items ++ second_measures S trace) }
+    ensures verdicts { IfOk result (λ told. AreSecondVerdicts second told.0) }
+    ensures lengths { IfOk result (λ told. AreSecondLengths second told.1) }
+    ensures measures { OnOk result (HaveSecondMeasures second rows.old.items rows.new.items) }
 {
     match second {
         None => Ok((None, Durations::open(alloc, 0)?)),
@@ -67,8 +63,7 @@ pub fn close_measuring(
     alloc: Global,
     measuring: Measuring,
 ) -> Result<(RunFindings, RunDurations), AllocError>
-    ensures found { IfOk result (λ told. (listed : Bool) (S : Record) (trace : List EntryRecord)
-        → IsMeasuring listed S trace measuring → length trace < 2 ^ 64 → AreFindings S trace told.0) }
+    ensures found { IfOk result (λ told. TellsFindings measuring told.0) }
     ensures lasted { IfOk result (λ told. (S : Record) (trace : List EntryRecord)
         → IsMeasuring true S trace measuring → AreRunDurations S trace told.1) }
 {
@@ -100,9 +95,7 @@ pub fn close_running(
     scenario: &Scenario,
     running: Running,
 ) -> Result<(Summary, Option<Vec<u8>>), AllocError>
-    ensures { IfOk result (λ told. (trace : List EntryRecord) (reported : Bool)
-        → IsRunning scenario.now trace reported running → length trace < 2 ^ 64
-        → IsToldOf scenario.now trace reported told) }
+    ensures { IfOk result (TellsOf scenario.now running) }
 {
     let (summing, layers) = running;
     match layers {
@@ -141,9 +134,8 @@ pub(crate) fn close_recording(
     scenario: &Scenario,
     recording: Recording,
 ) -> Result<(Summary, Vec<u8>), AllocError>
-    ensures { IfOk result (λ told. (print : PrintChoice) (trace : List EntryRecord)
-        → IsRecording scenario.now print trace recording → length trace < 2 ^ 64
-        → TellsRun scenario.now print trace told) }
+    ensures { IfOk result (λ told.
+        OfRecorded scenario.now recording (λ print trace. TellsRun scenario.now print trace told)) }
 {
     let (running, trace) = recording;
     let (summary, report) = close_running(alloc, scenario, running)?;

@@ -2,7 +2,7 @@
 ghost use Rattle.std.specs.Prelude.{◌≡◌, ◌++◌, [], List, ℕ, IfOk, OnOk, length, map};
 ghost use Rattle.csv.specs.Writing.{default_writer};
 ghost use Rattle.reporting.specs.Inside.Plain.{IsPlain, ArePlain};
-ghost use Rattle.reporting.specs.Inside.RowTexts.{texts_of};
+ghost use Rattle.reporting.specs.Inside.RowTexts.{WroteRow, texts_of};
 ghost use Rattle.reporting.specs.Kinds.{kind_text};
 ghost use Rattle.reporting.specs.Rows.{row_of, written, IsBetween};
 ghost use Rattle.reporting.specs.TraceText.{Holds, fields_of, handed, trace_text};
@@ -80,8 +80,7 @@ fn row_in<'a>(fields: &'a Fields, kind: &'a str) -> [&'a [u8]; 8]
 fn write_row(writer: &mut Writer<Vec<u8>>, fields: &Fields, kind: Kind) -> Result<(), AllocError>
     ensures between { OnOk result (IsPlain fields.now.notes.items → IsBetween default_writer writer.old
         → IsBetween default_writer writer.new) }
-    ensures text { OnOk result (IsPlain fields.now.notes.items → IsBetween default_writer writer.old
-        → written writer.new ≡ written writer.old ++ row_of (texts_of fields.now (kind_text kind))) }
+    ensures text { OnOk result (WroteRow fields.now kind writer.old writer.new) }
 {
     let written = writer.write_fields(&row_in(fields, name_of_kind(kind)));
     match written {

@@ -1,11 +1,9 @@
 //! Writing the texts of a finished trace.
-ghost use Rattle.std.specs.Prelude.{◌≡◌, ◌≢◌, ◌^◌, ◌-◌, ◌+◌, ◌<◌, Err, List, length, OnOk, IfErr, IfOk};
-ghost use Rattle.process_api.specs.EntryRecord.{EntryRecord};
-ghost use Rattle.process_api.specs.declared.print_choice.PrintChoice.{PrintChoice};
-ghost use Rattle.reporting.specs.Printed.{items_of, printed};
-ghost use Rattle.reporting.specs.Running.{IsRecording};
+ghost use Rattle.std.specs.Prelude.{◌≡◌, ◌≢◌, ◌^◌, ◌-◌, ◌<◌, Err, OnOk, IfErr, IfOk};
+ghost use Rattle.reporting.specs.Printed.{items_of};
 ghost use Rattle.reporting.specs.ReportText.{report_text};
 ghost use Rattle.reporting.specs.Summary.{IsSummary};
+ghost use Rattle.reporting.specs.Telling.{OfPrinted, OfRecorded};
 ghost use Rattle.reporting.specs.TraceText.{trace_text};
 ghost use Rattle.reporting.specs.Writing.{Wrote, WrotePart, WroteNothing};
 
@@ -66,14 +64,12 @@ pub fn write_recorded<O: Outlet>(
     outlet: &mut O,
 ) -> Result<Summary, RunError>
     requires { O.failed outlet.old < 2 ^ 64 - 1 }
-    ensures whole { OnOk result ((print : PrintChoice) (trace : List EntryRecord)
-        → IsRecording scenario.now print trace recording → length trace < 2 ^ 64
-        → Wrote O.told O.failed outlet.old outlet.new (printed print scenario.now trace)) }
-    ensures summed { IfOk result (λ s. (print : PrintChoice) (trace : List EntryRecord)
-        → IsRecording scenario.now print trace recording → length trace < 2 ^ 64 → IsSummary scenario.now trace s) }
-    ensures part { result ≡ Err RunError.Write → (print : PrintChoice) (trace : List EntryRecord)
-        → IsRecording scenario.now print trace recording → length trace < 2 ^ 64
-        → WrotePart O.told O.failed outlet.old outlet.new (printed print scenario.now trace) }
+    ensures whole { OnOk result (
+        OfPrinted scenario.now recording (Wrote O.told O.failed outlet.old outlet.new)) }
+    ensures summed { IfOk result (λ s.
+        OfRecorded scenario.now recording (λ print trace. IsSummary scenario.now trace s)) }
+    ensures part { result ≡ Err RunError.Write
+        → OfPrinted scenario.now recording (WrotePart O.told O.failed outlet.old outlet.new) }
     ensures memory { result ≡ Err RunError.Memory → WroteNothing O.told O.failed outlet.old outlet.new }
     ensures only { (result ≢ Err RunError.Limit) × (result ≢ Err RunError.Spawn) }
 {

@@ -56,3 +56,9 @@ pub record IsSwept (test : ℕ → Bool) (from : ℕ) (s : Sweep) : Type 0 where
   pub low : from ≤ s.tick
   pub found : found_of s ≡ found test from (s.tick - from)
   pub later : (u : ℕ) → s.tick ≤ u → test u ≡ s.current
+
+-- what was swept of any test was swept of it as these turns change it, where a tick after those behind is theirs
+abbrev pub SweptOn : List Turn → (tick : ℕ) → (old new : Sweep) → Type 0
+SweptOn turns tick old new =
+    (test : ℕ → Bool) (from : ℕ) → IsSwept test from old → old.tick ≤ max from tick
+    → IsSwept (after_all test turns) from new

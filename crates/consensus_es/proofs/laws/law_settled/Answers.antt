@@ -1,13 +1,10 @@
 use Rattle.consensus_es.proofs.Settled.{settled, settles_on, settles_here}
-use Rattle.consensus_es.proofs.Bound.{step_few, opening_orderly}
+use Rattle.consensus_es.proofs.Bound.{step_few}
 use Rattle.consensus_es.proofs.Choosing.{best_is}
 use Rattle.consensus_es.proofs.laws.law_settled.Goals as goal
 
 pub returns-clause-over : goal.returns-clause-over
 returns-clause-over c n own is_suspected input s = settled n own is_suspected input s
-
-pub returns-clause-opens : goal.returns-clause-opens
-returns-clause-opens c n own proposal = opening_orderly n own proposal
 
 pub returns-clause-little : goal.returns-clause-little
 returns-clause-little c n own first last is_suspected not_itself input s orderly =

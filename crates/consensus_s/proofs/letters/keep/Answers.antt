@@ -1,12 +1,8 @@
-use Rattle.std.proofs.Common.{◌∙◌, ap, sym}
+use Rattle.std.proofs.Common.{◌∙◌, ap}
 use Rattle.std.proofs.lemmas.Result.{on_ok_weaker}
-use Rattle.process_api.proofs.Rows.{keep_there}
 use Rattle.process_api.specs.ConsensusS.{keep}
 use Rattle.consensus_s.specs.Kept.{kept_of}
 use Rattle.consensus_s.proofs.letters.keep.Goals as goal
-
-pub returns-then-has : goal.returns-then-has
-returns-then-has c = keep_there (kept_of c.args.letters.now) c.args.round c.args.sender c.args.cells.now (sym c.has.ensures ∙ c.if-has.true)
 
 pub returns : goal.returns
 returns c = on_ok_weaker c.keep.result (λ e. e ∙ ap (keep (kept_of c.args.letters.now) c.args.round c.args.sender) c.in_ok-copy.ensures) c.keep.ensures

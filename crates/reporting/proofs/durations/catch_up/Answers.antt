@@ -1,11 +1,8 @@
-use Rattle.std.proofs.Common.{◌≡◌, get_or, ap, ◌∙◌, subst, arith}
+use Rattle.std.proofs.Common.{get_or, ap, ◌∙◌, arith}
 use Rattle.std.proofs.lemmas.List.{length-set}
-use Rattle.reporting.specs.Durations.{AreCaught, caught, lists_in}
-use Rattle.reporting.proofs.Listing.{caught_none, caught_next}
+use Rattle.reporting.specs.Durations.{caught, lists_in}
+use Rattle.reporting.proofs.Listing.{caught_next}
 use Rattle.reporting.proofs.durations.catch_up.Goals as goal
-
-pub loop-place-init : goal.loop-place-init
-loop-place-init c = record { same = omega arith; caught = caught_none c.args.panel.now c.args.closed c.args.from (lists_in c.args.pairs.now) }
 
 pub loop-place-preserved : goal.loop-place-preserved
 loop-place-preserved c =
@@ -16,8 +13,3 @@ loop-place-preserved c =
           (omega (arith, l.invariant.same, c.loop-place-test.true, c.requires.places)) c.index-pairs-place.result c.catch.new.lengths
           (c.in_ok-catch.ensures ∙ ap (λ t. caught t (get_or l.pairs l.place c.index-pairs-place.result).items) c.tally_at.ensures);
     }
-
-pub returns : goal.returns
-returns c =
-    let end : c.loop-place.place ≡ c.args.end = omega (arith, c.loop-place-test.false, c.loop-place.auto.place-end, c.requires.order) in
-    subst (λ n. AreCaught c.args.panel.now c.args.closed c.args.from n (lists_in c.args.pairs.now) (lists_in c.loop-place.pairs)) end c.loop-place.invariant.caught

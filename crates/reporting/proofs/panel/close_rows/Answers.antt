@@ -1,21 +1,7 @@
-use Rattle.std.proofs.Common.{◌≡◌, ◌-◌, suc, sym, ap, ◌∙◌, ◌++◌, append_assoc, add-one, arith}
-use Rattle.reporting.specs.Panel.{closed_row, closed_rows}
+use Rattle.std.proofs.Common.{◌≡◌, ap, ◌∙◌, ◌++◌, arith}
+use Rattle.reporting.specs.Panel.{closed_rows}
 use Rattle.reporting.proofs.Closing.{metering_closed}
-use Rattle.reporting.proofs.EachProcess.{rows_more}
 use Rattle.reporting.proofs.panel.close_rows.Goals as goal
-
-pub loop-row-preserved : goal.loop-row-preserved
-loop-row-preserved c =
-    let pairs = c.args.pairs.now in
-    let row = c.loop-row.row in
-    let old = c.args.rows.now.items in
-    let same : row ≡ suc row - 1 = omega arith in
-    c.in_ok-close_row.ensures
-    ∙ ap (λ rows. rows ++ closed_row pairs row) c.loop-row.invariant
-    ∙ append_assoc old (closed_rows pairs row) (closed_row pairs row)
-    ∙ ap (λ r. old ++ (closed_rows pairs row ++ closed_row pairs r)) same
-    ∙ ap (λ rows. old ++ rows) (sym (rows_more (λ q. closed_row pairs (q - 1)) row))
-    ∙ ap (λ n. old ++ closed_rows pairs n) (sym (add-one row))
 
 pub returns : goal.returns
 returns c = λ S layer trace h.

@@ -1,17 +1,11 @@
-use Rattle.std.proofs.Common.{◌∙◌, Some, None, ap, sym, subst, false}
+use Rattle.std.proofs.Common.{◌∙◌, Some, ap, sym, subst, false}
 use Rattle.process_api.specs.Following.{IsWhere}
-use Rattle.process_api.proofs.Where.{absent_where, there_where}
+use Rattle.process_api.proofs.Where.{there_where}
 use Rattle.reporting.specs.Inside.Findings.{found_text}
 use Rattle.reporting.specs.ReportText.{report_text}
 use Rattle.reporting.specs.Running.{AreLayers, IsTextWhere}
 use Rattle.reporting.proofs.Fed.{found_is}
 use Rattle.reporting.proofs.telling.close_running.Goals as goal
-
-pub returns-in-None : goal.returns-in-None
-returns-in-None c = λ trace reported h small.
-    let S = c.args.scenario.now in
-    let none = absent_where (AreLayers false S trace) reported (subst (IsWhere reported (AreLayers false S trace)) c.in-None.is h.1) in
-    record { summary = c.sum_up.ensures S trace h.0 small; report = subst (λ b. IsTextWhere b (report_text S trace) None) (sym none) tt }
 
 pub returns-in_ok-report-in-Some : goal.returns-in_ok-report-in-Some
 returns-in_ok-report-in-Some c = λ trace reported h small.

@@ -1,23 +1,9 @@
-use Rattle.std.proofs.Common.{◌∙◌, ◌++◌, sym, ap, subst, cond, Some, None, [], is_some, append-nil, true≢false}
-use Rattle.process_api.proofs.Where.{absent_where, there_where}
+use Rattle.std.proofs.Common.{◌∙◌, ◌++◌, sym, ap, subst, cond, Some, None, [], is_some}
+use Rattle.process_api.proofs.Where.{there_where}
 use Rattle.judges.specs.Verdicts.{verdicts}
 use Rattle.reporting.specs.Measures.{layer_measures}
 use Rattle.reporting.specs.Running.{IsLayer, IsSecond}
 use Rattle.reporting.proofs.telling.close_second.Goals as goal
-
-pub returns-in_ok-open-in-None-clause-verdicts : goal.returns-in_ok-open-in-None-clause-verdicts
-returns-in_ok-open-in-None-clause-verdicts c = λ listed S trace h.
-    let none = absent_where (IsLayer listed S 2 trace) (is_some S.share) (subst (IsSecond listed S trace) c.in-None.is h) in
-    sym (ap (λ b. cond b (Some (verdicts S trace 2)) None) none)
-
-pub returns-in_ok-open-in-None-clause-lengths : goal.returns-in_ok-open-in-None-clause-lengths
-returns-in_ok-open-in-None-clause-lengths c = λ S trace h shared.
-    absurd (true≢false (sym shared ∙ absent_where (IsLayer _ S 2 trace) (is_some S.share) (subst (IsSecond _ S trace) c.in-None.is h)))
-
-pub returns-in_ok-open-in-None-clause-measures : goal.returns-in_ok-open-in-None-clause-measures
-returns-in_ok-open-in-None-clause-measures c = λ listed S trace h.
-    let none = absent_where (IsLayer listed S 2 trace) (is_some S.share) (subst (IsSecond listed S trace) c.in-None.is h) in
-    sym (ap (λ b. c.args.rows.now.items ++ cond b (layer_measures S trace 2) []) none ∙ append-nil c.args.rows.now.items)
 
 pub returns-in_ok-verdicts-in-Some-clause-verdicts : goal.returns-in_ok-verdicts-in-Some-clause-verdicts
 returns-in_ok-verdicts-in-Some-clause-verdicts c = λ listed S trace h.

@@ -2,11 +2,8 @@ use Rattle.std.proofs.Common.{subst, sym, cond, ◌+◌, ◌<◌}
 use Rattle.std.specs.FinSet as set
 use Rattle.process_api.specs.Coordinator.{waits_left}
 use Rattle.consensus_es.specs.State.{state_of}
-use Rattle.consensus_es.proofs.Settling.{Going, going_first, going_on, going_fewer, gone}
+use Rattle.consensus_es.proofs.Settling.{Going, going_on, going_fewer, gone}
 use Rattle.consensus_es.proofs.progress.Progress.settle.Goals as goal
-
-pub loop-more-init : goal.loop-more-init
-loop-more-init c = going_first c.args.membership.now.processes c.args.membership.now.own (set.contains c.args.suspects.now) c.args.self.now c.args.out.now.items
 
 pub loop-more-preserved : goal.loop-more-preserved
 loop-more-preserved c =

@@ -1,4 +1,3 @@
-use Rattle.std.proofs.Common.{arith}
 use Rattle.std.proofs.lemmas.List.Elements.{All-from_recursion}
 use Rattle.std.specs.FinSet as set
 use Rattle.process_api.proofs.Allowed.{exchange_allowed}
@@ -12,7 +11,3 @@ unfolding react_algorithm
 returns-in-Ok-clause-allowed c =
     let o = c.args.self.now.opening in
     All-from_recursion (IsAllowed o.processes) _ (exchange_allowed o.processes o.own (set.contains c.args.suspects.now) c.args.input.now (exchange_of c.args.self.now.exchange))
-
-pub returns-in-Ok-clause-few : goal.returns-in-Ok-clause-few
-unfolding react_algorithm
-returns-in-Ok-clause-few c = omega (arith, c.in-Ok.ensures.few, c.args.self.now.opening.few)

@@ -1,4 +1,4 @@
-use Rattle.std.proofs.Common.{◌≡◌, ◌∙◌, ◌-◌, ◌++◌, suc, sym, ap, subst, arith, append-nil, flat_map}
+use Rattle.std.proofs.Common.{◌≡◌, ◌∙◌, ◌-◌, ◌++◌, suc, sym, ap, subst, arith, flat_map}
 use Rattle.process_api.specs.Numbers.{numbers_to, others}
 use Rattle.drawing.specs.Inside.Drawn.{AreRowsOf, absent, has_row_in, pair_in, group_of, bands_in, group_bands_of, own_of}
 use Rattle.drawing.specs.Layout.{group_height}
@@ -6,16 +6,6 @@ use Rattle.drawing.specs.Suspicions.{group_shapes, group_bands}
 use Rattle.drawing.proofs.Counting.{groups_more, sum_more}
 use Rattle.drawing.proofs.Joining.{numbers_more}
 use Rattle.drawing.proofs.groups.Run.push_group.Goals as goal
-
-pub loop-before-init : goal.loop-before-init
-loop-before-init c =
-    let old = c.requires.before in
-    record {
-      shapes = rw (c.in_ok-push_own.ensures, old.shapes, old.top) (simp append-nil);
-      bands = old.bands ∙ sym (append-nil _);
-      top = omega (arith, old.top);
-      left_out = omega (arith, old.left_out);
-    }
 
 pub returns : goal.returns
 unfolding group_of group_shapes group_bands_of group_bands pair_in bands_in has_row_in own_of

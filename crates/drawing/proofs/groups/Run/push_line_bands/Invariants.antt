@@ -1,8 +1,8 @@
 use Rattle.std.proofs.Common.{◌≡◌, ◌++◌, flat_map}
 use Rattle.process_api.specs.Numbers.{others}
-use Rattle.drawing.specs.Inside.LettersDrawn.{link_bands_in}
+use Rattle.drawing.specs.Inside.LettersDrawn.{link_bands}
 use Rattle.drawing.proofs.groups.Run.push_line_bands.Given as goal
 
 -- the other processes so far
 abbrev pub invariant-loop-before : goal.invariant-loop-before
-invariant-loop-before l = l.shapes.items ≡ l.fn.shapes.items ++ flat_map (link_bands_in l.self l.sender) (others l.before l.sender)
+invariant-loop-before l = l.shapes.items ≡ l.fn.shapes.items ++ flat_map (link_bands l.self l.sender) (others l.before l.sender)

@@ -1,13 +1,9 @@
 use Rattle.std.proofs.Common.{◌∙◌, ◌++◌, sym, ap, arith}
-use Rattle.std.proofs.lemmas.Bool.{eqb-true, eqb-false}
+use Rattle.std.proofs.lemmas.Bool.{eqb-false}
 use Rattle.drawing.specs.Suspicions.{bands}
 use Rattle.drawing.specs.Inside.Drawn.{pair_of}
-use Rattle.drawing.proofs.RowShapes.{itself_more, shown_same, with_row, without_row}
+use Rattle.drawing.proofs.RowShapes.{shown_same, with_row, without_row}
 use Rattle.drawing.proofs.groups.Run.push_pair.Goals as goal
-
-pub returns-then-eq : goal.returns-then-eq
-returns-then-eq c =
-    itself_more c.args.self.now c.args.observer c.args.before _ c.after-subject.ensures c.args.rows.now c.requires.rows (eqb-true _ _ (sym c.if-eq.ensures))
 
 pub returns-then-not-is_shown : goal.returns-then-not-is_shown
 returns-then-not-is_shown c =

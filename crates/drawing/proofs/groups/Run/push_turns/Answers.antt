@@ -1,7 +1,5 @@
-use Rattle.std.proofs.Common.{◌≡◌, ◌≢◌, ◌+◌, ◌++◌, ap, refl, arith, append-nil, append_assoc}
+use Rattle.std.proofs.Common.{◌≡◌, ◌≢◌, ◌+◌, refl, arith, append-nil, append_assoc}
 use Rattle.std.proofs.lemmas.Grind.{flat_map-append}
-use Rattle.drawing.specs.Frame.{placeless}
-use Rattle.drawing.specs.Inside.LettersDrawn.{turns_in}
 use Rattle.drawing.proofs.Counting.{others_itself, others_other}
 use Rattle.drawing.proofs.groups.Run.push_turns.Goals as goal
 use Rattle.drawing.proofs.groups.Run.push_turns.Goals.{then-ne+in_ok-push_pair_turns, else-ne}

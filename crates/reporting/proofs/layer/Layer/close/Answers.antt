@@ -9,6 +9,3 @@ returns-clause-verdicts c = λ listed S layer trace h. c.grid_verdicts.ensures �
 
 pub returns-clause-lengths : goal.returns-clause-lengths
 returns-clause-lengths c = λ S layer trace h. c.in_ok-close.ensures S layer trace (h.lengths refl) h.metering
-
-pub returns-clause-measures : goal.returns-clause-measures
-returns-clause-measures c = λ listed S layer trace h. c.in_ok-close_rows.ensures S layer trace h.metering

@@ -1,9 +1,0 @@
-use Rattle.std.proofs.Common.{None, is_some, if◌then◌else◌, arith}
-use Rattle.std.proofs.lemmas.Grind.{common_steps}
-use Rattle.std.proofs.lemmas.Result.{IfOk-weaker}
-use Rattle.process_api.specs.Cells.{cell}
-use Rattle.consensus_s.specs.Kept.{kept_of, told_in}
-use Rattle.consensus_s.proofs.vectors.news_after.Goals as goal
-
-pub returns : goal.returns
-returns c = IfOk-weaker c.cells_by.result _ _ (λ made is. is (λ k. if is_some (cell c.args.known.now k) then None else told_in c.args.n (kept_of c.args.letters.now) c.args.round k) (λ k value ran. grind (ran, arith, common_steps))) c.cells_by.ensures
