@@ -10,13 +10,14 @@ use Rattle.process_api.specs.declared.run_error.RunError.TheVariants as run
 use Rattle.command_line.specs.Order.{States}
 use Rattle.command_line.specs.declared.order.Order.{Order}
 use Rattle.command_line.specs.declared.order.Order.TheVariants as order
+use Rattle.command_line.specs.declared.order.WordsError.{WordsError}
 use Rattle.command_line.specs.declared.told.Told.{Told}
 use Rattle.command_line.specs.declared.told.Told.TheVariants as saying
 use Rattle.bench_commands.specs.Answer.{IsListAnswer, IsRunFront, LeavesBy, WritesBy, path_of}
 use Rattle.bench_commands.specs.Fault.{end_of, status_of}
 use Rattle.bench_commands.specs.Scenario.{IsTooLong}
 use Rattle.bench_commands.specs.Mode.{RefusesBy}
-use Rattle.bench_commands.specs.Serve.{IsAsked, IsReason, IsRunAsked, TellsOf}
+use Rattle.bench_commands.specs.Serve.{IsReason, IsRunAsked, TellsFor, TellsOf}
 use Rattle.bench_commands.specs.Why.{StopsBefore, StopsBy, StopsFor, StopsWindows}
 use Rattle.bench_commands.specs.declared.bench.Mode.{Mode}
 use Rattle.bench_commands.specs.declared.bench.Mode.TheVariants as mode
@@ -121,15 +122,14 @@ stopped_run input words asked fault stated (inr over) three =
     record { asked = asked; stated = stated; is_run = tt; scenario = over.0; stands = over.1 }
 
 -- words that state no order end with 2, or with 4 where help can't be written
-unasked_status : (said : Told) (fault : Fault) → TellsOf said fault → (status_of fault ≡ 2) ⊎ (status_of fault ≡ 4)
-unasked_status (saying.Help text) fault is = inr (ap status_of is)
-unasked_status _ fault is = inl (ap status_of is)
+said_status : (said : Told) (fault : Fault) → TellsOf said fault → (status_of fault ≡ 2) ⊎ (status_of fault ≡ 4)
+said_status (saying.Help text) fault is = inr (ap status_of is)
+said_status _ fault is = inl (ap status_of is)
 
--- so 1 and 3 come of an order alone
-pub asked_at_one : (input : Option (List ℕ)) (words : List (List ℕ)) (fault : Fault) → IsReason input words fault → status_of fault ≡ 1 → IsAsked words
-asked_at_one input words fault (inr stopped) one = (stopped.asked, stopped.stated)
-asked_at_one input words fault (inl unasked) one = absurd (omega (arith, one, unasked_status unasked.said fault unasked.tells))
+pub unasked_status : (reason : WordsError) (fault : Fault) → TellsFor reason fault → (status_of fault ≡ 2) ⊎ (status_of fault ≡ 4)
+unasked_status reason fault tells = said_status tells.0 fault tells.2
 
+-- so 3 comes of an order alone
 pub run_asked : (input : Option (List ℕ)) (words : List (List ℕ)) (fault : Fault) → IsReason input words fault → status_of fault ≡ 3 → IsRunAsked input words
 run_asked input words fault (inr stopped) three = stopped_run input words stopped.asked fault stopped.stated stopped.why three
-run_asked input words fault (inl unasked) three = absurd (omega (arith, three, unasked_status unasked.said fault unasked.tells))
+run_asked input words fault (inl unasked) three = absurd (omega (arith, three, unasked_status unasked.reason fault unasked.tells))

@@ -1,13 +1,11 @@
 //! One run of the program.
-ghost use Rattle.std.specs.Prelude.{◌≡◌, ◌≢◌, ◌⊎◌, ◌^◌, ◌-◌, ◌+◌, ◌<◌, ◌≤◌, IfErr, OnOk, map};
+ghost use Rattle.std.specs.Prelude.{◌≡◌, ◌≢◌, ◌^◌, ◌-◌, ◌+◌, ◌<◌, ◌≤◌, IfErr, map};
 ghost use Rattle.command_line.specs.Told.{IsHelp};
-ghost use Rattle.reporting.specs.Writing.{WroteNothing};
 ghost use Rattle.bench_commands.specs.Answer.{GoesFor, path_of};
 ghost use Rattle.bench_commands.specs.Fault.{end_of};
-ghost use Rattle.bench_commands.specs.Serve.{GoesForWords, IsAsked, IsReason, IsRunAsked, IsWhy};
-ghost use Rattle.bench_commands.specs.Serve.{LeftOf, NamesNoInput, Serves, ServesFor, TellsOf};
+ghost use Rattle.bench_commands.specs.Serve.{EndsFor, GoesForWords, IsReason, IsRunAsked, NamesNoInput, TellsOf};
 ghost use Rattle.bench_commands.specs.Why.{StopsFor};
-ghost use Rattle.shell.specs.Ending.{MayHaveGone, Puts, Tells, Went, WentPart};
+ghost use Rattle.shell.specs.Ending.{Puts};
 ghost use Rattle.shell.specs.Input.{TakesAtMost, input_path, most_bytes};
 
 use crate::commands::answer;
@@ -123,20 +121,10 @@ pub fn serve<R: Files + Threads + Wait + Sync, I: Read, O: Outlet, F: Outlet>(
 ) -> u8
     requires outlet { O.failed outlet.old < 2 ^ 64 - 1 }
     requires faults { F.failed faults.old < 2 ^ 64 - 1 }
-    ensures statuses { result ≤ 4 }
-    ensures done { result ≡ 0 → Went O.told O.failed outlet.old outlet.new
-        (Serves (I.remaining input.old) (map (λ w. w.now) words.now)) }
-    ensures broken { result ≡ 4 → WentPart O.told O.failed outlet.old outlet.new
-        (ServesFor (I.remaining input.old) (map (λ w. w.now) words.now)) }
-    ensures refused { (result ≡ 1) ⊎ (result ≡ 2) → WroteNothing O.told O.failed outlet.old outlet.new }
-    ensures left { result ≡ 3 → MayHaveGone O.told O.failed outlet.old outlet.new
-        (LeftOf (I.remaining input.old) (map (λ w. w.now) words.now)) }
-    ensures asked { result ≡ 1 → IsAsked (map (λ w. w.now) words.now) }
+    ensures ends { EndsFor O.told O.failed outlet.old outlet.new F.told F.failed faults.old faults.new
+        (I.remaining input.old) (map (λ w. w.now) words.now) result }
     ensures accepted { result ≡ 3 → IsRunAsked (I.remaining input.old) (map (λ w. w.now) words.now) }
-    ensures silent { result ≡ 0 → WroteNothing F.told F.failed faults.old faults.new }
     ensures told { F.failed faults.new ≤ F.failed faults.old + 1 }
-    ensures why { let why = IsWhy (I.remaining input.old) (map (λ w. w.now) words.now) result in
-        result ≢ 0 → Tells F.told F.failed faults.old faults.new why }
     ensures taken { TakesAtMost (most_bytes + 1) (I.remaining input.old) (I.remaining input.new) }
     ensures untouched { NamesNoInput (map (λ w. w.now) words.now) → input.new ≡ input.old }
 {

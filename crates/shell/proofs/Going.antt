@@ -1,7 +1,8 @@
 -- What went out is what was wanted, by another name.
-use Rattle.std.proofs.Common.{◌≡◌, ◌⊎◌, sym, subst, inl, inr, ℕ, List, Option, Result, Ok, Err, IfErr, OnOk}
+use Rattle.std.proofs.Common.{◌≡◌, sym, subst, inl, inr, ℕ, List, Option, Result, Ok, Err, IfErr, OnOk}
 use Rattle.reporting.specs.Writing.{Wrote, WrotePart}
 use Rattle.shell.specs.Ending.{End, Goes, LeftAt, MayHaveGone, Puts, Tells, Went, WentPart, begun, cut, untouched}
+use Rattle.shell.specs.Serving.{GoesForWords}
 
 -- what follows for each failure follows for the one that is answered
 pub if_failure : {A F : Type 0} (P Q : F → Type 0) → ((failure : F) → P failure → Q failure) → (r : Result A F) → IfErr r P → IfErr r Q
@@ -37,18 +38,22 @@ module _ {O : Type 0} (told : O → Option (List ℕ)) (failed : O → ℕ) (old
   goes_as W X P Q L M e f g end_of (Err failure) goes = at_end_as P Q L M f g (end_of failure) goes
 
   -- words that state an order go as it does, and words that ask for help as that does
-  module _ {A F Order : Type 0} (end_of : F → End) (r : Result A F) (States : Order → Type 0) (Answers Writes Leaves : Order → List ℕ → Type 0) (AsksHelp : Type 0) where
-    abbrev GoesForWords : Type 0
-    GoesForWords =
-        Goes end_of told failed old new (λ piece. ((asked : Order) × States asked × Answers asked piece) ⊎ AsksHelp)
-        (λ piece. ((asked : Order) × States asked × Writes asked piece) ⊎ AsksHelp) (λ piece. (asked : Order) × States asked × Leaves asked piece) r
+  module _ {A F Order : Type 0} (end_of : F → End) (r : Result A F) (States : Order → Type 0) (IsHelp : List ℕ → Type 0)
+      (Answers Writes Leaves : Order → List ℕ → Type 0) where
+    abbrev Whole : Type 0
+    Whole = GoesForWords States IsHelp Answers Writes Leaves told failed old new end_of r
 
-    pub for_order : (asked : Order) → States asked → Goes end_of told failed old new (Answers asked) (Writes asked) (Leaves asked) r → GoesForWords
+    pub for_order : (asked : Order) → States asked
+        → Goes end_of told failed old new (Answers asked) (Writes asked) (Leaves asked) r → Whole
     for_order asked stated =
-        goes_as _ _ _ _ _ _ (λ piece is. inl (asked, stated, is)) (λ piece is. inl (asked, stated, is)) (λ piece is. (asked, stated, is)) end_of r
+        goes_as _ _ _ _ _ _ (λ piece is. inl (asked, stated, is)) (λ piece is. inl (asked, stated, is))
+        (λ piece is. (asked, stated, is)) end_of r
 
-    pub for_help : (IsHelp : Type 0) → (IsHelp → AsksHelp) → Puts end_of told failed old new (λ _. IsHelp) r → GoesForWords
-    for_help IsHelp asks = goes_as _ _ _ _ _ _ (λ piece is. inr (asks is)) (λ piece is. inr (asks is)) (λ piece is. absurd is) end_of r
+    pub for_help : (IsTold : List ℕ → Type 0) → ((piece : List ℕ) → IsTold piece → IsHelp piece)
+        → Puts end_of told failed old new IsTold r → Whole
+    for_help IsTold help =
+        goes_as _ _ _ _ _ _ (λ piece is. inr (help piece is)) (λ piece is. inr (help piece is)) (λ piece is. absurd is)
+        end_of r
 
   -- a piece that is wanted is put
   pub put_goes : (IsWanted : List ℕ → Type 0) {A F : Type 0} (end_of : F → End) (unwritten : F) → end_of unwritten ≡ cut → (r : Result A F) (piece : List ℕ)

@@ -6,21 +6,21 @@ use Rattle.shell.proofs.Going.{tells_as}
 
 -- ---- what a status says of the end
 
-one_to_four : (end : End) (n : ℕ) → HasStatus end n → (1 ≤ n) × (n ≤ 4)
+pub one_to_four : (end : End) (n : ℕ) → HasStatus end n → (1 ≤ n) × (n ≤ 4)
 one_to_four untouched n is = omega arith
 one_to_four _ n is = omega arith
 
 module _ {O : Type 0} (told : O → Option (List ℕ)) (failed : O → ℕ) (old new : O) (IsWritten IsLeft : List ℕ → Type 0) (n : ℕ) where
-  left_four : (end : End) → HasStatus end n → LeftAt told failed old new IsWritten IsLeft end → n ≡ 4 → WentPart told failed old new IsWritten
+  pub left_four : (end : End) → HasStatus end n → LeftAt told failed old new IsWritten IsLeft end → n ≡ 4 → WentPart told failed old new IsWritten
   left_four cut is left four = left
   left_four _ is left four = absurd (omega arith)
 
-  left_three : (end : End) → HasStatus end n → LeftAt told failed old new IsWritten IsLeft end → n ≡ 3 → MayHaveGone told failed old new IsLeft
+  pub left_three : (end : End) → HasStatus end n → LeftAt told failed old new IsWritten IsLeft end → n ≡ 3 → MayHaveGone told failed old new IsLeft
   left_three untouched is left three = inl left
   left_three begun is left three = left
   left_three cut is left three = absurd (omega arith)
 
-  left_low : (end : End) → HasStatus end n → LeftAt told failed old new IsWritten IsLeft end → (n ≡ 1) ⊎ (n ≡ 2) → WroteNothing told failed old new
+  pub left_low : (end : End) → HasStatus end n → LeftAt told failed old new IsWritten IsLeft end → (n ≡ 1) ⊎ (n ≡ 2) → WroteNothing told failed old new
   left_low untouched is left low = left
   left_low _ is left low = absurd (omega arith)
 

@@ -1,6 +1,7 @@
 use Rattle.std.proofs.Common.{map, inl, inr}
 use Rattle.std.proofs.lemmas.Result.{IfErr-weaker}
 use Rattle.command_line.specs.Order.{States}
+use Rattle.command_line.specs.Told.{AsksHelp, IsHelp}
 use Rattle.bench_commands.specs.Answer.{Answers, Leaves, Writes}
 use Rattle.bench_commands.specs.Fault.{end_of}
 use Rattle.shell.proofs.Going.{for_help, for_order}
@@ -9,8 +10,9 @@ use Rattle.bench_commands.proofs.serving.answer_words.Goals as goal
 pub returns-in-Ok-clause-text : goal.returns-in-Ok-clause-text
 returns-in-Ok-clause-text g c =
     let input = g.I.Read.remaining c.args.input.now in
-    for_order _ _ _ _ end_of c.carry_out.result (States (map (λ w. w.now) c.args.words.now)) (Answers input) (Writes input) (Leaves input) _ c.in-Ok.order c.in-Ok.ensures.stated
-    c.carry_out.ensures.text
+    let words = map (λ w. w.now) c.args.words.now in
+    for_order _ _ _ _ end_of c.carry_out.result (States words) (λ _. AsksHelp words) (Answers input) (Writes input)
+    (Leaves input) c.in-Ok.order c.in-Ok.ensures.stated c.carry_out.ensures.text
 
 pub returns-in-Ok-clause-why : goal.returns-in-Ok-clause-why
 returns-in-Ok-clause-why g c =
@@ -20,11 +22,16 @@ pub returns-in-Err-clause-text : goal.returns-in-Err-clause-text
 returns-in-Err-clause-text g c =
     let input = g.I.Read.remaining c.args.input.now in
     let words = map (λ w. w.now) c.args.words.now in
-    for_help _ _ _ _ end_of c.tell.result (States words) (Answers input) (Writes input) (Leaves input) _ _ (λ is. c.told_of.ensures.help is words c.in-Err.ensures.refused)
+    for_help _ _ _ _ end_of c.tell.result (States words) (λ _. AsksHelp words) (Answers input) (Writes input)
+    (Leaves input) (λ _. IsHelp c.told_of.result) (λ _ is. c.told_of.ensures.help is words c.in-Err.ensures.refused)
     c.tell.ensures.text
 
 pub returns-in-Err-clause-why : goal.returns-in-Err-clause-why
 returns-in-Err-clause-why g c =
     IfErr-weaker c.tell.result _ _
-    (λ fault is. inl (record { reason = c.in-Err.error; explains = c.in-Err.ensures.refused; said = c.told_of.result; is_said = c.told_of.ensures.told; tells = is }))
+    (λ fault is. inl (record {
+      reason = c.in-Err.error;
+      explains = c.in-Err.ensures.refused;
+      tells = (c.told_of.result, c.told_of.ensures.told, is);
+    }))
     c.tell.ensures.why

@@ -1,9 +1,13 @@
 use Rattle.std.proofs.Common.{◌∙◌, map, sym, arith}
+use Rattle.command_line.specs.Order.{Explains, States}
+use Rattle.command_line.specs.Told.{AsksHelp}
+use Rattle.bench_commands.specs.Answer.{Answers, Leaves, Writes}
 use Rattle.bench_commands.specs.Fault.{end_of, line_of, status_of}
-use Rattle.bench_commands.specs.Serve.{IsReason, LeftOf, Serves, ServesFor}
 use Rattle.bench_commands.specs.Inside.Statuses.{has_status}
-use Rattle.bench_commands.proofs.Stopping.{asked_at_one, run_asked}
-use Rattle.shell.proofs.Leaving.{ends}
+use Rattle.bench_commands.specs.Serve.{IsReason, TellsFor}
+use Rattle.bench_commands.specs.Why.{StopsFor}
+use Rattle.bench_commands.proofs.Stopping.{run_asked, unasked_status}
+use Rattle.shell.proofs.Serving.{ends, failure_of}
 use Rattle.bench_commands.proofs.serving.serve.Goals as goal
 
 pub returns : goal.returns
@@ -11,26 +15,19 @@ returns g c =
     let input = g.I.Read.remaining c.args.input.now in
     let words = map (λ w. w.now) c.args.words.now in
     let outcome = c.answer_words-outcome in
-    let n = c.ended.result in
-    let all =
-    ends status_of line_of end_of has_status g.F.Outlet.told g.F.Outlet.failed _ _ g.O.Outlet.told g.O.Outlet.failed _ _
-    (Serves input words) (ServesFor input words) (LeftOf input words) (IsReason input words) n outcome.result
-    c.ended.ensures.done c.ended.ensures.failed outcome.ensures.text outcome.ensures.why in
+    let ended =
+    ends status_of end_of has_status (States words) (Explains words) TellsFor (StopsFor input) unasked_status line_of
+    (λ _. AsksHelp words) (Answers input) (Writes input) (Leaves input) g.O.Outlet.told g.O.Outlet.failed _ _
+    g.F.Outlet.told g.F.Outlet.failed _ _ c.ended.result outcome.result c.ended.ensures.done c.ended.ensures.failed
+    outcome.ensures.text outcome.ensures.why in
     record {
-      statuses = all.few;
-      done = all.done;
-      broken = all.broken;
-      refused = all.refused;
-      left = all.left;
-      asked = λ one.
-          let at = all.stopped (λ zero. omega (arith, one, zero)) in
-          asked_at_one input words at.0 at.2 (sym at.1 ∙ one);
+      ends = ended;
       accepted = λ three.
-          let at = all.stopped (λ zero. omega (arith, three, zero)) in
+          let at =
+          failure_of status_of line_of g.F.Outlet.told g.F.Outlet.failed _ _ (IsReason input words) c.ended.result
+          (ended.why (λ zero. omega (arith, three, zero))) in
           run_asked input words at.0 at.2 (sym at.1 ∙ three);
-      silent = all.silent;
       told = c.ended.ensures.told;
-      why = all.why;
       taken = outcome.ensures.taken;
       untouched = outcome.ensures.untouched;
     }

@@ -4,7 +4,3 @@ use Rattle.clap.specs.Words.{app_of}
 use Rattle.command_line.specs.Commands.{IsLocal}
 use Rattle.command_line.proofs.command.with_argument.Goals as goal
 
-pub returns : goal.returns
-returns c app made =
-    let old = IfOk-at_ok (λ m. (app_of m ≡ app) × IsLocal m) c.in_ok-command.was made in
-    search rules
