@@ -53,13 +53,7 @@ fn text_of<R: Files + Threads + Sync + Clock, I: Read, W: Warned>(
             Some(study) => serve_study_check(rt, alloc, sources, study, input, watcher),
         },
         Order::Letters { sources } => serve_letters(rt, alloc, sources, input),
-        Order::Draw {
-            sources,
-            picture,
-            from,
-            until,
-            of,
-        } => serve_draw(rt, alloc, sources, *picture, *from, *until, *of, input),
+        Order::Draw { sources, picture } => serve_draw(rt, alloc, sources, picture, input),
         Order::Show {
             sources,
             grid,
