@@ -1,16 +1,15 @@
 -- What stands where a run of the program stops.
-use Rattle.std.proofs.Common.{◌≡◌, ◌⊎◌, ◌≤◌, ap, inl, inr, refl, ℕ, List, Option, None, Some, Result, Ok, Err, IfErr, OnOk, arith}
+use Rattle.std.proofs.Common.{◌≡◌, ◌⊎◌, ap, inl, inr, refl, ℕ, List, Option, None, Some, Result, Ok, Err, IfErr, OnOk}
 use Rattle.study_commands.specs.Answer.{Answers, GoesFor, IsNoSweep, Writes}
 use Rattle.study_commands.specs.Fault.{end_of, status_of}
-use Rattle.study_commands.specs.Inside.Statuses.{has_status}
-use Rattle.study_commands.specs.Serve.{AreAnswered, GoesForWords, IsAsked, IsNoFault, IsReason, TellsLine, TellsOf}
+use Rattle.study_commands.specs.Serve.{AreAnswered, IsNoFault, TellsLine, TellsOf}
 use Rattle.study_commands.specs.Why.{StopsFor}
 use Rattle.study_commands.specs.declared.fault.Fault.{Fault}
 use Rattle.study_commands.specs.declared.fault.Fault.TheVariants.{Words, WordsMemory, Write}
 use Rattle.reporting.specs.Writing.{Wrote, WrotePart}
 use Rattle.shell.proofs.Going.{goes_as, put_goes}
-use Rattle.shell.specs.Ending.{End, HasStatus, Puts, begun, cut, untouched}
-use Rattle.study_line.specs.Order.{AsksHelp, AsksVersion, Explains, States}
+use Rattle.shell.specs.Ending.{Puts}
+use Rattle.study_line.specs.Order.{AsksHelp, AsksVersion, Explains}
 use Rattle.study_line.specs.declared.order.Order.{Order}
 use Rattle.study_line.specs.declared.order.Order.TheVariants as order
 use Rattle.study_line.specs.declared.order.WordsError.{WordsError}
@@ -43,7 +42,7 @@ stops_at_write input (order.Check path (Some study)) = tt
 stops_at_write input _ = tt
 
 -- help and the version are told only where they were asked for
-answered : (words : List (List ℕ)) (reason : WordsError) → Explains words reason → (piece : List ℕ)
+pub answered : (words : List (List ℕ)) (reason : WordsError) → Explains words reason → (piece : List ℕ)
     → IsNoFault reason piece → AreAnswered words piece
 answered words (refusal.Help text) explains piece is = inl explains
 answered words refusal.Version explains piece is = inr (explains, is)
@@ -53,32 +52,13 @@ asked_for : (words : List (List ℕ)) (piece : List ℕ) → AreAnswered words p
 asked_for words piece (inl help) = inl help
 asked_for words piece (inr version) = inr version.0
 
-module _ {O A : Type 0} (told : O → Option (List ℕ)) (failed : O → ℕ) (old new : O) (words : List (List ℕ))
-    (r : Result A Fault) where
-  module _ (input : Option (List ℕ)) where
-    -- words that state an order go as it does
-    pub order_goes : (asked : Order) → States words asked → GoesFor told failed old new input asked r
-        → GoesForWords told failed old new input words r
-    order_goes asked stated =
-        goes_as told failed old new _ _ _ _ _ _ (λ piece is. inl (asked, stated, is))
-        (λ piece is. inl (asked, stated, is)) (λ piece is. (asked, stated, is)) end_of r
-
-    -- and words that ask for help or for the version as what is told of them
-    pub telling_goes : (reason : WordsError) → Explains words reason
-        → Puts end_of told failed old new (IsNoFault reason) r → GoesForWords told failed old new input words r
-    telling_goes reason explains =
-        goes_as told failed old new _ _ _ _ _ _ (λ piece is. inr (answered words reason explains piece is))
-        (λ piece is. inr (answered words reason explains piece is)) (λ piece is. absurd is) end_of r
-
-  -- so words of which that was told asked for it
-  pub telling_asked : (reason : WordsError) → Explains words reason
-      → Puts end_of told failed old new (IsNoFault reason) r → OnOk r (AsksHelp words ⊎ AsksVersion words)
-  telling_asked reason explains put = asked_of r put
-    where
-      asked_of : (r : Result A Fault) → Puts end_of told failed old new (IsNoFault reason) r
-          → OnOk r (AsksHelp words ⊎ AsksVersion words)
-      asked_of (Ok a) put = asked_for words put.piece (answered words reason explains put.piece put.is_wanted)
-      asked_of (Err fault) put = tt
+-- so words of which that was told asked for it
+pub telling_asked : {O A : Type 0} (told : O → Option (List ℕ)) (failed : O → ℕ) (old new : O) (words : List (List ℕ))
+    (r : Result A Fault) (reason : WordsError) → Explains words reason
+    → Puts end_of told failed old new (IsNoFault reason) r → OnOk r (AsksHelp words ⊎ AsksVersion words)
+telling_asked told failed old new words (Ok a) reason explains put =
+    asked_for words put.piece (answered words reason explains put.piece put.is_wanted)
+telling_asked told failed old new words (Err fault) reason explains put = tt
 
 -- words that state no order end with 2, or with 4 where help or the version can't be written
 line_status : (text : List ℕ) (f : Fault) → TellsLine text f → status_of f ≡ 2
@@ -86,28 +66,9 @@ line_status text (Words line) is = refl
 line_status text WordsMemory is = refl
 line_status text _ is = absurd is
 
-unasked_status : (reason : WordsError) (f : Fault) → TellsOf reason f → (status_of f ≡ 2) ⊎ (status_of f ≡ 4)
+pub unasked_status : (reason : WordsError) (f : Fault) → TellsOf reason f → (status_of f ≡ 2) ⊎ (status_of f ≡ 4)
 unasked_status (refusal.Help text) f is = inr (ap status_of is)
 unasked_status refusal.Version f is = inr (ap status_of is)
 unasked_status refusal.Form f is = inl (ap status_of is)
 unasked_status refusal.Memory f is = inl (ap status_of is)
 unasked_status _ f is = inl (line_status _ f is)
-
--- so 1 and 3 come of an order alone
-pub asked_so : (input : Option (List ℕ)) (words : List (List ℕ)) (f : Fault) → IsReason input words f
-    → (status_of f ≡ 1) ⊎ (status_of f ≡ 3) → IsAsked words
-asked_so input words f (inr stopped) at = (stopped.asked, stopped.stated)
-asked_so input words f (inl unasked) at =
-    absurd (omega (arith, at, unasked_status unasked.reason f unasked.tells))
-
--- with 0 nothing stopped, and what stands then does
-some_status : (end : End) (n : ℕ) → HasStatus end n → 1 ≤ n
-some_status untouched n is = omega (arith, is)
-some_status begun n is = omega (arith, is)
-some_status cut n is = omega (arith, is)
-
-pub at_zero : {A : Type 0} (n : ℕ) (Done : Type 0) (Tells : Fault → Type 0) (r : Result A Fault) → OnOk r Done
-    → IfErr r (λ fault. (n ≡ status_of fault) × Tells fault) → n ≡ 0 → Done
-at_zero n Done Tells (Ok a) done failed zero = done
-at_zero n Done Tells (Err fault) done failed zero =
-    absurd (omega (arith, zero, failed.0, some_status (end_of fault) (status_of fault) (has_status fault)))

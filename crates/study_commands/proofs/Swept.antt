@@ -82,20 +82,6 @@ module _ {input : Option (List ℕ)} {texts : SourceTexts} {study : StudyTexts} 
   front count piece text =
       record { sources = sources; grid = g; shard = shard; layout = layout; said = said; count = count; text = text }
 
-  -- so nothing is run, and nothing goes out
-  module _ {O : Type 0} (told : O → Option (List ℕ)) (failed : O → ℕ) (old : O) where
-    nothing : WroteNothing told failed old old
-    nothing = record { bytes = refl; failures = refl }
-
-    pub unready_leaves : (e : SweepError) (f : Fault) → CantBeRun sources g layout.groups shard e → IsFaultOf e f
-        → LeftAt told failed old old (IsSweepFront input texts study) (IsSweepFront input texts study) (end_of f)
-    unready_leaves (error.Refused point run reason) (Refused line) cant is = nothing
-    unready_leaves (error.Refused point run reason) _ cant is = absurd is
-    unready_leaves (error.NoSuchProcess point run group processes) (Refused line) cant is = nothing
-    unready_leaves (error.NoSuchProcess point run group processes) _ cant is = absurd is
-    unready_leaves error.Memory f cant is = rw is (inl nothing)
-    unready_leaves error.Write f cant is = absurd cant
-
   module _ {O : Type 0} (told : O → Option (List ℕ)) (failed : O → ℕ) (old new : O) where
     pub swept : WroteStudy sources g shard layout told failed old new
         → Went told failed old new (IsSweepAnswer input texts study)

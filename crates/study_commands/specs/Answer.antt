@@ -22,8 +22,8 @@ IsChecked input texts (Some study) piece = IsStudyCheck input texts study piece
 abbrev pub Answers : Option (List ℕ) → Order → List ℕ → Type 0
 Answers input (order.Check texts study) piece = IsChecked input texts study piece
 Answers input (order.Letters texts) piece = IsLettersAnswer input texts piece
-Answers input (order.Draw texts named from until of) piece =
-    IsDrawAnswer input texts named from until (option_map (λ w. w.now) of) piece
+Answers input (order.Draw texts words) piece =
+    IsDrawAnswer input texts words.picture words.from words.until (option_map (λ w. w.now) words.of) piece
 Answers input (order.Show texts grid point run) piece = IsShowAnswer input texts grid point run piece
 Answers input (order.Sweep texts study) piece = IsSweepAnswer input texts study piece
 
@@ -52,6 +52,6 @@ GoesFor told failed old new input asked outcome =
 abbrev pub texts_of : Order → SourceTexts
 texts_of (order.Check texts study) = texts
 texts_of (order.Letters texts) = texts
-texts_of (order.Draw texts named from until of) = texts
+texts_of (order.Draw texts words) = texts
 texts_of (order.Show texts grid point run) = texts
 texts_of (order.Sweep texts study) = texts

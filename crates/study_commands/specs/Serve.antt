@@ -7,7 +7,7 @@ use Rattle.study_commands.specs.Why.{StopsFor}
 use Rattle.study_commands.specs.declared.fault.Fault.{Fault}
 use Rattle.study_commands.specs.declared.fault.Fault.TheVariants.{Form, Words, WordsMemory, Write}
 use Rattle.printable.specs.Printable.{printable, printable_lines}
-use Rattle.shell.specs.Ending.{Goes, IsWhy as Why}
+use Rattle.shell.specs.Serving.{Ends, GoesForWords as Goes, IsReason as IsReasonOf}
 use Rattle.study_line.specs.Order.{AsksHelp, AsksVersion, Explains, States, version_text}
 use Rattle.study_line.specs.declared.order.Order.{Order}
 use Rattle.study_line.specs.declared.order.WordsError.{WordsError}
@@ -17,25 +17,12 @@ use Rattle.study_line.specs.declared.order.WordsError.TheVariants as refusal
 abbrev pub AreAnswered : List (List ℕ) → List ℕ → Type 0
 AreAnswered words piece = AsksHelp words ⊎ (AsksVersion words × (piece ≡ version_text))
 
--- the piece is what the words ask for
-abbrev pub Serves : Option (List ℕ) → List (List ℕ) → List ℕ → Type 0
-Serves input words piece =
-    ((asked : Order) × States words asked × Answers input asked piece) ⊎ AreAnswered words piece
-
--- the piece is what is written for the words, as far as it comes
-abbrev pub ServesFor : Option (List ℕ) → List (List ℕ) → List ℕ → Type 0
-ServesFor input words piece =
-    ((asked : Order) × States words asked × Writes input asked piece) ⊎ AreAnswered words piece
-
--- the piece is what is left of what the words ask for, where memory was refused
-abbrev pub LeftOf : Option (List ℕ) → List (List ℕ) → List ℕ → Type 0
-LeftOf input words piece = (asked : Order) × States words asked × Leaves input asked piece
-
 -- what went out for the words: what they ask for, or what is left where that stops
 abbrev pub GoesForWords : {O A : Type 0} (told : O → Option (List ℕ)) (failed : O → ℕ) (old new : O) → Option (List ℕ)
     → List (List ℕ) → Result A Fault → Type 0
 GoesForWords told failed old new input words outcome =
-    Goes end_of told failed old new (Serves input words) (ServesFor input words) (LeftOf input words) outcome
+    Goes (States words) (AreAnswered words) (Answers input) (Writes input) (Leaves input) told failed old new end_of
+    outcome
 
 -- what is told of a word that isn't one of those for its option
 abbrev pub other_word_line : (name word : List ℕ) → List ℕ
@@ -57,29 +44,17 @@ TellsOf (refusal.NoEach word) fault = TellsLine (other_word_line (codes "NoEach"
 TellsOf refusal.Form fault = fault ≡ Form
 TellsOf refusal.Memory fault = fault ≡ WordsMemory
 
--- the words state no order
-pub record IsUnasked (words : List (List ℕ)) (fault : Fault) : Type 0 where
-  pub reason : WordsError
-  pub explains : Explains words reason
-  pub tells : TellsOf reason fault
-
--- they state one, which isn't carried out
-pub record IsStopped (input : Option (List ℕ)) (words : List (List ℕ)) (fault : Fault) : Type 0 where
-  pub asked : Order
-  pub stated : States words asked
-  pub why : StopsFor input asked fault
-
 -- the words aren't followed for this fault
 abbrev pub IsReason : Option (List ℕ) → List (List ℕ) → Fault → Type 0
-IsReason input words fault = IsUnasked words fault ⊎ IsStopped input words fault
+IsReason input words = IsReasonOf (States words) (Explains words) TellsOf (StopsFor input)
 
--- why the program ends with this status and this line
-abbrev pub IsWhy : Option (List ℕ) → List (List ℕ) → (status : ℕ) → (line : List ℕ) → Type 0
-IsWhy input words = Why status_of line_of (IsReason input words)
-
--- the words make a whole order
-abbrev pub IsAsked : List (List ℕ) → Type 0
-IsAsked words = (asked : Order) × States words asked
+-- a run for the words ends with this status: what is out of the outlet by then, and what is told of a fault
+abbrev pub EndsFor : {O F : Type 0} (told : O → Option (List ℕ)) (failed : O → ℕ) (old new : O)
+    (told_of : F → Option (List ℕ)) (failed_of : F → ℕ) (before after : F) → Option (List ℕ) → List (List ℕ)
+    → (status : ℕ) → Type 0
+EndsFor told failed old new told_of failed_of before after input words status =
+    Ends (States words) (AreAnswered words) (Answers input) (Writes input) (Leaves input) told failed old new
+    status_of line_of (IsReason input words) told_of failed_of before after status
 
 -- the text told of the words is no fault: it is help, or the version
 abbrev pub IsNoFault : WordsError → List ℕ → Type 0

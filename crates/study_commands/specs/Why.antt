@@ -124,7 +124,7 @@ StopsChecked input texts (Some study) fault = StopsSweep input texts study fault
 abbrev pub StopsFor : Option (List ℕ) → Order → Fault → Type 0
 StopsFor input (order.Check texts study) fault = StopsChecked input texts study fault
 StopsFor input (order.Letters texts) fault = StopsLetters input texts fault
-StopsFor input (order.Draw texts named from until of) fault =
-    StopsPicture input texts named from until (option_map (λ w. w.now) of) fault
+StopsFor input (order.Draw texts words) fault =
+    StopsPicture input texts words.picture words.from words.until (option_map (λ w. w.now) words.of) fault
 StopsFor input (order.Show texts grid point run) fault = StopsShow input texts grid point run fault
 StopsFor input (order.Sweep texts study) fault = StopsSweep input texts study fault

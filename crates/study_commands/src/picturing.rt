@@ -20,7 +20,7 @@ use std::alloc::{AllocError, Global};
 use std::io::Read;
 use std::rt::Files;
 use study::words_between;
-use study_line::{Picture, SourceTexts};
+use study_line::{Picture, PictureTexts, SourceTexts};
 
 /// The processes that pieces of a word name.
 fn named_by(alloc: Global, pieces: &[&str]) -> Result<Vec<Pid>, Fault>
@@ -139,25 +139,22 @@ pub(crate) fn serve_draw<R: Files, I: Read>(
     rt: &R,
     alloc: Global,
     texts: &SourceTexts<'_>,
-    picture: Picture,
-    from: Option<u32>,
-    until: Option<u32>,
-    of: Option<&str>,
+    words: &PictureTexts<'_>,
     input: &mut I,
 ) -> Result<Vec<u8>, Fault>
-    ensures text { IfOk result (λ text. IsDrawAnswer (I.remaining input.old) texts.now picture from until
-        (option_map (λ w. w.now) of.entry) text.items) }
-    ensures refused { IfErr result (IsBefore (StopsPicture (I.remaining input.old) texts.now picture from until
-        (option_map (λ w. w.now) of.entry))) }
+    ensures text { IfOk result (λ text. IsDrawAnswer (I.remaining input.old) texts.now words.now.picture
+        words.now.from words.now.until (option_map (λ w. w.now) words.now.of) text.items) }
+    ensures refused { IfErr result (IsBefore (StopsPicture (I.remaining input.old) texts.now words.now.picture
+        words.now.from words.now.until (option_map (λ w. w.now) words.now.of))) }
     ensures taken { TakesAtMost (most_bytes + 1) (I.remaining input.old) (I.remaining input.new) }
     ensures untouched { NameNoInput texts.now → input.new ≡ input.old }
 {
-    let of = processes_named(alloc, picture, of)?;
+    let of = processes_named(alloc, words.picture, words.of)?;
     let scenario = scenario_at(rt, alloc, texts, input)?;
-    let from = from.unwrap_or(0);
-    let until = until.unwrap_or(scenario.horizon());
+    let from = words.from.unwrap_or(0);
+    let until = words.until.unwrap_or(scenario.horizon());
     match check_ticks(&scenario, from, until) {
-        Ok(()) => picture_of(alloc, texts.path, picture, &scenario, &of, from, until),
+        Ok(()) => picture_of(alloc, texts.path, words.picture, &scenario, &of, from, until),
         Err(error) => Err(fault_of(alloc, texts.path, &scenario, error)),
     }
 }

@@ -1,43 +1,77 @@
 //! Studies that are ready for their first run: all scenarios are read, and warnings are told.
-ghost use Rattle.std.specs.Prelude.{◌≡◌, false, IfErr, OnOk};
+ghost use Rattle.std.specs.Prelude.{◌≡◌, ◌+◌, false, IfErr, IfOk, OnOk};
+ghost use Rattle.shell.specs.Input.{TakesAtMost, most_bytes};
 ghost use Rattle.study.specs.Sources.{sources_of};
-ghost use Rattle.study_commands.specs.Sweep.{IsFaultOf};
+ghost use Rattle.study_commands.specs.Fault.{IsBefore};
+ghost use Rattle.study_commands.specs.File.{NameNoInput};
+ghost use Rattle.study_commands.specs.Sweep.{IsFaultOf, IsSaid};
 ghost use Rattle.study_commands.specs.Told.{IsToldAfterReading};
+ghost use Rattle.study_commands.specs.Why.{StopsSweep};
 ghost use Rattle.sweep.specs.Outcome.{AreReady, CantBeRun};
 
 use crate::fault::Fault;
-use crate::sweeping::fault_of;
+use crate::sweeping::{SaidStudy, fault_of, said_over};
 use crate::warn::warn_of_study;
 use crate::warned::Warned;
 use std::alloc::Global;
+use std::io::Read;
 use std::marker::Sync;
+use std::rt::Files;
 use std::thread::Threads;
 use std::time::Clock;
-use study::{Grid, Shard, Sources};
-use sweep::{Layout, SweepError, check_study};
+use study_line::{SourceTexts, StudyTexts};
+use sweep::{SweepError, check_study};
 
-/// Reads the scenarios of all runs of a shard's points, by so many threads, and then tells the watcher what may mislead
-/// of the study. The fault is that of the first run that can't be run, or of memory.
-pub(crate) fn make_ready<R: Threads + Sync + Clock, W: Warned>(
+/// Reads the scenarios of all runs of a shard's points, and then tells the watcher what may mislead of the study. The
+/// fault is that of the first run that can't be run, or of memory.
+fn make_ready<R: Threads + Sync + Clock, W: Warned>(
     rt: &R,
     alloc: Global,
     path: &str,
-    sources: &Sources,
-    grid: &Grid,
-    shard: Shard,
-    layout: &Layout,
-    threads: u8,
+    said: &SaidStudy,
     watcher: &mut W,
 ) -> Result<(), Fault>
-    ensures ready { OnOk result (AreReady (sources_of sources.now) grid.now layout.now.groups shard) }
-    ensures told { OnOk result
-        (IsToldAfterReading W.heard W.warned watcher.old watcher.new (sources_of sources.now) grid.now shard) }
+    ensures ready { OnOk result
+        (AreReady (sources_of said.now.sources) said.now.grid said.now.layout.groups said.now.shard) }
+    ensures told { OnOk result (IsToldAfterReading W.heard W.warned watcher.old watcher.new
+        (sources_of said.now.sources) said.now.grid said.now.shard) }
     ensures why { IfErr result (λ f. (e : SweepError)
-        × CantBeRun (sources_of sources.now) grid.now layout.now.groups shard e × IsFaultOf e f) }
+        × CantBeRun (sources_of said.now.sources) said.now.grid said.now.layout.groups said.now.shard e
+        × IsFaultOf e f) }
     ensures hidden { W.shows watcher.new ≡ false }
 {
-    match check_study(rt, alloc, sources, grid, shard, layout, threads, watcher) {
-        Ok(()) => Ok(warn_of_study(rt, alloc, sources, grid, shard, threads, watcher)?),
-        Err(error) => Err(fault_of(alloc, path, sources, grid, &error)),
+    let (shard, threads) = (said.shard, said.threads);
+    match check_study(
+        rt, alloc, &said.sources, &said.grid, shard, &said.layout, threads, watcher,
+    ) {
+        Ok(()) => Ok(warn_of_study(
+            rt, alloc, &said.sources, &said.grid, shard, threads, watcher,
+        )?),
+        Err(error) => Err(fault_of(alloc, path, &said.sources, &said.grid, &error)),
     }
+}
+
+/// The study that words say of the files that they name, `-` being the input, ready for its first run. The watcher is
+/// told before what may mislead of the study.
+pub(crate) fn ready_over<R: Files + Threads + Sync + Clock, I: Read, W: Warned>(
+    rt: &R,
+    alloc: Global,
+    texts: &SourceTexts<'_>,
+    study: &StudyTexts<'_>,
+    input: &mut I,
+    watcher: &mut W,
+) -> Result<SaidStudy, Fault>
+    ensures said { IfOk result (λ s.
+        IsSaid (I.remaining input.old) texts.now study.now (sources_of s.sources) s.grid s.shard s.layout) }
+    ensures ready { IfOk result (λ s. AreReady (sources_of s.sources) s.grid s.layout.groups s.shard) }
+    ensures told { IfOk result (λ s.
+        IsToldAfterReading W.heard W.warned watcher.old watcher.new (sources_of s.sources) s.grid s.shard) }
+    ensures why { IfErr result (IsBefore (StopsSweep (I.remaining input.old) texts.now study.now)) }
+    ensures taken { TakesAtMost (most_bytes + 1) (I.remaining input.old) (I.remaining input.new) }
+    ensures untouched { NameNoInput texts.now → input.new ≡ input.old }
+    ensures hidden { W.shows watcher.old ≡ false → W.shows watcher.new ≡ false }
+{
+    let said = said_over(rt, alloc, texts, study, input)?;
+    make_ready(rt, alloc, texts.path, &said, watcher)?;
+    Ok(said)
 }

@@ -1,15 +1,14 @@
 //! One run of the program.
-ghost use Rattle.std.specs.Prelude.{◌≡◌, ◌≢◌, ◌⊎◌, ◌^◌, ◌-◌, ◌+◌, ◌<◌, ◌≤◌, false, IfErr, IfOk, OnOk, map};
+ghost use Rattle.std.specs.Prelude.{◌≡◌, ◌^◌, ◌-◌, ◌+◌, ◌<◌, ◌≤◌, false, IfErr, IfOk, OnOk, map};
 ghost use Rattle.study_commands.specs.Answer.{Answers, GoesFor, IsNoSweep, texts_of};
 ghost use Rattle.study_commands.specs.Fault.{IsBefore, end_of};
 ghost use Rattle.study_commands.specs.File.{NameNoInput};
-ghost use Rattle.study_commands.specs.Serve.{GoesForWords, IsAsked, IsNoFault, IsReason, IsWhy, LeftOf};
-ghost use Rattle.study_commands.specs.Serve.{NamesNoInput, Serves, ServesFor, TellsLine, TellsOf, other_word_line};
+ghost use Rattle.study_commands.specs.Serve.{EndsFor, GoesForWords, IsNoFault, IsReason, NamesNoInput, TellsLine};
+ghost use Rattle.study_commands.specs.Serve.{TellsOf, other_word_line};
 ghost use Rattle.study_commands.specs.Told.{IsTold, IsToldFor};
 ghost use Rattle.printable.specs.Printable.{printable_lines};
 ghost use Rattle.study_commands.specs.Why.{StopsFor};
-ghost use Rattle.reporting.specs.Writing.{WroteNothing};
-ghost use Rattle.shell.specs.Ending.{MayHaveGone, Puts, Tells, Went, WentPart};
+ghost use Rattle.shell.specs.Ending.{Puts};
 ghost use Rattle.shell.specs.Input.{TakesAtMost, most_bytes};
 
 use crate::checking::serve_check;
@@ -54,13 +53,7 @@ fn text_of<R: Files + Threads + Sync + Clock, I: Read, W: Warned>(
             Some(study) => serve_study_check(rt, alloc, sources, study, input, watcher),
         },
         Order::Letters { sources } => serve_letters(rt, alloc, sources, input),
-        Order::Draw {
-            sources,
-            picture,
-            from,
-            until,
-            of,
-        } => serve_draw(rt, alloc, sources, *picture, *from, *until, *of, input),
+        Order::Draw { sources, picture } => serve_draw(rt, alloc, sources, picture, input),
         Order::Show {
             sources,
             grid,
@@ -187,19 +180,9 @@ pub fn serve<R: Files + Threads + Sync + Clock, I: Read, O: Outlet, F: Outlet, W
 ) -> u8
     requires outlet { O.failed outlet.old < 2 ^ 64 - 1 }
     requires faults { F.failed faults.old < 2 ^ 64 - 1 }
-    ensures statuses { result ≤ 4 }
-    ensures done { result ≡ 0 → Went O.told O.failed outlet.old outlet.new
-        (Serves (I.remaining input.old) (map (λ w. w.now) words.now)) }
-    ensures broken { result ≡ 4 → WentPart O.told O.failed outlet.old outlet.new
-        (ServesFor (I.remaining input.old) (map (λ w. w.now) words.now)) }
-    ensures refused { (result ≡ 1) ⊎ (result ≡ 2) → WroteNothing O.told O.failed outlet.old outlet.new }
-    ensures left { result ≡ 3 → MayHaveGone O.told O.failed outlet.old outlet.new
-        (LeftOf (I.remaining input.old) (map (λ w. w.now) words.now)) }
-    ensures asked { (result ≡ 1) ⊎ (result ≡ 3) → IsAsked (map (λ w. w.now) words.now) }
-    ensures silent { result ≡ 0 → WroteNothing F.told F.failed faults.old faults.new }
+    ensures ends { EndsFor O.told O.failed outlet.old outlet.new F.told F.failed faults.old faults.new
+        (I.remaining input.old) (map (λ w. w.now) words.now) result }
     ensures told { F.failed faults.new ≤ F.failed faults.old + 1 }
-    ensures why { let why = IsWhy (I.remaining input.old) (map (λ w. w.now) words.now) result in
-        result ≢ 0 → Tells F.told F.failed faults.old faults.new why }
     ensures taken { TakesAtMost (most_bytes + 1) (I.remaining input.old) (I.remaining input.new) }
     ensures untouched { NamesNoInput (map (λ w. w.now) words.now) → input.new ≡ input.old }
     ensures warned { result ≡ 0 → IsToldFor W.heard W.warned watcher.old watcher.new (I.remaining input.old)

@@ -11,10 +11,10 @@ ghost use Rattle.sweep.specs.StudyText.{numbers_of};
 
 use crate::fault::Fault;
 use crate::progress_line::time_of;
-use crate::ready::make_ready;
+use crate::ready::ready_over;
 use crate::reckoning::{Above, Reckoned, reckon};
 use crate::run_name::name_of_run;
-use crate::sweeping::{said_over, threads_for};
+use crate::sweeping::SaidStudy;
 use crate::warned::Warned;
 use diagnosis::ENTRIES_A_SECOND;
 use printable::Printable;
@@ -24,7 +24,7 @@ use std::marker::Sync;
 use std::rt::Files;
 use std::thread::Threads;
 use std::time::Clock;
-use study::{Grid, Shard, Sources};
+use study::Grid;
 use study_line::{SourceTexts, StudyTexts};
 
 /// About how many entries the runs have, and how long they take by so many threads.
@@ -74,19 +74,17 @@ fn reckoned_text(
 fn text_of<R: Threads + Sync>(
     rt: &R,
     alloc: Global,
-    sources: &Sources,
-    grid: &Grid,
-    shard: Shard,
-    threads: u8,
+    said: &SaidStudy,
 ) -> Result<String, AllocError>
     ensures { IfOk result (λ s. (reckoned : List ℕ) × (string_bytes s
-        ≡ study_begin (length (numbers_of grid.now shard)) (length (runs grid.now)) ++ reckoned)) }
+        ≡ study_begin (length (numbers_of said.now.grid said.now.shard)) (length (runs said.now.grid)) ++ reckoned)) }
 {
+    let (grid, threads) = (&said.grid, said.threads);
     let runs = grid.runs();
-    let its = shard.points(grid.points() as u32);
+    let its = said.shard.points(grid.points() as u32);
     let range = u64::from(its.start)..u64::from(its.end);
     let points = its.end - its.start;
-    let reckoned = reckon(rt, alloc, sources, grid, range, threads)?;
+    let reckoned = reckon(rt, alloc, &said.sources, grid, range, threads)?;
     let mut text = format!(in alloc; "ok: {points} points of {runs} runs each")?;
     text.push_str(reckoned_text(alloc, grid, &reckoned, threads)?.as_str())?;
     Ok(text)
@@ -111,10 +109,6 @@ pub(crate) fn serve_study_check<R: Files + Threads + Sync + Clock, I: Read, W: W
         (IsToldOfCheck W.heard W.warned watcher.old watcher.new (I.remaining input.old) texts.now study.now) }
     ensures hidden { W.shows watcher.old ≡ false → W.shows watcher.new ≡ false }
 {
-    let (sources, grid, shard, layout) = said_over(rt, alloc, texts, study, input)?;
-    let threads = threads_for(rt, study.threads);
-    make_ready(
-        rt, alloc, texts.path, &sources, &grid, shard, &layout, threads, watcher,
-    )?;
-    Ok(text_of(rt, alloc, &sources, &grid, shard, threads)?.into_bytes())
+    let said = ready_over(rt, alloc, texts, study, input, watcher)?;
+    Ok(text_of(rt, alloc, &said)?.into_bytes())
 }

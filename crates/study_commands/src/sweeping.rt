@@ -11,7 +11,7 @@ ghost use Rattle.study.specs.Sources.{sources_of};
 ghost use Rattle.shell.specs.Input.{TakesAtMost, most_bytes};
 
 use crate::fault::Fault;
-use crate::ready::make_ready;
+use crate::ready::ready_over;
 use crate::refused_run::{line_of_lack, line_of_run};
 use crate::sources::sources_over;
 use crate::study_words::{grid_of, groups_of, shard_of};
@@ -29,7 +29,7 @@ use study_line::{Each, SourceTexts, StudyTexts};
 use sweep::{Layout, LayoutError, Rows, SweepError, run_study};
 
 /// How many threads share the runs: as many as were asked for, or else one for each processor; at most 64.
-pub(crate) fn threads_for<R: Threads>(rt: &R, asked: Option<u64>) -> u8
+fn threads_for<R: Threads>(rt: &R, asked: Option<u64>) -> u8
     ensures few { result ≤ 64 }
     ensures asked { IfSome asked (λ count. count ≤ 64 → result ≡ count) }
 {
@@ -111,16 +111,31 @@ fn layout_of(
     ))
 }
 
-/// The study that words say of the files that they name, `-` being the input: the files, the grid, the shard and the
-/// layout of its rows.
-pub(crate) fn said_over<R: Files, I: Read>(
+/// A study that words say of the files that they name.
+#[derive(Drop)]
+pub(crate) struct SaidStudy {
+    /// The files.
+    pub(crate) sources: Sources,
+    /// Its points and the runs of each.
+    pub(crate) grid: Grid,
+    /// Which of its points are swept.
+    pub(crate) shard: Shard,
+    /// What its rows have.
+    pub(crate) layout: Layout,
+    /// How many threads share its runs.
+    pub(crate) threads: u8,
+}
+
+/// The study that words say of the files that they name, `-` being the input.
+pub(crate) fn said_over<R: Files + Threads, I: Read>(
     rt: &R,
     alloc: Global,
     texts: &SourceTexts<'_>,
     study: &StudyTexts<'_>,
     input: &mut I,
-) -> Result<(Sources, Grid, Shard, Layout), Fault>
-    ensures said { IfOk result (λ s. IsSaid (I.remaining input.old) texts.now study.now (sources_of s.0) s.1 s.2 s.3) }
+) -> Result<SaidStudy, Fault>
+    ensures said { IfOk result (λ s.
+        IsSaid (I.remaining input.old) texts.now study.now (sources_of s.sources) s.grid s.shard s.layout) }
     ensures why { IfErr result (IsBefore (StopsSweep (I.remaining input.old) texts.now study.now)) }
     ensures taken { TakesAtMost (most_bytes + 1) (I.remaining input.old) (I.remaining input.new) }
     ensures untouched { NameNoInput texts.now → input.new ≡ input.old }
@@ -129,7 +144,14 @@ pub(crate) fn said_over<R: Files, I: Read>(
     let shard = shard_of(alloc, study.shard)?;
     let layout = layout_of(alloc, &grid, study.each, &study.pairs, study.columns)?;
     let sources = sources_over(rt, alloc, texts, &grid, input)?;
-    Ok((sources, grid, shard, layout))
+    let threads = threads_for(rt, study.threads);
+    Ok(SaidStudy {
+        sources,
+        grid,
+        shard,
+        layout,
+        threads,
+    })
 }
 
 /// Answers `sweep`: the rows of the study's points, or of their runs; of the shard's where one is named. The watcher is
@@ -153,15 +175,12 @@ pub(crate) fn serve_sweep<R: Files + Threads + Sync + Clock, I: Read, O: Outlet,
         (IsToldOfSweep W.heard W.warned watcher.old watcher.new (I.remaining input.old) texts.now study.now) }
     ensures hidden { W.shows watcher.old ≡ false → W.shows watcher.new ≡ false }
 {
-    let (sources, grid, shard, layout) = said_over(rt, alloc, texts, study, input)?;
-    let threads = threads_for(rt, study.threads);
-    make_ready(
-        rt, alloc, texts.path, &sources, &grid, shard, &layout, threads, watcher,
-    )?;
+    let said = ready_over(rt, alloc, texts, study, input, watcher)?;
+    let (shard, threads) = (said.shard, said.threads);
     match run_study(
-        rt, alloc, &sources, &grid, shard, &layout, threads, outlet, watcher,
+        rt, alloc, &said.sources, &said.grid, shard, &said.layout, threads, outlet, watcher,
     ) {
         Ok(()) => Ok(()),
-        Err(error) => Err(fault_of(alloc, texts.path, &sources, &grid, &error)),
+        Err(error) => Err(fault_of(alloc, texts.path, &said.sources, &said.grid, &error)),
     }
 }

@@ -120,10 +120,10 @@ abbrev pub StatesIn : Text → List Row → Order → Type 0
 StatesIn name rows (order.Check sources study) = (name ≡ codes "check")
     × AreSourcesAt rows sources × MayBeStudyAt rows study
 StatesIn name rows (order.Letters sources) = (name ≡ codes "letters") × AreSourcesAt rows sources
-StatesIn name rows (order.Draw sources named from until of) = (name ≡ codes "draw")
-    × AreSourcesAt rows sources × IsPictureAt (codes "as") rows named
-    × MayBeTickAt (codes "from") rows from × MayBeTickAt (codes "until") rows until
-    × MayBeTextAt (codes "of") rows of
+StatesIn name rows (order.Draw sources words) = (name ≡ codes "draw")
+    × AreSourcesAt rows sources × IsPictureAt (codes "as") rows words.picture
+    × MayBeTickAt (codes "from") rows words.from × MayBeTickAt (codes "until") rows words.until
+    × MayBeTextAt (codes "of") rows words.of
 StatesIn name rows (order.Show sources grid point run) = (name ≡ codes "show")
     × AreSourcesAt rows sources × IsGridAt rows grid
     × IsNumberAt (codes "point") rows point × IsNumberAt (codes "run") rows run

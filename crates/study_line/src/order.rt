@@ -71,6 +71,19 @@ pub enum Picture {
     Letters,
 }
 
+/// A picture of a run, by texts that are still to be read.
+#[derive(Clone, Copy)]
+pub struct PictureTexts<'a> {
+    /// Which picture.
+    pub picture: Picture,
+    /// The first tick that is drawn, where it is said.
+    pub from: Option<u32>,
+    /// The tick before which the picture ends, where it is said.
+    pub until: Option<u32>,
+    /// The processes whose letters alone are drawn, as `1,3`, where it is said.
+    pub of: Option<&'a str>,
+}
+
 /// What a command line asks for.
 #[derive(Drop)]
 pub enum Order<'a> {
@@ -92,13 +105,7 @@ pub enum Order<'a> {
         /// The files, and what is set in them.
         sources: SourceTexts<'a>,
         /// Which picture.
-        picture: Picture,
-        /// The first tick that is drawn, where it is said.
-        from: Option<u32>,
-        /// The tick before which the picture ends, where it is said.
-        until: Option<u32>,
-        /// The processes whose letters alone are drawn, as `1,3`, where it is said.
-        of: Option<&'a str>,
+        picture: PictureTexts<'a>,
     },
     /// To print the scenario file of one run.
     Show {
@@ -308,13 +315,14 @@ fn read_letters<'a>(alloc: Global, found: &ArgMatches<'a>) -> Result<Order<'a>, 
 fn read_draw<'a>(alloc: Global, found: &ArgMatches<'a>) -> Result<Order<'a>, WordsError>
     ensures { Reads (StatesIn (codes "draw") (rows_of (found_of found.now))) result }
 {
-    Ok(Order::Draw {
-        sources: read_sources(alloc, found)?,
+    let sources = read_sources(alloc, found)?;
+    let picture = PictureTexts {
         picture: picture_at(alloc, found, "as")?,
         from: tick_if_at(found, "from"),
         until: tick_if_at(found, "until"),
         of: text_if_at(found, "of"),
-    })
+    };
+    Ok(Order::Draw { sources, picture })
 }
 
 /// What `show` asks for.

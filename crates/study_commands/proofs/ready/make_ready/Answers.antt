@@ -7,8 +7,8 @@ use Rattle.study_commands.proofs.ready.make_ready.Goals as goal
 
 pub fault_of-requires : goal.fault_of-requires
 fault_of-requires g c =
-    cant_of_run (sources_of c.args.sources.now) c.args.grid.now c.args.shard c.args.layout.now.groups c.in-Err.error
-    c.in-Err.ensures.err
+    let said = c.args.said.now in
+    cant_of_run (sources_of said.sources) said.grid said.shard said.layout.groups c.in-Err.error c.in-Err.ensures.err
 
 pub returns-in_ok-warn_of_study-in-Ok-clause-told : goal.returns-in_ok-warn_of_study-in-Ok-clause-told
 returns-in_ok-warn_of_study-in-Ok-clause-told g c = record {

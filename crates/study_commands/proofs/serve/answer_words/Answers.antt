@@ -1,12 +1,19 @@
 use Rattle.std.proofs.Common.{map, inl, inr, refl}
 use Rattle.std.proofs.lemmas.Result.{IfErr-weaker, on_ok_weaker}
-use Rattle.study_commands.proofs.Stopping.{order_goes, telling_asked, telling_goes}
+use Rattle.study_commands.specs.Answer.{Answers, Leaves, Writes}
+use Rattle.study_commands.specs.Fault.{end_of}
+use Rattle.study_commands.specs.Serve.{AreAnswered, IsNoFault}
+use Rattle.study_commands.proofs.Stopping.{answered, telling_asked}
+use Rattle.study_line.specs.Order.{States}
+use Rattle.shell.proofs.Going.{for_help, for_order}
 use Rattle.study_commands.proofs.serve.answer_words.Goals as goal
 
 pub returns-in-Ok-clause-text : goal.returns-in-Ok-clause-text
 returns-in-Ok-clause-text g c =
-    order_goes _ _ _ _ (map (λ w. w.now) c.args.words.now) c.carry_out.result
-    (g.I.Read.remaining c.args.input.now) c.in-Ok.order c.in-Ok.ensures.stated c.carry_out.ensures.text
+    let input = g.I.Read.remaining c.args.input.now in
+    let words = map (λ w. w.now) c.args.words.now in
+    for_order _ _ _ _ end_of c.carry_out.result (States words) (AreAnswered words) (Answers input) (Writes input)
+    (Leaves input) c.in-Ok.order c.in-Ok.ensures.stated c.carry_out.ensures.text
 
 pub returns-in-Ok-clause-why : goal.returns-in-Ok-clause-why
 returns-in-Ok-clause-why g c =
@@ -16,8 +23,11 @@ returns-in-Ok-clause-why g c =
 
 pub returns-in-Err-clause-text : goal.returns-in-Err-clause-text
 returns-in-Err-clause-text g c =
-    telling_goes _ _ _ _ (map (λ w. w.now) c.args.words.now) c.tell.result (g.I.Read.remaining c.args.input.now)
-    c.in-Err.error c.in-Err.ensures.refused c.tell.ensures.text
+    let input = g.I.Read.remaining c.args.input.now in
+    let words = map (λ w. w.now) c.args.words.now in
+    for_help _ _ _ _ end_of c.tell.result (States words) (AreAnswered words) (Answers input) (Writes input)
+    (Leaves input) (IsNoFault c.in-Err.error) (answered words c.in-Err.error c.in-Err.ensures.refused)
+    c.tell.ensures.text
 
 pub returns-in-Err-clause-why : goal.returns-in-Err-clause-why
 returns-in-Err-clause-why g c =

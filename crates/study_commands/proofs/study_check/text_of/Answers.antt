@@ -8,8 +8,8 @@ use Rattle.study_commands.proofs.study_check.text_of.Goals as goal
 
 pub returns : goal.returns
 returns g c =
-    let grid = c.args.grid.now in
-    let its = numbers_of grid c.args.shard in
+    let grid = c.args.said.now.grid in
+    let its = numbers_of grid c.args.said.now.shard in
     let count = c.points-its.result.end - c.points-its.result.start in
     let is : its ≡ range_with_len c.points-its.result.start count = search rules in
     let counted : length its ≡ count = ap length is ∙ length-range_with_len c.points-its.result.start count in

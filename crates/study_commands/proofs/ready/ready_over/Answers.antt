@@ -1,0 +1,13 @@
+use Rattle.std.proofs.Common.{rules}
+use Rattle.study_commands.specs.Fault.{IsBefore}
+use Rattle.study_commands.specs.Why.{StopsSweep}
+use Rattle.study_commands.proofs.Swept.{cant_stop}
+use Rattle.study_commands.proofs.ready.ready_over.Goals as goal
+
+pub returns-in_err-make_ready-clause-why : goal.returns-in_err-make_ready-clause-why
+returns-in_err-make_ready-clause-why g c =
+    let f = c.in_err-make_ready.field-0.0 in
+    let its = c.in_err-make_ready.ensures.why in
+    let why : IsBefore (StopsSweep (g.I.Read.remaining c.args.input.now) c.args.texts.now c.args.study.now) f =
+    cant_stop c.in_ok-said.ensures.said its.0 f its.1 its.2 in
+    search rules
