@@ -1,5 +1,5 @@
 -- Values that a map counts, and their percentiles.
-use Rattle.sweep.proofs.Words.{◌≡◌, ℕ, ◌+◌, ◌*◌, ◌<◌, ◌≤◌, Bool, true, false, cond, Some, None, List, [], ◌∷◌, ◌++◌, length, sym, ap, ◌∙◌, refl, subst, arith, suc, min, ◌-◌, ◌^◌, unwrap_or, nat_le, le-leb, ◌==◌, insert_entry, is_at, count_by, sum_by, AllByRecursion, Contains, keys_of, lookup, nat_cmp, match_ordering, is_eq, lt-leb, leb-true, leb-false, eqb-true, sum_by-cons, sum_by-append, count_by-le-length, mul-le-mul_right, passing, most_values, IsRanked, IsPercentile, at_most}
+use Rattle.sweep.proofs.Words.{◌≡◌, ℕ, ◌+◌, ◌*◌, ◌<◌, ◌≤◌, Bool, true, false, cond, Some, None, List, [], ◌∷◌, ◌++◌, length, sym, ap, ◌∙◌, refl, subst, arith, suc, min, ◌-◌, ◌^◌, unwrap_or, nat_le, le-leb, ◌==◌, insert_entry, is_at, count_by, sum_by, AllByRecursion, Contains, keys_of, lookup, nat_cmp, match_ordering, is_eq, lt-leb, leb-true, leb-false, eqb-true, sum_by-cons, sum_by-append, count_by-le-length, passing, most_values, IsRanked, IsPercentile, at_most}
 use Rattle.std.specs.List.Sorted.{IsStrictlySortedBy}
 use Rattle.std.specs.declared.cmp.Ordering.{Ordering}
 use Rattle.std.specs.declared.cmp.Ordering.TheVariants.{Less, Equal, Greater}
@@ -133,12 +133,6 @@ ranked_first p values infinite front e back s is short enough = record {
         by : (b : Bool) → nat_le e.0 w ≡ b → e.0 ≤ w
         by true q = leb-true e.0 w q
         by false q = absurd (omega (arith, short, covers, is (λ x. nat_le x w), below e back w (leb-false e.0 w q) front s))
-
--- nothing is ranked
-pub none_ranked : (p : ℕ) (values : List ℕ) (infinite : ℕ) → 1 ≤ p → p * (length values + infinite) ≡ 0 → IsPercentile p values infinite None
-none_ranked p values infinite low none w (k, lt, is) covers =
-    let some : 1 * (length values + infinite) ≤ p * (length values + infinite) = mul-le-mul_right (length values + infinite) low in
-    absurd (omega (arith, some, none, lt))
 
 module _ (p seen wanted : ℕ) (values : List ℕ) (infinite : ℕ) (es front rest : List (ℕ × ℕ))
     (split : es ≡ front ++ rest) (is : (test : ℕ → Bool) → count_by test values ≡ passing test es)

@@ -1,6 +1,5 @@
 -- What a watcher has heard: one more number, one more point, and nothing more.
-use Rattle.sweep.proofs.Words.{◌≡◌, ℕ, ◌-◌, ◌*◌, ◌<◌, ◌≤◌, ◌==◌, Bool, true, false, not, cond, List, [], ◌∷◌, ◌++◌, refl, sym, ap, ◌∙◌, subst, map, append-nil, arith, inl, inr, length, take, mul-sub, mul_comm, map-append, filter-append, filter_map-append, AllZip, filter, filter_map, range_with_len, ne_eqb, length-range_with_len, HaveJoined, joined_then, SourcesRecord, GridRecord, runs, ShardRecord, numbers_of, News, stands, limits, standing_in, limit_in, said_of, Rise, AreLimited, HeardReading, HeardRunning, HeardOfReading, HeardOfAllReading, HeardAllRuns, HeardSomeRuns, HeardSome}
-use Rattle.std.proofs.Common.{eq-eqb}
+use Rattle.sweep.proofs.Words.{◌≡◌, ℕ, ◌-◌, ◌*◌, ◌<◌, ◌≤◌, ◌==◌, Bool, true, false, not, cond, List, [], ◌∷◌, ◌++◌, refl, sym, ap, ◌∙◌, subst, map, append-nil, arith, inl, inr, length, take, mul-sub, mul_comm, map-append, filter-append, filter_map-append, AllZip, filter, filter_map, range_with_len, length-range_with_len, HaveJoined, joined_then, SourcesRecord, GridRecord, runs, ShardRecord, numbers_of, News, stands, limits, standing_in, limit_in, said_of, Rise, AreLimited, HeardReading, HeardRunning, HeardOfReading, HeardOfAllReading, HeardAllRuns, HeardSomeRuns, HeardSome}
 use Rattle.sweep.specs.declared.watcher.Pass.TheVariants.{Reading, Running}
 use Rattle.sweep.specs.declared.watcher.Standing.{Standing}
 use Rattle.sweep.proofs.Zipped.{zip_append, range_taken}
@@ -12,12 +11,6 @@ rise_both first mid last (n ∷ ns) ms is up = (is.0, rise_both n mid last ns ms
 -- a point of whose runs some passed the limit
 abbrev is_told : ℕ × ℕ → Bool
 is_told entry = not (entry.1 == 0)
-
-pub said_none : (point count : ℕ) → count ≡ 0 → said_of point count ≡ []
-said_none point count is = ap (λ c. cond c [] (limits point count ∷ [])) (eq-eqb count 0 is)
-
-pub said_some : (point count : ℕ) → (count ≡ 0 → ⊥) → said_of point count ≡ limits point count ∷ []
-said_some point count not_none = ap (λ c. cond c [] (limits point count ∷ [])) (ne_eqb count 0 not_none)
 
 -- what is said of a point is its limit, where that is told, and no standing
 said_limit : (point count : ℕ) → (filter_map standing_in (said_of point count) ≡ [])

@@ -51,7 +51,8 @@ module _ {W : Type 0} (heard : W → List News → W → Type 0) (old new : W) w
 
   -- the same of the runs that are run; and of each of these points of which runs passed their limit how many did, in
   -- the order of the points
-  pub record HeardRunning (sources : SourcesRecord) (g : GridRecord) (points runs done : ℕ) (complete : List ℕ) : Type 0 where
+  pub record HeardRunning (sources : SourcesRecord) (g : GridRecord) (points runs done : ℕ)
+      (complete : List ℕ) : Type 0 where
     pub news : List News
     pub heard_all : HaveJoined heard old new news
     pub numbers : List ℕ
@@ -78,7 +79,8 @@ module _ {W : Type 0} (heard : W → List News → W → Type 0) (old new : W) w
 
   abbrev pub HeardSomeRunning : SourcesRecord → GridRecord → (begin end : ℕ) → Type 0
   HeardSomeRunning sources g begin end = (done count : ℕ) × (done ≤ (end - begin) * length (runs g))
-      × (count ≤ end - begin) × HeardRunning heard old new sources g (end - begin) (length (runs g)) done (range_with_len begin count)
+      × (count ≤ end - begin)
+      × HeardRunning heard old new sources g (end - begin) (length (runs g)) done (range_with_len begin count)
 
   -- of all that they are read
   abbrev pub HeardOfAllReading : GridRecord → ShardRecord → Type 0

@@ -35,6 +35,7 @@ module _ (sources : SourcesRecord) (g : GridRecord) where
 -- whatever groups of pairs, is told of all before another
 abbrev pub TellsOn : GridRecord → {W : Type 0} (heard : W → List News → W → Type 0) (old new : W) → List RunNumbers
     → (from to : Limits) → Type 0
-TellsOn g {W} heard old new all from to = (sources : SourcesRecord) (groups : List Group) (start : W) (points done begin : ℕ)
-    → AreNumbersFrom sources g groups (next_counted g from) all → AreUnderWay sources g heard start old points done begin from
+TellsOn g {W} heard old new all from to = (sources : SourcesRecord) (groups : List Group) (start : W)
+    (points done begin : ℕ) → AreNumbersFrom sources g groups (next_counted g from) all
+    → AreUnderWay sources g heard start old points done begin from
     → AreUnderWay sources g heard start new points done begin to

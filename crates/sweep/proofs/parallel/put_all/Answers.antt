@@ -1,4 +1,4 @@
-use Rattle.sweep.proofs.Words.{◌≡◌, ◌<◌, [], ◌∷◌, sym, ap, ◌∙◌, vec_len, into_iter_items, nil_from_length, All-rest, with_answers}
+use Rattle.sweep.proofs.Words.{◌≡◌, ◌<◌, ◌∷◌, sym, ap, ◌∙◌, vec_len, into_iter_items, All-rest, with_answers}
 use Rattle.sweep.proofs.parallel.put_all.Goals as goal
 
 pub loop-place-preserved-in-Some : goal.loop-place-preserved-in-Some
@@ -24,8 +24,3 @@ loop-place-preserved g c =
           c.loop-place.invariant.left;
       same = ap (λ answers. with_answers c.loop-place.places.items answers) (sym e) ∙ c.loop-place.invariant.same;
     }
-
-pub returns : goal.returns
-returns g c =
-    let e : into_iter_items c.loop-place.place-iterator ≡ [] = nil_from_length _ (sym c.loop-place.place-iterator.rest.ok.0 ∙ c.in-None.ensures.steps.0) in
-    ap (λ answers. with_answers c.loop-place.places.items answers) (sym e) ∙ c.loop-place.invariant.same

@@ -1,4 +1,4 @@
-use Rattle.sweep.proofs.Words.{◌≡◌, ◌<◌, [], ◌∷◌, length, sym, ap, ◌∙◌, vec_len, All, into_iter_items, nil_from_length, All-rest, with_columns}
+use Rattle.sweep.proofs.Words.{◌≡◌, ◌<◌, ◌∷◌, length, sym, ap, ◌∙◌, vec_len, All, into_iter_items, All-rest, with_columns}
 use Rattle.sweep.proofs.Placed.{length_answers}
 use Rattle.sweep.proofs.parallel.put_columns.Goals as goal
 
@@ -17,8 +17,3 @@ loop-answers-preserved g c =
       same = ap (λ now. with_columns now left) c.put_all.ensures
           ∙ (ap (λ columns. with_columns places columns) (sym e) ∙ c.loop-answers.invariant.same);
     }
-
-pub returns : goal.returns
-returns g c =
-    let e : into_iter_items c.loop-answers.answers-iterator ≡ [] = nil_from_length _ (sym c.loop-answers.answers-iterator.rest.ok.0 ∙ c.in-None.ensures.steps.0) in
-    ap (λ columns. with_columns c.loop-answers.places.items columns) (sym e) ∙ c.loop-answers.invariant.same

@@ -1,4 +1,4 @@
-use Rattle.sweep.proofs.Words.{rules, ℕ, ◌+◌, arith, refl, ap, ◌*◌, sym, subst, runs_each, WroteUpTo}
+use Rattle.sweep.proofs.Words.{rules, ℕ, ◌+◌, arith, refl, sym, subst, runs_each, WroteUpTo}
 use Rattle.sweep.specs.declared.error.SweepError.TheVariants.{Memory, Write}
 use Rattle.sweep.proofs.Numbered.{unit_below, point_below}
 use Rattle.sweep.proofs.Reading.{if_err}
@@ -13,18 +13,6 @@ pub returns-then-self-runs-clause-done : goal.returns-then-self-runs-clause-done
 returns-then-self-runs-clause-done g c = λ sources start begin numbers way.
     let more = added_to sources c.args.grid.now c.args.layout.now c.args.self.now c.args.numbers.now c.add.new.self c.in_ok-add.ensures (omega (arith, c.runs_each-runs.ensures.value, c.runs_each-runs.ensures.high)) numbers way.added in
     record { out = way.out; added = record { trials = more.trials; each = more.each; summed = more.summed; run_low = search rules } }
-
-pub returns-in_err-add-clause-stops : goal.returns-in_err-add-clause-stops
-returns-in_err-add-clause-stops g c =
-    if_err c.from_residual.result _ Memory (search rules) (λ sources start begin end few numbers way.
-    let below = point_below c.args.self.now.unit c.args.self.now.run (runs_each c.args.layout.now.rows c.args.grid.now) _ c.requires.run refl end (omega (arith, few)) in
-    (c.args.self.now.unit, omega (arith, below), way.out))
-
-pub returns-in_err-text-clause-stops : goal.returns-in_err-text-clause-stops
-returns-in_err-text-clause-stops g c =
-    if_err c.from_residual-in_err-text.result _ Memory (search rules) (λ sources start begin end few numbers way.
-    let below = point_below c.args.self.now.unit c.args.self.now.run (runs_each c.args.layout.now.rows c.args.grid.now) _ c.requires.run refl end (omega (arith, few)) in
-    (c.args.self.now.unit, omega (arith, below), way.out))
 
 pub returns-in_err-write_text-clause-stops : goal.returns-in_err-write_text-clause-stops
 returns-in_err-write_text-clause-stops g c =
@@ -61,7 +49,3 @@ returns-clause-done g c = λ sources start begin numbers way.
           (wrote_more sources grid layout g.O.Outlet.told g.O.Outlet.failed start c.args.outlet.now c.write_text.new.outlet begin p.unit c.in_ok-text.text.items way.out rows (search rules));
       added = c.in_ok-self.ensures.added sources (omega arith);
     }
-
-pub returns-clause-number : goal.returns-clause-number
-returns-clause-number g c =
-    omega (arith, ap (λ n. n * runs_each c.args.layout.now.rows c.args.grid.now) c.in_ok-self.ensures.unit, c.in_ok-self.ensures.run, c.requires.run, c.if-self-runs.false, c.runs_each-runs.ensures.value)

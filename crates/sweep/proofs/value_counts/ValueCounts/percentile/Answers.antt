@@ -1,6 +1,6 @@
-use Rattle.sweep.proofs.Words.{◌≡◌, ℕ, ◌+◌, ◌-◌, ◌*◌, ◌^◌, ◌<◌, ◌≤◌, min, List, length, map, ap, sym, ◌∙◌, arith, mul-le-mul_right, deref_pair, most_values}
+use Rattle.sweep.proofs.Words.{◌≡◌, ℕ, ◌+◌, ◌-◌, ◌*◌, ◌^◌, ◌<◌, ◌≤◌, min, List, length, map, ap, ◌∙◌, arith, mul-le-mul_right, deref_pair, most_values}
 use Rattle.std.proofs.lemmas.Map.Iter.{rest_more, rest_all}
-use Rattle.sweep.proofs.Counting.{percentile_found, none_found, none_ranked}
+use Rattle.sweep.proofs.Counting.{percentile_found, none_found}
 use Rattle.sweep.proofs.value_counts.ValueCounts.percentile.Goals as goal
 
 wanted_is : (p infinite : ℕ) (values : List ℕ) {total all from wanted : ℕ} → p ≤ 100 → length values < most_values → infinite < 2 ^ 64 → total ≡ length values
@@ -10,13 +10,6 @@ wanted_is p infinite values {total} {all} {from} high few low is sum same times 
     let product : from * all ≡ p * (length values + infinite) = ap (λ n. n * all) same ∙ ap (λ n. p * n) every in
     let most : p * (length values + infinite) ≤ 100 * (length values + infinite) = mul-le-mul_right (length values + infinite) high in
     omega (arith, times, product, most)
-
-pub returns-then-wanted-eq0 : goal.returns-then-wanted-eq0
-returns-then-wanted-eq0 c values few_values few told =
-    let p = c.args.hundredths in
-    let infinite = c.args.infinite in
-    let wants = wanted_is p infinite values c.requires.high few_values few told.total c.saturating_add-all.ensures c.from.ensures c.saturating_mul-wanted.ensures in
-    none_ranked p values infinite c.requires.low (sym wants ∙ c.if-wanted-eq0.true)
 
 pub returns-then-wanted-reached : goal.returns-then-wanted-reached
 returns-then-wanted-reached c values few_values few told =
