@@ -154,7 +154,15 @@ pub(crate) fn serve_draw<R: Files, I: Read>(
     let from = words.from.unwrap_or(0);
     let until = words.until.unwrap_or(scenario.horizon());
     match check_ticks(&scenario, from, until) {
-        Ok(()) => picture_of(alloc, texts.path, words.picture, &scenario, &of, from, until),
+        Ok(()) => picture_of(
+            alloc,
+            texts.path,
+            words.picture,
+            &scenario,
+            &of,
+            from,
+            until,
+        ),
         Err(error) => Err(fault_of(alloc, texts.path, &scenario, error)),
     }
 }

@@ -42,10 +42,23 @@ fn make_ready<R: Threads + Sync + Clock, W: Warned>(
 {
     let (shard, threads) = (said.shard, said.threads);
     match check_study(
-        rt, alloc, &said.sources, &said.grid, shard, &said.layout, threads, watcher,
+        rt,
+        alloc,
+        &said.sources,
+        &said.grid,
+        shard,
+        &said.layout,
+        threads,
+        watcher,
     ) {
         Ok(()) => Ok(warn_of_study(
-            rt, alloc, &said.sources, &said.grid, shard, threads, watcher,
+            rt,
+            alloc,
+            &said.sources,
+            &said.grid,
+            shard,
+            threads,
+            watcher,
         )?),
         Err(error) => Err(fault_of(alloc, path, &said.sources, &said.grid, &error)),
     }

@@ -71,11 +71,7 @@ fn reckoned_text(
 }
 
 /// The text of a study that can be run.
-fn text_of<R: Threads + Sync>(
-    rt: &R,
-    alloc: Global,
-    said: &SaidStudy,
-) -> Result<String, AllocError>
+fn text_of<R: Threads + Sync>(rt: &R, alloc: Global, said: &SaidStudy) -> Result<String, AllocError>
     ensures { IfOk result (λ s. (reckoned : List ℕ) × (string_bytes s
         ≡ study_begin (length (numbers_of said.now.grid said.now.shard)) (length (runs said.now.grid)) ++ reckoned)) }
 {

@@ -178,7 +178,15 @@ pub(crate) fn serve_sweep<R: Files + Threads + Sync + Clock, I: Read, O: Outlet,
     let said = ready_over(rt, alloc, texts, study, input, watcher)?;
     let (shard, threads) = (said.shard, said.threads);
     match run_study(
-        rt, alloc, &said.sources, &said.grid, shard, &said.layout, threads, outlet, watcher,
+        rt,
+        alloc,
+        &said.sources,
+        &said.grid,
+        shard,
+        &said.layout,
+        threads,
+        outlet,
+        watcher,
     ) {
         Ok(()) => Ok(()),
         Err(error) => Err(fault_of(alloc, texts.path, &said.sources, &said.grid, &error)),

@@ -21,5 +21,7 @@ mod command;
 mod order;
 mod version;
 
-pub use order::{Each, GridTexts, Order, Picture, PictureTexts, SourceTexts, StudyTexts, WordsError, read_words};
+pub use order::{
+    Each, GridTexts, Order, Picture, PictureTexts, SourceTexts, StudyTexts, WordsError, read_words,
+};
 pub use version::version_line;
