@@ -27,13 +27,17 @@ word seed from to place = word_at 4 (key_of_seed seed) (stream_of from to) (plac
 abbrev pub fate_by : Link → (a b : ℕ) → Fate
 fate_by l a b = if nat_lt (a % 1000) l.loss then Lost else Delay (l.min + b % (l.max - l.min + 1))
 
+-- the fate of letter k of a link by its two words, those at places 2(k - 1) and 2(k - 1) + 1
+abbrev pub fate_by_words : Link → (seed from to number : ℕ) → Fate
+fate_by_words l seed from to number =
+    fate_by l (word seed from to (2 * (number - 1))) (word seed from to (2 * (number - 1) + 1))
+
 -- a letter that is sent on the link at this tick is lost in an outage
 abbrev pub is_cut : Record → (from to sent_at : ℕ) → Bool
 is_cut s from to sent_at = list_any (covers sent_at) (outages_on s from to)
 
--- the fate of a letter by its number on the link, from 1, and by the tick at which it is sent. Letter k has the words
--- at places 2(k - 1) and 2(k - 1) + 1, also where an outage makes it lost whatever they are
+-- the fate of a letter by its number on the link, from 1, and by the tick at which it is sent. Its words stand at their
+-- places also where an outage makes it lost whatever they are
 unfoldable pub fate_of : Record → (from to number sent_at : ℕ) → Fate
 fate_of s from to number sent_at =
-    if is_cut s from to sent_at then Lost
-    else fate_by (link s from to) (word s.seed from to (2 * (number - 1))) (word s.seed from to (2 * (number - 1) + 1))
+    if is_cut s from to sent_at then Lost else fate_by_words (link s from to) s.seed from to number

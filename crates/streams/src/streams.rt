@@ -1,7 +1,7 @@
 //! What becomes of letters, by the streams of their links.
 ghost use Rattle.std.specs.Prelude.{◌≡◌, ◌≢◌, ◌≤◌, ◌<◌, ◌+◌, ◌-◌, ◌*◌, ◌^◌, ℕ, IfOk, IfErr};
 ghost use Rattle.scenario_record.specs.Record.{Record};
-ghost use Rattle.streams.specs.Fate.{fate_of, fate_by as fate_for, word};
+ghost use Rattle.streams.specs.Fate.{fate_of, fate_by as fate_for, fate_by_words};
 
 use crate::fate::Fate;
 use crate::words::{SenderWords, pair_of};
@@ -52,9 +52,8 @@ impl<'a> Streams<'a> {
         requires from_one { from ≤ self.now.processes }
         requires to_one { to ≤ self.now.processes }
         ensures sure { IfOk result (λ fate. (number : ℕ) → fate ≡ fate_of self.now from to number sent_at) }
-        ensures by_words { IfErr result (λ l. (number : ℕ) → fate_of self.now from to number sent_at
-            ≡ fate_for l (word self.now.seed from to (2 * (number - 1)))
-            (word self.now.seed from to (2 * (number - 1) + 1))) }
+        ensures by_words { IfErr result (λ l. (number : ℕ)
+            → fate_of self.now from to number sent_at ≡ fate_by_words l self.now.seed from to number) }
         ensures ranges { IfErr result (λ l. (l.min ≤ l.max) × (l.max < 2 ^ 31)) }
     {
         if self.scenario.is_cut(from, to, sent_at) {

@@ -1,9 +1,9 @@
 //! Random words of a sender's links.
 ghost use Rattle.std.specs.Prelude.{◌≡◌, ◌≤◌, ◌<◌, ◌+◌, ◌-◌, ◌*◌, ◌^◌, ℕ, IfOk, MatchOption, ⊤};
-ghost use Rattle.std.specs.List.{All};
 ghost use Rattle.streams.specs.Fate.{key_of_seed, stream_of, word};
-ghost use Rattle.streams.specs.Words.{AreDrawn, AreWordsOf, IsDrawn, stands_at};
+ghost use Rattle.streams.specs.Words.{AreDrawn, AreWordsOf, Fits, IsBefore, stands_at};
 
+use crate::kept::{Drawn, Kept, LETTERS};
 use process_api::Pid;
 use rand_chacha::ChaCha8Rng;
 use rand_core::SeedableRng;
@@ -11,49 +11,26 @@ use rand_core::utils::NextWord;
 use std::alloc::{AllocError, Global};
 use std::marker::Model;
 
-/// How many letters of a link share a draw: their words are four blocks of ChaCha, which come together.
-const LETTERS: usize = 32;
-
-/// The two words of a letter of a link.
-#[derive(Clone, Copy)]
-struct Drawn {
-    // the letter's number on its link, and 0 where there is none
-    number: u64,
-    first: u32,
-    second: u32,
-}
-
-/// No letter's words.
-const NONE: Drawn = Drawn {
-    number: 0,
-    first: 0,
-    second: 0,
-};
-
 /// Words of a sender's links that are at hand for their next letters. Nothing that is answered depends on them: others
-/// are drawn where the seed, the sender or the letter is another one.
-///
-/// Letters with the same number on several links have their words side by side, since a sender often sends to all.
-/// Contracts see the seed and the sender.
+/// are drawn where the seed, the sender or the letter is another one. Contracts see the seed and the sender.
 #[derive(Drop)]
 pub struct SenderWords {
     seed: u64,
     // the sender's number
     from: u16,
-    // letter k of a link is in row (k - 1) mod 32, at the receiver's place
-    rows: Vec<Vec<Drawn>>,
+    // letter k of a link is in row (k - 1) mod 32
+    kept: Kept,
 }
 
 impl Model for SenderWords {
-    ghost use Rattle.std.specs.List.{All};
     ghost use Rattle.std.specs.Prelude.{ℕ};
-    ghost use Rattle.streams.specs.Words.{AreDrawn};
+    ghost use Rattle.streams.specs.Words.{AreDrawn, Fits};
 
     ghost Value = { ℕ × ℕ };
 
     ghost view = { λ w. (w.seed, w.from) };
 
-    ghost invariant = { λ w. All (λ row. AreDrawn w.seed w.from row.items) w.rows.items };
+    ghost invariant = { λ w. Fits w.kept × AreDrawn w.seed w.from w.kept };
 }
 
 /// The generator of a seed, at the start of stream 0.
@@ -78,7 +55,7 @@ fn stream_between(from: Pid, to: Pid) -> u64
 /// The generator of a link's stream, where the words of the letter with this number come next.
 fn generator_at(seed: u64, from: Pid, to: Pid, number: u64) -> ChaCha8Rng
     requires { 1 ≤ number }
-    ensures { result ≡ stands_at seed from to (2 * (number - 1)) }
+    ensures { IsBefore seed from to number result }
 {
     let mut generator = generator_of(seed);
     generator.set_stream(stream_between(from, to));
@@ -89,12 +66,10 @@ fn generator_at(seed: u64, from: Pid, to: Pid, number: u64) -> ChaCha8Rng
 /// The next two words.
 #[tactic(auto, unfolding(crate::specs::Fate::word))]
 fn next_pair(generator: &mut ChaCha8Rng) -> (u32, u32)
-    ensures words { (seed from to number : ℕ) → number < 2 ^ 64
-        → generator.old ≡ stands_at seed from to (2 * (number - 1))
-        → AreWordsOf seed from to number result.0 result.1 }
-    ensures next { (seed from to number : ℕ) → 1 ≤ number → number < 2 ^ 64
-        → generator.old ≡ stands_at seed from to (2 * (number - 1))
-        → generator.new ≡ stands_at seed from to (2 * number) }
+    ensures words { (seed from to k : ℕ) → k < 2 ^ 64
+        → IsBefore seed from to k generator.old → AreWordsOf seed from to k result.0 result.1 }
+    ensures next { (seed from to k : ℕ) → 1 ≤ k → k < 2 ^ 64
+        → IsBefore seed from to k generator.old → generator.new ≡ stands_at seed from to (2 * k) }
 {
     let first = generator.next_word();
     let second = generator.next_word();
@@ -117,38 +92,16 @@ fn row_of(number: u64) -> usize
     (number.wrapping_sub(1) % LETTERS as u64) as usize
 }
 
-/// Keeps the words of a letter in its row, where that has a place for the receiver.
-#[tactic(auto, using(crate::proofs::Kept::put_drawn))]
-fn put(row: &mut [Drawn], to: Pid, drawn: Drawn)
-    ensures { (seed from : ℕ) → IsDrawn seed from to drawn
-        → AreDrawn seed from row.old → AreDrawn seed from row.new }
-{
-    let place = usize::from(to.number());
-    if place < row.len() {
-        row[place] = drawn;
-    }
-}
-
-/// Keeps the words of a letter in the row at a place, if there is one.
-fn keep(rows: &mut Vec<Vec<Drawn>>, at: usize, to: Pid, drawn: Drawn)
-    ensures { (seed from : ℕ) → IsDrawn seed from to drawn
-        → All (λ row. AreDrawn seed from row.items) rows.old.items
-        → All (λ row. AreDrawn seed from row.items) rows.new.items }
-{
-    if at < rows.len() {
-        put(&mut rows[at], to, drawn);
-    }
-}
-
 /// Draws the words of the letters after one, up to the last of their rows, and keeps them.
-fn keep_next(rows: &mut Vec<Vec<Drawn>>, mut generator: ChaCha8Rng, to: Pid, number: u64)
-    requires { 1 ≤ number }
-    ensures { (seed from : ℕ) → generator ≡ stands_at seed from to (2 * number)
-        → All (λ row. AreDrawn seed from row.items) rows.old.items
-        → All (λ row. AreDrawn seed from row.items) rows.new.items }
+fn keep_next(kept: &mut Kept, mut generator: ChaCha8Rng, to: Pid, number: u64)
+    requires number { 1 ≤ number }
+    requires fits { Fits kept.old }
+    ensures fits { Fits kept.new }
+    ensures drawn { (seed from : ℕ) → generator ≡ stands_at seed from to (2 * number)
+        → AreDrawn seed from kept.old → AreDrawn seed from kept.new }
 {
     let mut last = number;
-    for at in row_of(number) + 1..LETTERS {
+    for row in row_of(number) + 1..LETTERS {
         let Some(number) = last.checked_add(1) else {
             return;
         };
@@ -158,21 +111,9 @@ fn keep_next(rows: &mut Vec<Vec<Drawn>>, mut generator: ChaCha8Rng, to: Pid, num
             first,
             second,
         };
-        keep(rows, at, to, drawn);
+        kept.put(row, to, drawn);
         last = number;
     }
-}
-
-/// Rows without words.
-#[tactic(auto, using(crate::proofs::Kept::no_words))]
-fn empty_rows(alloc: Global, places: usize) -> Result<Vec<Vec<Drawn>>, AllocError>
-    ensures { IfOk result (λ rows. (seed from : ℕ) → All (λ row. AreDrawn seed from row.items) rows.items) }
-{
-    let mut rows = Vec::with_capacity(alloc, LETTERS)?;
-    for _ in 0..LETTERS {
-        rows.push(vec![in alloc; NONE; places]?)?;
-    }
-    Ok(rows)
 }
 
 impl SenderWords {
@@ -190,7 +131,7 @@ impl SenderWords {
         Ok(SenderWords {
             seed,
             from: from.number(),
-            rows: empty_rows(alloc, places)?,
+            kept: Kept::new(alloc, places)?,
         })
     }
 
@@ -202,7 +143,7 @@ impl SenderWords {
         if self.seed == seed && self.from == from.number() {
             return;
         }
-        self.rows.clear();
+        self.kept.clear();
         self.seed = seed;
         self.from = from.number();
     }
@@ -214,8 +155,7 @@ impl SenderWords {
         ensures { MatchOption result ⊤
             (λ pair. AreWordsOf self.now.0 self.now.1 to number pair.0 pair.1) }
     {
-        let row = self.rows.get(row_of(number))?;
-        let drawn = row.get(usize::from(to.number()))?;
+        let drawn = self.kept.find(row_of(number), to)?;
         if drawn.number != number {
             return None;
         }
@@ -230,7 +170,8 @@ impl SenderWords {
     {
         let mut generator = generator_at(self.seed, from, to, number);
         let pair = next_pair(&mut generator);
-        keep_next(&mut self.rows, generator, to, number);
+        self.kept.make_ready();
+        keep_next(&mut self.kept, generator, to, number);
         pair
     }
 
