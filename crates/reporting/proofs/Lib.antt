@@ -6,6 +6,7 @@ pub mod Closing
 pub mod Layers
 pub mod Fed
 pub mod Followed
+pub mod Fronts
 pub mod Listing
 mod Examples
 pub mod Joining

@@ -1,8 +1,8 @@
 //! Rows of a report.
-ghost use Rattle.std.specs.Prelude.{◌≡◌, ◌++◌, map, OnOk};
+ghost use Rattle.std.specs.Prelude.{◌≡◌, ◌++◌, map, IfOk, OnOk};
 ghost use Rattle.reporting.specs.ReportText.{run_text, verdict_text, pair_text, decision_text};
 ghost use Rattle.reporting.specs.Rows.{IsBetweenRows, text_of};
-ghost use Rattle.reporting.specs.Inside.Values.{row_about, rows_about, value_text};
+ghost use Rattle.reporting.specs.Inside.Values.{front_of, rows_about, value_text};
 
 use crate::pair_measures::PairMeasures;
 use crate::rows::Rows;
@@ -10,7 +10,7 @@ use crate::summary::Summary;
 use crate::values::{Value, of_answer, of_detection, of_tick, of_truth};
 use itoa::Buffer;
 use judges::{Outcome, Verdicts};
-use std::alloc::AllocError;
+use std::alloc::{AllocError, Global};
 
 /// What rows are about. The layer, the observer and the subject are 0 where they have none.
 #[derive(Clone, Copy)]
@@ -21,35 +21,25 @@ struct About {
     subject: u16,
 }
 
-/// Adds the row of a value, which has a name.
-#[tactic(auto, unfolding(crate::specs::ReportText::report_row))]
-fn push_value(
-    rows: &mut Rows,
-    about: About,
-    name: &'static str,
-    value: Value,
-) -> Result<(), AllocError>
-    requires { IsBetweenRows rows.old }
-    ensures between { OnOk result (IsBetweenRows rows.new) }
-    ensures text { OnOk result (
-        text_of rows.new ≡ text_of rows.old ++ row_about about (name.now, value_text value)) }
-{
-    let mut layer = Buffer::new();
-    let mut observer = Buffer::new();
-    let mut subject = Buffer::new();
-    let mut number = Buffer::new();
-    let text = value.text(&mut number);
-    rows.push(&[
-        about.section.as_bytes(),
-        layer.format(about.layer).as_bytes(),
-        observer.format(about.observer).as_bytes(),
-        subject.format(about.subject).as_bytes(),
-        name.as_bytes(),
-        text.as_bytes(),
-    ])
+impl About {
+    /// The fields that all its rows begin with, as they stand there.
+    fn front(&self, alloc: Global) -> Result<Vec<u8>, AllocError>
+        ensures { IfOk result (λ front. front.items ≡ front_of self.now) }
+    {
+        let mut number = Buffer::new();
+        let mut front = Vec::with_capacity(alloc, 32)?;
+        front.extend_from_slice(self.section.as_bytes())?;
+        front.push(b',')?;
+        front.extend_from_slice(number.format(self.layer).as_bytes())?;
+        front.push(b',')?;
+        front.extend_from_slice(number.format(self.observer).as_bytes())?;
+        front.push(b',')?;
+        front.extend_from_slice(number.format(self.subject).as_bytes())?;
+        Ok(front)
+    }
 }
 
-/// Adds the rows of these values, each with its name.
+/// Adds the rows of these values, each with its name. The fields before the names are formed once.
 #[tactic(auto, unfolding(crate::specs::ReportText::report_rows))]
 fn push_values(
     rows: &mut Rows,
@@ -61,8 +51,11 @@ fn push_values(
     ensures text { OnOk result (
         text_of rows.new ≡ text_of rows.old ++ rows_about about (map (λ v. (v.0.now, value_text v.1)) values.now)) }
 {
+    let front = about.front(rows.allocator())?;
     for (name, value) in values {
-        push_value(rows, about, name, *value)?;
+        let mut number = Buffer::new();
+        let text = value.text(&mut number);
+        rows.push(&[&front, name.as_bytes(), text.as_bytes()])?;
     }
     Ok(())
 }

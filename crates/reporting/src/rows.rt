@@ -25,6 +25,11 @@ impl Rows {
         Ok(Rows { writer })
     }
 
+    /// Where its memory comes from.
+    pub(crate) fn allocator(&self) -> Global {
+        *self.writer.get_ref().allocator()
+    }
+
     /// Adds a row, of two fields or more.
     pub fn push(&mut self, fields: &[&[u8]]) -> Result<(), AllocError>
         requires between { IsBetweenRows self.old }

@@ -1,5 +1,5 @@
 -- What the code's events and letters are.
-use Rattle.process_api.specs.Cells.{IsSomeKnown}
+use Rattle.process_api.specs.Cells.{IsSomeKnown, Vector}
 use Rattle.process_api.specs.Sets.{HasAbove, of_word}
 use Rattle.process_api.specs.declared.message.Letter.{Letter}
 use Rattle.process_api.specs.declared.message.Payload.{Payload}
@@ -9,7 +9,7 @@ use Rattle.process_api.specs.declared.message.StepInput.TheVariants as input
 use Rattle.trace_laws.specs.Step.{Event}
 use Rattle.trace_laws.specs.declared.event.Taken.{Taken}
 use Rattle.trace_laws.specs.declared.event.Taken.TheVariants as taken
-use Rattle.std.specs.Prelude.{ℕ, ◌-◌, ◌+◌, ◌<◌, ◌≤◌, ◌^◌, ◌⊎◌, ⊤, replicate, None}
+use Rattle.std.specs.Prelude.{ℕ, ◌≤◌, ◌^◌, ◌⊎◌, ⊤, length, replicate, None}
 
 -- what a process takes, where this one is the sender
 abbrev pub input_of : ℕ → Taken → StepInput
@@ -18,11 +18,11 @@ input_of sender (taken.Wake tag) = input.Wake tag
 input_of sender taken.Alive = input.Letter sender payload.Alive
 input_of sender (taken.Heartbeat number) = input.Letter sender (payload.Heartbeat number)
 input_of sender (taken.Suspects word) = input.Letter sender (payload.Suspects (of_word word))
-input_of sender (taken.Estimate round value age) = input.Letter sender (payload.Estimate round value (round - age))
-input_of sender (taken.Proposal round value) = input.Letter sender (payload.Proposal round value)
-input_of sender (taken.Reply round ack) = input.Letter sender (payload.Reply round ack)
-input_of sender (taken.Decide round value) = input.Letter sender (payload.Decide round value)
-input_of sender (taken.Empty alloc round n) = input.Letter sender (payload.Vector round (replicate n None))
+input_of sender (taken.Estimate round value stamp) = input.Letter sender (payload.Estimate round value stamp)
+input_of sender (taken.Proposal value round) = input.Letter sender (payload.Proposal round value)
+input_of sender (taken.Reply ack round) = input.Letter sender (payload.Reply round ack)
+input_of sender (taken.Decide value round) = input.Letter sender (payload.Decide round value)
+input_of sender (taken.Empty alloc n round) = input.Letter sender (payload.Vector round (replicate n None))
 input_of sender (taken.Aside what) = input.Letter sender what.value
 
 -- the event that a letter becomes
@@ -38,15 +38,19 @@ said_in _ = payload.Alive
 abbrev pub letter_of : Event → Letter
 letter_of e = record { key = e.0; payload = said_in e.1 }
 
--- a stamp that is after its round, or 2^32 rounds before it or more
-abbrev pub IsFarFrom : (round stamp : ℕ) → Type 0
-IsFarFrom round stamp = (round < stamp) ⊎ (stamp + 2 ^ 32 ≤ round)
+-- a round and a stamp of which one doesn't fit into 32 bits
+abbrev pub AreLong : (round stamp : ℕ) → Type 0
+AreLong round stamp = (2 ^ 32 ≤ round) ⊎ (2 ^ 32 ≤ stamp)
 
--- what takes memory of its own: a set with a member above 64, cells of a round of which one is filled, all cells of the
--- last round, or a stamp that is far from its round
+-- cells of which one is filled, or of which there are too many to count in 32 bits
+abbrev pub AreFilled : Vector → Type 0
+AreFilled cells = IsSomeKnown cells ⊎ (2 ^ 32 ≤ length cells)
+
+-- what takes memory of its own: a set with a member above 64, cells of a round that are filled, all cells of the last
+-- round, or a long round or stamp
 abbrev pub LiesAside : Payload → Type 0
 LiesAside (payload.Suspects set) = HasAbove 64 set
-LiesAside (payload.Vector round cells) = IsSomeKnown cells
+LiesAside (payload.Vector round cells) = AreFilled cells
 LiesAside (payload.Last cells) = ⊤
-LiesAside (payload.Estimate round value stamp) = IsFarFrom round stamp
+LiesAside (payload.Estimate round value stamp) = AreLong round stamp
 LiesAside _ = ⊥

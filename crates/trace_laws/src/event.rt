@@ -1,14 +1,14 @@
 //! Events, which wait for a process.
-ghost use Rattle.std.specs.Prelude.{◌≡◌, ◌+◌, ℕ, IfErr, IfOk, MatchOption, OnErr};
+ghost use Rattle.std.specs.Prelude.{◌≡◌, ℕ, IfErr, IfOk, MatchOption, None, OnErr, replicate};
 ghost use Rattle.trace_laws.specs.World.{start_of};
-ghost use Rattle.trace_laws.specs.Taken.{IsFarFrom, LiesAside, event_of, input_of};
+ghost use Rattle.trace_laws.specs.Taken.{AreFilled, AreLong, LiesAside, event_of, input_of};
 
 use process_api::{Cells, Key, Payload, Pid, ProcSet, StepInput, Tag};
 use std::alloc::{AllocError, Global};
 use std::marker::Model;
 use std::mem::replace;
 
-/// What the receiver of an event takes, in 24 bytes. The sender of a letter stands in the event's key alone. A payload
+/// What the receiver of an event takes, in 16 bytes. The sender of a letter stands in the event's key alone. A payload
 /// that doesn't fit into so few bytes lies aside.
 #[derive(Drop)]
 enum Taken {
@@ -18,23 +18,31 @@ enum Taken {
     Heartbeat { number: u64 },
     // the set that the word says: none is above 64
     Suspects { word: u64 },
-    // the stamp is so many rounds before the round
-    Estimate { round: u64, value: u32, age: u32 },
-    Proposal { round: u64, value: u32 },
-    Reply { round: u64, ack: bool },
-    Decide { round: u64, value: u32 },
+    Estimate { round: u32, value: u32, stamp: u32 },
+    Proposal { value: u32, round: u64 },
+    Reply { ack: bool, round: u64 },
+    Decide { value: u32, round: u64 },
     // a vector of n empty cells
-    Empty { alloc: Global, round: u64, n: usize },
+    Empty { alloc: Global, n: u32, round: u64 },
     Aside(Box<Payload>),
 }
 
-/// How many rounds a stamp is before its round, where it is, and not by too many for 32 bits.
+/// Both numbers, where they fit into 32 bits.
 #[inline(always)]
-fn age_of(round: u64, stamp: u64) -> Option<u32>
-    ensures { MatchOption result (IsFarFrom round stamp) (λ age. stamp + age ≡ round) }
+fn short_of(round: u64, stamp: u64) -> Option<(u32, u32)>
+    ensures { MatchOption result (AreLong round stamp) (λ both. (both.0 ≡ round) × (both.1 ≡ stamp)) }
 {
-    let age = round.checked_sub(stamp)?;
-    u32::try_from(age).ok()
+    let round = u32::try_from(round).ok()?;
+    let stamp = u32::try_from(stamp).ok()?;
+    Some((round, stamp))
+}
+
+/// How many cells there are, where all are empty.
+fn empty_count(cells: &Cells) -> Option<u32>
+    ensures { MatchOption result (AreFilled cells.now) (λ n. cells.now ≡ replicate n None) }
+{
+    let n = cells.all_empty()?;
+    u32::try_from(n).ok()
 }
 
 impl Taken {
@@ -75,11 +83,15 @@ impl Taken {
                 round,
                 value,
                 stamp,
-            } => match age_of(round, stamp) {
-                Some(age) => Taken::Estimate { round, value, age },
+            } => match short_of(round, stamp) {
+                Some((round, stamp)) => Taken::Estimate {
+                    round,
+                    value,
+                    stamp,
+                },
                 None => Taken::aside(alloc, payload)?,
             },
-            Payload::Vector { round, cells } => match cells.all_empty() {
+            Payload::Vector { round, cells } => match empty_count(cells) {
                 Some(n) => Taken::Empty {
                     alloc,
                     round: *round,
@@ -103,17 +115,21 @@ impl Taken {
             Taken::Alive => Payload::Alive,
             &mut Taken::Heartbeat { number } => Payload::Heartbeat { number },
             &mut Taken::Suspects { word } => Payload::Suspects(ProcSet::of_word(word)),
-            &mut Taken::Estimate { round, value, age } => Payload::Estimate {
+            &mut Taken::Estimate {
                 round,
                 value,
-                stamp: round.saturating_sub(u64::from(age)),
+                stamp,
+            } => Payload::Estimate {
+                round: u64::from(round),
+                value,
+                stamp: u64::from(stamp),
             },
             &mut Taken::Proposal { round, value } => Payload::Proposal { round, value },
             &mut Taken::Reply { round, ack } => Payload::Reply { round, ack },
             &mut Taken::Decide { round, value } => Payload::Decide { round, value },
             &mut Taken::Empty { alloc, round, n } => Payload::Vector {
                 round,
-                cells: Cells::empty(alloc, n),
+                cells: Cells::empty(alloc, n as usize),
             },
             Taken::Aside(payload) => replace(&mut **payload, Payload::Alive),
         };
@@ -177,8 +193,7 @@ impl Event {
     /// # Errors
     ///
     /// `AllocError` where memory was refused, for a letter with a set that has a member above 64, with cells that
-    /// aren't all empty, or with a stamp that is after its round, or 2^32 rounds before it or more. It is in its place
-    /// then.
+    /// aren't all empty, or with a stamp and a round of which one is 2^32 or more. It is in its place then.
     #[inline(always)]
     pub fn letter(alloc: Global, key: Key, payload: &mut Payload) -> Result<Event, AllocError>
         ensures event { IfOk result (λ event. event ≡ event_of (record { key = key; payload = payload.old })) }

@@ -7,7 +7,7 @@ use process_api::{Key, Letter, Payload, StepInput};
 use std::alloc::{AllocError, Global};
 use std::marker::Model;
 
-/// A letter on its way, in 40 bytes: it lies as the event that it becomes. Contracts see the letter.
+/// A letter on its way, in 32 bytes: it lies as the event that it becomes. Contracts see the letter.
 #[derive(Drop)]
 pub struct Parcel {
     event: Event,
