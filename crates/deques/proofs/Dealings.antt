@@ -15,7 +15,7 @@ use Rattle.ledger.specs.Ledger.{has_taken, new_pass, told_in, AreTold, IsBalance
 use Rattle.ledger.specs.Ledger as ledger
 use Rattle.ledger.proofs.Ledgers.{takes, among}
 use Rattle.ledger.proofs.Totals.{gather_same, gather_more}
-use Rattle.deques.specs.Deques.{DequeId, OwnerView, PermitView, HandView, owner_of, permit_of, hand_of, MayTell, Popped, Stole, TookOne}
+use Rattle.deques.specs.Deques.{DequeId, OwnerView, PermitView, HandView, owner_of, permit_of, hand_of, hand_at, MayTell, Popped, Stole, TookOne}
 
 -- ---- one deque
 
@@ -80,9 +80,6 @@ module _ {T : Type 0} where
   last_in a f x =
       subst (λ (p : List T × List T). IsPermutation p.0 p.1) (λ i. (sym (append_assoc a f (x ∷ [])) i, sym (append_assoc a (x ∷ []) f) i))
       (IsPermutation-append_right a _ _ (IsPermutation-append_comm f (x ∷ [])))
-
-  abbrev pub hand_at : OwnerView T → List (PermitView T) → HandView T
-  hand_at o ps = hand_of (o.deque, o.put) (map (λ p. p.deque) ps) (flat_map (λ p. p.known) ps) (o.taken ++ flat_map (λ p. p.taken) ps)
 
   pub hand_popped : (o o' : OwnerView T) (ps : List (PermitView T)) (x : T) → o.told ≡ Some o.put → ((y : T) → Contains o.put y → Contains (flat_map (λ p. p.known) ps) y)
       → Popped o o' x → TookOne (hand_at o ps) (hand_at o' ps) x

@@ -13,8 +13,8 @@ use Rattle.std.proofs.lemmas.List.Elements.{All-nil, All-cons, All-get_or, All-h
 use Rattle.std.proofs.lemmas.List.Sorted.{IsPermutation-refl, IsPermutation-trans, IsPermutation-append_left, IsPermutation-append_right, IsPermutation-append_comm}
 use Rattle.ledger.specs.Places.{each_with}
 use Rattle.ledger.proofs.Lists.{mixed_at, with-map}
-use Rattle.deques.specs.Deques.{DequeId, Dealt, OwnerView, PermitView, HandView, RestView, permit_of, rest_of, deques_of, dealt_of, all_put, one_out, many_out, blank, one_back, MayTell, HasTold, AreBlank, CanHold, IsDealt, with_item, share_from, AreShares, CameBack, Popped, TookLast}
-use Rattle.deques.proofs.Dealings.{flat_more, flat_has, hand_at}
+use Rattle.deques.specs.Deques.{DequeId, Dealt, OwnerView, PermitView, HandView, RestView, permit_of, hand_at, rest_of, deques_of, dealt_of, all_put, one_out, many_out, blank, one_back, MayTell, HasTold, AreBlank, CanHold, IsDealt, with_item, share_from, AreShares, CameBack, Popped, TookLast}
+use Rattle.deques.proofs.Dealings.{flat_more, flat_has}
 
 module _ {T : Type 0} where
   put_has : (os : List (OwnerView T)) (i : ℕ) (o : OwnerView T) → o ≡ get_or os i o → i < length os → (x : T) → Contains o.put x → Contains (all_put (map dealt_of os)) x

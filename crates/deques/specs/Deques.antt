@@ -55,6 +55,14 @@ module _ {T : Type 0} where
   abbrev pub rest_of : List (Dealt T) → ℕ → List T → RestView T
   rest_of own out taken = record { own = own; out = out; taken = taken }
 
+  -- what was stolen by these permits
+  abbrev pub stolen_by : List (PermitView T) → List T
+  stolen_by permits = flat_map (λ p. p.taken) permits
+
+  -- what these workers have taken
+  abbrev pub taken_by : List (HandView T) → List T
+  taken_by hands = flat_map (λ h. h.taken) hands
+
   -- the deques, and all that was put into them
   abbrev pub deques_of : List (Dealt T) → List DequeId
   deques_of own = map (λ d. d.0) own
@@ -64,6 +72,11 @@ module _ {T : Type 0} where
 
   abbrev pub dealt_of : OwnerView T → Dealt T
   dealt_of o = (o.deque, o.put)
+
+  -- a worker's hand, of its own deque and its permits
+  abbrev pub hand_at : OwnerView T → List (PermitView T) → HandView T
+  hand_at o permits =
+      hand_of (dealt_of o) (map (λ p. p.deque) permits) (flat_map (λ p. p.known) permits) (o.taken ++ stolen_by permits)
 
   -- An item is put into the deque at a place
   abbrev pub with_item : List (Dealt T) → ℕ → T → List (Dealt T)
@@ -110,7 +123,7 @@ module _ {T : Type 0} where
   abbrev pub AreBlank : (count : ℕ) → List (Dealt T) → List (PermitView T) → Type 0
   AreBlank count own permits =
       (length permits ≡ count) × (map (λ p. p.deque) permits ≡ deques_of own)
-      × (flat_map (λ p. p.known) permits ≡ all_put own) × (flat_map (λ p. p.taken) permits ≡ [])
+      × (flat_map (λ p. p.known) permits ≡ all_put own) × (stolen_by permits ≡ [])
 
   -- a hand has a place among its permits, its deque has told, all permits of that are out, and they tell what it told
   abbrev pub CanHold : (place count : ℕ) → OwnerView T → List (PermitView T) → Type 0

@@ -4,7 +4,7 @@ ghost use Rattle.std.specs.Prelude.{◌≡◌, ◌⊎◌, ◌<◌, ◌++◌, [],
 ghost use Rattle.std.specs.List.{All, flat_map};
 ghost use Rattle.std.specs.List.Sorted.{IsPermutation};
 ghost use Rattle.ledger.specs.Places.{each_with};
-ghost use Rattle.deques.specs.Deques.{deques_of, dealt_of, all_put, one_out, many_out, blank, one_back, MayTell, HasTold, AreBlank, with_item, AreShares, IsDealt, CameBack, TookLast};
+ghost use Rattle.deques.specs.Deques.{deques_of, dealt_of, all_put, one_out, many_out, blank, one_back, MayTell, HasTold, AreBlank, with_item, stolen_by, taken_by, AreShares, IsDealt, CameBack, TookLast};
 
 use crate::deque::{Front, Owner, Permit};
 use crate::hand::Hand;
@@ -194,8 +194,8 @@ fn apart<T: Drop>(
     ensures count { IfOk result (λ r. vec_len r.1 ≡ vec_len hands) }
     ensures deques { IfOk result (λ r.
         All (λ l. map (λ p. p.deque) l.items ≡ deques_of (map (λ h. h.own) hands.items)) r.1.items) }
-    ensures taken { IfOk result (λ r. IsPermutation (flat_map (λ h. h.taken) hands.items)
-        (flat_map (λ o. o.taken) r.0.items ++ flat_map (λ l. flat_map (λ p. p.taken) l.items) r.1.items)) }
+    ensures taken { IfOk result (λ r. IsPermutation (taken_by hands.items)
+        (flat_map (λ o. o.taken) r.0.items ++ flat_map (λ l. stolen_by l.items) r.1.items)) }
 {
     let mut owners = Vec::with_capacity(alloc, hands.len())?;
     let mut lists = Vec::with_capacity(alloc, hands.len())?;
@@ -212,7 +212,7 @@ impl<T: Drop> Rest<T> {
     fn take_back(&mut self, permits: Vec<Permit<T>>)
         requires deques { map (λ p. p.deque) permits.items ≡ deques_of self.old.own }
         requires out { 0 < self.old.out }
-        ensures { CameBack self.old self.new (flat_map (λ p. p.taken) permits.items) }
+        ensures { CameBack self.old self.new (stolen_by permits.items) }
     {
         take_all_back(&mut self.owners, permits);
         self.out -= 1;
@@ -223,7 +223,7 @@ impl<T: Drop> Rest<T> {
         requires { All (λ h. h.deques ≡ deques_of (map (λ x. x.own) hands.items)) hands.items }
         ensures own { IfOk result (λ rest. rest.own ≡ map (λ h. h.own) hands.items) }
         ensures out { IfOk result (λ rest. rest.out ≡ 0) }
-        ensures taken { IfOk result (λ rest. IsPermutation (flat_map (λ h. h.taken) hands.items) rest.taken) }
+        ensures taken { IfOk result (λ rest. IsPermutation (taken_by hands.items) rest.taken) }
     {
         let out = hands.len();
         let (owners, lists) = apart(alloc, hands)?;

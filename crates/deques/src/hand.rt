@@ -1,7 +1,6 @@
 //! A worker's hand: its own deque, and the permits to steal from the others.
-ghost use Rattle.std.specs.Prelude.{◌≡◌, ◌++◌, map, vec_len, MatchOption};
-ghost use Rattle.std.specs.List.{flat_map};
-ghost use Rattle.deques.specs.Deques.{hand_of, CanHold, TookOne};
+ghost use Rattle.std.specs.Prelude.{◌≡◌, vec_len, MatchOption};
+ghost use Rattle.deques.specs.Deques.{hand_at, CanHold, TookOne};
 
 use crate::deque::{Front, Owner, Permit};
 use std::marker::Model;
@@ -19,14 +18,12 @@ pub struct Hand<T> {
 }
 
 impl<T> Model for Hand<T> {
-    ghost use Rattle.std.specs.Prelude.{◌++◌, map, vec_len};
-    ghost use Rattle.std.specs.List.{flat_map};
-    ghost use Rattle.deques.specs.Deques.{HandView, hand_of, CanHold};
+    ghost use Rattle.std.specs.Prelude.{vec_len};
+    ghost use Rattle.deques.specs.Deques.{HandView, hand_at, CanHold};
 
     ghost Value = { HandView T };
 
-    ghost view = { λ h. hand_of (h.owner.deque, h.owner.put) (map (λ p. p.deque) h.permits.items)
-        (flat_map (λ p. p.known) h.permits.items) (h.owner.taken ++ flat_map (λ p. p.taken) h.permits.items) };
+    ghost view = { λ h. hand_at h.owner h.permits.items };
 
     ghost invariant = { λ h. CanHold h.place (vec_len h.permits) h.owner h.permits.items };
 }
@@ -35,8 +32,7 @@ impl<T: Drop> Hand<T> {
     /// The hand of the worker whose deque has this place.
     pub(crate) fn new(place: usize, owner: Owner<T>, permits: Vec<Permit<T>>) -> Hand<T>
         requires { CanHold place (vec_len permits) owner permits.items }
-        ensures { result ≡ hand_of (owner.deque, owner.put) (map (λ p. p.deque) permits.items)
-            (flat_map (λ p. p.known) permits.items) (owner.taken ++ flat_map (λ p. p.taken) permits.items) }
+        ensures { result ≡ hand_at owner permits.items }
     {
         Hand {
             place,

@@ -32,6 +32,11 @@ IsCutShort S limit old new =
 abbrev pub IsTooLong : (S : Setting Mind) (limit : ℕ) → Type 0
 IsTooLong S limit = (whole : List EntryRecord) → IsTrace S whole → limit < length whole
 
+-- of a follower, by what it was told before and by what it was told since
+abbrev pub WasTold : {F : Type 0} (followed : F → F → List EntryRecord → Type 0) (old new : F)
+    → ((old new : List EntryRecord → Type 0) → Type 0) → Type 0
+WasTold followed old new Has = Has (followed old old) (followed old new)
+
 -- why a run is refused
 abbrev pub IsRefusal : RunError → Type 0
 IsRefusal e = (e ≡ Limit) ⊎ (e ≡ Memory)

@@ -1,18 +1,16 @@
 //! The single event list.
-ghost use Rattle.std.specs.Prelude.{◌≡◌, ◌≤◌, ◌<◌, ◌+◌, ◌-◌, ◌^◌, [], ℕ, length, IfErr, IfOk, OnOk, IsErrOf, Some, slice_get, All, map, vec_len};
+ghost use Rattle.std.specs.Prelude.{◌≡◌, ◌≤◌, ◌<◌, ◌+◌, ◌^◌, [], ℕ, length, IfErr, IfOk, OnOk, IsErrOf, All, map, vec_len};
 ghost use Rattle.process_api.specs.Bounds.{most_processes, most_step_actions};
-ghost use Rattle.process_api.specs.Mind.{Mind};
 ghost use Rattle.process_api.specs.Numbers.{numbers_to};
 ghost use Rattle.scenario_record.specs.Record.{opening_mind};
 ghost use Rattle.trace_laws.specs.Effects.{HasCauses, TakesOnce};
 ghost use Rattle.trace_laws.specs.Joins.{HaveJoined};
-ghost use Rattle.steps.specs.Posting.{posted_in, WereHeard};
-ghost use Rattle.event_list.specs.Following.{IsCutShort, IsRecorded, IsRefusal, IsTooLong};
+ghost use Rattle.steps.specs.Posting.{WereHeard};
+ghost use Rattle.event_list.specs.Following.{IsCutShort, IsRecorded, IsRefusal, IsTooLong, WasTold};
 ghost use Rattle.trace_laws.specs.ScenarioSetting.{setting_of};
 ghost use Rattle.steps.specs.Seat.{process_of, IsMindIn, IsSeated};
 ghost use Rattle.trace_laws.specs.Setting.{IsProcess};
-ghost use Rattle.event_list.specs.Inside.Standing.{Stands, IsStepped};
-ghost use Rattle.trace_laws.specs.Step.{Process, step};
+ghost use Rattle.event_list.specs.Inside.Standing.{posted_at, processes_of, AreSeated, ForReceiver, Stands, TookStep};
 ghost use Rattle.trace_laws.specs.World.{starts, opened, IsTrace};
 
 use pending_events::Pending;
@@ -71,7 +69,7 @@ impl<M: Process> EventList<M> {
         ensures seated { IfOk result (λ l. All (IsSeated M.mind scenario.now 0) l.seats.items) }
         ensures count { IfOk result (λ l. vec_len l.seats ≡ scenario.now.processes) }
         ensures opening { IfOk result (λ l.
-            Stands (setting_of scenario.now) (map (process_of M.mind) l.seats.items) l.pending [] []) }
+            Stands (setting_of scenario.now) (processes_of M.mind l) l.pending [] []) }
     {
         let processes = scenario.processes();
         let seats = seats_of(alloc, scenario, machines)?;
@@ -92,25 +90,19 @@ impl<M: Process> EventList<M> {
         listener: &mut L,
     ) -> Result<Entry, AllocError>
         requires seated { (most : ℕ)
-            × All (IsSeated M.mind streams.now most) self.old.seats.items × (most + most_step_actions < 2 ^ 64) }
+            × AreSeated M.mind streams.now most self.old × (most + most_step_actions < 2 ^ 64) }
         requires count { vec_len self.old.seats ≡ streams.now.processes }
         requires receiver { IsProcess (setting_of streams.now) event.0.receiver }
-        requires own { (before : Process Mind)
-            → slice_get (map (process_of M.mind) self.old.seats.items) (event.0.receiver - 1) ≡ Some before
-            → before.mind.lower.place.own ≡ event.0.receiver }
+        requires own { ForReceiver M.mind self.old event
+            (λ before. before.mind.lower.place.own ≡ event.0.receiver) }
 
         ensures count { OnOk result (vec_len self.new.seats ≡ vec_len self.old.seats) }
-        ensures seated { OnOk result ((most : ℕ)
-            → All (IsSeated M.mind streams.now most) self.old.seats.items
-            → All (IsSeated M.mind streams.now (most + most_step_actions)) self.new.seats.items) }
-        ensures stepped { IfOk result (λ e. (before : Process Mind)
-            → slice_get (map (process_of M.mind) self.old.seats.items) (event.0.receiver - 1) ≡ Some before
-            → IsStepped (map (process_of M.mind) self.old.seats.items) (map (process_of M.mind) self.new.seats.items)
-            self.old.pending self.new.pending event.0 e (step (setting_of streams.now) before event.0 event.1)) }
-        ensures heard { OnOk result ((before : Process Mind)
-            → slice_get (map (process_of M.mind) self.old.seats.items) (event.0.receiver - 1) ≡ Some before
-            → HaveJoined L.heard listener.old listener.new
-            (posted_in (setting_of streams.now) before event.0 event.1)) }
+        ensures seated { OnOk result ((most : ℕ) → AreSeated M.mind streams.now most self.old
+            → AreSeated M.mind streams.now (most + most_step_actions) self.new) }
+        ensures stepped { IfOk result (λ e.
+            ForReceiver M.mind self.old event (TookStep M.mind streams.now self.old self.new event e)) }
+        ensures heard { OnOk result (ForReceiver M.mind self.old event (λ before.
+            HaveJoined L.heard listener.old listener.new (posted_at streams.now event before))) }
     {
         let (key, input) = event;
         let place = usize::from(key.receiver.number()) - 1;
@@ -144,13 +136,13 @@ pub fn run_list_into<M: Process, F: Follower, L: Listener>(
 ) -> Result<(), RunError>
     requires { map M.mind machines.items ≡ map (opening_mind scenario.now) (numbers_to scenario.now.processes) }
 
-    ensures recorded { OnOk result (IsRecorded (setting_of scenario.now) scenario.now.limit
-        (F.followed follower.old follower.old) (F.followed follower.old follower.new)) }
+    ensures recorded { OnOk result (WasTold F.followed follower.old follower.new
+        (IsRecorded (setting_of scenario.now) scenario.now.limit)) }
     ensures heard { OnOk result (WereHeard (setting_of scenario.now) L.heard listener.old listener.new) }
     ensures errors { IfErr result IsRefusal }
     ensures limit { IsErrOf result RunError.Limit → IsTooLong (setting_of scenario.now) scenario.now.limit }
-    ensures front { IsErrOf result RunError.Limit → IsCutShort (setting_of scenario.now) scenario.now.limit
-        (F.followed follower.old follower.old) (F.followed follower.old follower.new) }
+    ensures front { IsErrOf result RunError.Limit → WasTold F.followed follower.old follower.new
+        (IsCutShort (setting_of scenario.now) scenario.now.limit) }
 {
     let streams = Streams::new(scenario);
     let limit = scenario.limit();

@@ -60,3 +60,7 @@ posted_to slips r = flat_map (λ s. list_of s.posted r) slips
 -- the letters in each of these vectors
 abbrev pub letters_in : List (Vec Letter) → List (List Letter)
 letters_in lists = map (λ v. v.items) lists
+
+-- those of receiver r
+abbrev pub letters_of : List (Vec Letter) → ℕ → List Letter
+letters_of lists r = list_of (letters_in lists) r

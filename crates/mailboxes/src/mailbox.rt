@@ -5,7 +5,7 @@ ghost use Rattle.crossbeam_queue.specs.SegBatches.{Holds};
 ghost use Rattle.crossbeam_queue.specs.SegTies.{IsSegPassOf};
 ghost use Rattle.ledger.specs.Ledger.{account, has_taken};
 ghost use Rattle.process_api.specs.declared.message.Letter.{Letter};
-ghost use Rattle.mailboxes.specs.Collected.{HasCollected};
+ghost use Rattle.mailboxes.specs.Collected.{HasCollected, WasGiven};
 ghost use Rattle.mailboxes.specs.Mailbox.{ticket_of, home_of, one_out, one_back, soonest_in};
 
 use crate::collects::Collects;
@@ -218,8 +218,7 @@ fn drain<R: Wait, T: Collects>(
     ensures taken { OnOk result (pass.new.me.view.client
         ≡ has_taken pass.old.me.view.client pass.new.me.view.client.taken) }
     ensures all { OnOk result (IsPermutation pass.old.me.view.client.put pass.new.me.view.client.taken) }
-    ensures to { OnOk result ((first : T) (so_far : List Letter) → T.collected first to.old so_far
-        → T.collected first to.new (so_far ++ pass.new.me.view.client.taken)) }
+    ensures to { OnOk result (WasGiven T.collected to.old to.new pass.new.me.view.client.taken) }
 {
     for _ in rt.forever() {
         let head = queue.head(pass);
@@ -245,8 +244,7 @@ fn collect_all<R: Wait, T: Collects>(
     ensures pass { IsSegPassOf queue.now pass.new × (pass.new.id ≡ pass.old.id) }
     ensures view { pass.new.me.view.client ≡ pass.old.me.view.client }
     ensures to { OnOk result ((letters : List Letter) → Holds queue.now pass.old batch letters
-        → (first : T) (so_far : List Letter) → T.collected first to.old so_far
-        → T.collected first to.new (so_far ++ letters)) }
+        → WasGiven T.collected to.old to.new letters) }
 {
     let mut told = Ok(());
     while batch.len() > 0 {
@@ -264,8 +262,7 @@ fn collect_after<T: Collects>(
     letter: Parcel,
     to: &mut T,
 ) -> Result<(), AllocError>
-    ensures { OnOk result ((told ≡ Ok tt) × ((first : T) (so_far : List Letter)
-        → T.collected first to.old so_far → T.collected first to.new (so_far ++ letter ∷ []))) }
+    ensures { OnOk result ((told ≡ Ok tt) × WasGiven T.collected to.old to.new (letter ∷ [])) }
 {
     told?;
     to.collect(letter)

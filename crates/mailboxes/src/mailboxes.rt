@@ -4,7 +4,7 @@ ghost use Rattle.std.specs.List.{All, AllZip};
 ghost use Rattle.std.specs.List.Sorted.{IsPermutation};
 ghost use Rattle.process_api.specs.declared.run_error.RunError.TheVariants.{Memory};
 ghost use Rattle.mailboxes.specs.Mailbox.{all_back};
-ghost use Rattle.mailboxes.specs.Mailboxes.{IsSlipOf, unused, with_letter, posted_to, list_of, letters_in, mailboxes_of};
+ghost use Rattle.mailboxes.specs.Mailboxes.{IsSlipOf, unused, with_letter, posted_to, list_of, letters_in, letters_of, mailboxes_of};
 
 use crate::inbox::Inbox;
 use crate::mailbox::{Home, Mailbox};
@@ -190,7 +190,7 @@ impl Mailboxes {
         requires slips { All (IsSlipOf self.mailboxes) slips.items }
         ensures count { IfOk result (λ lists. vec_len lists ≡ length self.mailboxes) }
         ensures letters { IfOk result (λ lists. (r : ℕ) → 1 ≤ r → r ≤ length self.mailboxes →
-            IsPermutation (posted_to slips.items r) (list_of (letters_in lists.items) r)) }
+            IsPermutation (posted_to slips.items r) (letters_of lists.items r)) }
         ensures err { IfErr result (λ e. e ≡ Memory) }
     {
         let inboxes = self.into_inboxes(alloc, slips)?;

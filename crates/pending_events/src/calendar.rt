@@ -1,5 +1,5 @@
 //! Events by their ticks: a ring of buckets for the ticks ahead, and a map of buckets for all others.
-ghost use Rattle.std.specs.Prelude.{◌≡◌, ◌++◌, ◌<◌, ◌≤◌, ◌%◌, ℕ, [], IfOk, MatchOption, false, length, true, vec_len};
+ghost use Rattle.std.specs.Prelude.{◌≡◌, ◌++◌, ◌<◌, ◌≤◌, ◌%◌, ℕ, [], IfNone, IfOk, IfSome, MatchOption, false, length, true, vec_len};
 ghost use Rattle.std.specs.BTreeMap.{IsLowerBound};
 ghost use Rattle.std.specs.Ordering.{nat_cmp};
 ghost use Rattle.pending_events.specs.Inside.Buckets.{HasTick, IsCleared, IsFull, IsPut, bucket, came};
@@ -125,7 +125,8 @@ fn is_filled(ring: &[Vec<Event>], tick: u32) -> bool
 /// The first tick of a part of the year with events at its place.
 fn first_filled(ring: &[Vec<Event>], from: u32, end: u32) -> Option<u32>
     requires { length ring.now ≡ year }
-    ensures { MatchOption result (NoneAhead ring.now from end) (λ tick.
+    ensures none { IfNone result (NoneAhead ring.now from end) }
+    ensures first { IfSome result (λ tick.
         (from ≤ tick) × (tick < end) × NoneAhead ring.now from tick × (0 < length (lane ring.now (tick % year)))) }
 {
     for tick in from..end {

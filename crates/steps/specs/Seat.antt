@@ -1,5 +1,6 @@
 -- Machines with their link counts, as processes.
 use Rattle.std.specs.Prelude.{◌≡◌, ℕ, ◌+◌, ◌≤◌, List, length, slice_index_or, IsTrue}
+use Rattle.process_api.specs.Bounds.{most_step_actions}
 use Rattle.process_api.specs.Mind.{Mind, is_mind_at}
 use Rattle.scenario_record.specs.Record.{Record, crash, place_in}
 use Rattle.trace_laws.specs.Step.{Process}
@@ -32,3 +33,8 @@ pub record IsSeated {M : Type 0} (mind : M → Mind) (s : Record) (most : ℕ) (
   pub crash : seat.crash ≡ crash s (own_of mind seat)
   pub places : length seat.links.value.counts.items ≡ s.processes + 1
   pub counts : (q : ℕ) → count_of seat.links.value.counts.items q ≤ most
+
+-- whatever it put on each link, it put at most a step's actions more since
+abbrev pub StaysSeated : {M : Type 0} (mind : M → Mind) → Record → (old new : Seat M) → Type 0
+StaysSeated mind s old new =
+    (most : ℕ) → IsSeated mind s most old → IsSeated mind s (most + most_step_actions) new

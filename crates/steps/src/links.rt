@@ -1,14 +1,14 @@
 //! The letters that a process puts on its links.
-ghost use Rattle.std.specs.Prelude.{◌≡◌, ◌≢◌, ◌≤◌, ◌<◌, ◌+◌, ◌^◌, ◌++◌, ◌∷◌, [], ℕ, IfOk, MatchOption, OnOk, length, replicate, vec_len, vec_capacity};
+ghost use Rattle.std.specs.Prelude.{◌≡◌, ◌≢◌, ◌≤◌, ◌<◌, ◌+◌, ◌^◌, ◌++◌, ◌∷◌, [], ℕ, IfNone, IfOk, IfSome, OnOk, length, replicate, vec_len, vec_capacity};
 ghost use Rattle.std.specs.List.{AllByRecursion};
 ghost use Rattle.process_api.specs.Actions.{IsAllowed};
 ghost use Rattle.process_api.specs.Bounds.{most_step_actions};
 ghost use Rattle.streams.specs.Fate.{fate_of};
 ghost use Rattle.trace_laws.specs.Joins.{HaveJoined, Serves, StillServes};
 ghost use Rattle.steps.specs.Posting.{posting, posted_by};
-ghost use Rattle.trace_laws.specs.ScenarioSetting.{setting_of};
+ghost use Rattle.steps.specs.Inside.Links.{later, wake_key, in_step, with_action, entry_of};
 ghost use Rattle.steps.specs.Seat.{count_of};
-ghost use Rattle.trace_laws.specs.Step.{raised, in_time, counted, joining, sent_by, lost_by, noted_by, counts_after, added as added_by, sent as sent_by_all, lost as lost_by_all, noted};
+ghost use Rattle.trace_laws.specs.Step.{raised, in_time, counted, joining, lost_by, counts_after, added as added_by};
 
 use crate::listener::Listener;
 use process_api::{Action, Entry, Key, Kind, Note, Payload, Pid, StepInput, Tag};
@@ -30,9 +30,9 @@ pub struct Links {
 /// The key of what is due so many ticks after it was sent, where that is below the horizon.
 #[inline(always)]
 fn due_after(horizon: u32, sent: Key, ticks: u32) -> Option<Key>
-    ensures { let due = record sent { tick = sent.tick + ticks } in
-        MatchOption result ((x : StepInput) → in_time horizon due x ≡ [])
-        (λ key. (key ≡ due) × ((x : StepInput) → in_time horizon due x ≡ (key, x) ∷ [])) }
+    ensures late { IfNone result ((x : StepInput) → in_time horizon (later sent ticks) x ≡ []) }
+    ensures due { IfSome result (λ key. (key ≡ later sent ticks)
+        × ((x : StepInput) → in_time horizon (later sent ticks) x ≡ (key, x) ∷ [])) }
 {
     let tick = u64::from(sent.tick) + u64::from(ticks);
     if tick < u64::from(horizon) {
@@ -139,14 +139,11 @@ impl Links {
         ensures places { vec_len self.new.counts ≡ vec_len self.old.counts }
         ensures horizon { self.new.horizon ≡ self.old.horizon }
         ensures added { OnOk result (HaveJoined J.grown added.old added.new
-            (joining (setting_of streams.now) key.receiver key.tick (count_of self.old.counts.items)
-            (Action.Send to payload.old))) }
+            (in_step self.old key streams.now joining (Action.Send to payload.old))) }
         ensures heard { OnOk result (HaveJoined L.heard listener.old listener.new
-            (posting (setting_of streams.now) key.receiver key.tick (count_of self.old.counts.items)
-            (Action.Send to payload.old))) }
-        ensures lost { IfOk result (λ lost. lost
-            ≡ lost_by (setting_of streams.now) key.receiver key.tick (count_of self.old.counts.items)
-            (Action.Send to payload.old)) }
+            (in_step self.old key streams.now posting (Action.Send to payload.old))) }
+        ensures lost { IfOk result (λ lost.
+            lost ≡ in_step self.old key streams.now lost_by (Action.Send to payload.old)) }
     {
         let own = key.receiver;
         let number = self.raise(to);
@@ -194,12 +191,8 @@ impl Links {
             ≡ raised (count_of self.old.counts.items) key.receiver) }
         ensures places { vec_len self.new.counts ≡ vec_len self.old.counts }
         ensures horizon { self.new.horizon ≡ self.old.horizon }
-        ensures added { OnOk result (HaveJoined J.grown added.old added.new (in_time self.old.horizon (record {
-          tick = key.tick + pause;
-          receiver = key.receiver;
-          sender = key.receiver;
-          number = count_of self.old.counts.items key.receiver + 1;
-        }) (StepInput.Wake tag))) }
+        ensures added { OnOk result (HaveJoined J.grown added.old added.new
+            (in_time self.old.horizon (wake_key self.old key pause) (StepInput.Wake tag))) }
     {
         let own = key.receiver;
         let number = self.raise(own);
@@ -241,17 +234,10 @@ impl Links {
         ensures places { OnOk result (vec_len self.new.counts ≡ vec_len self.old.counts) }
         ensures horizon { OnOk result (self.new.horizon ≡ self.old.horizon) }
         ensures added { OnOk result (HaveJoined J.grown added.old added.new
-            (joining (setting_of streams.now) key.now.receiver key.now.tick (count_of self.old.counts.items)
-            action.old)) }
+            (in_step self.old key.now streams.now joining action.old)) }
         ensures heard { OnOk result (HaveJoined L.heard listener.old listener.new
-            (posting (setting_of streams.now) key.now.receiver key.now.tick (count_of self.old.counts.items)
-            action.old)) }
-        ensures entry { OnOk result (entry.new ≡ record entry.old {
-          sent = entry.old.sent + sent_by action.old;
-          lost = entry.old.lost + lost_by (setting_of streams.now) key.now.receiver key.now.tick
-              (count_of self.old.counts.items) action.old;
-          notes = entry.old.notes ++ noted_by action.old;
-        }) }
+            (in_step self.old key.now streams.now posting action.old)) }
+        ensures entry { OnOk result (entry.new ≡ with_action self.old key.now streams.now entry.old action.old) }
     {
         match action {
             Action::Send { to, payload } => {
@@ -296,19 +282,10 @@ impl Links {
         ensures room { OnOk result ((q : ℕ)
             → count_of self.new.counts.items q ≤ count_of self.old.counts.items q + most_step_actions) }
         ensures added { OnOk result (HaveJoined J.grown added.old added.new
-            (added_by (setting_of streams.now) key.receiver key.tick (count_of self.old.counts.items)
-            actions.old.items)) }
+            (in_step self.old key streams.now added_by actions.old.items)) }
         ensures heard { OnOk result (HaveJoined L.heard listener.old listener.new
-            (posted_by (setting_of streams.now) key.receiver key.tick (count_of self.old.counts.items)
-            actions.old.items)) }
-        ensures entry { IfOk result (λ e. e ≡ record {
-          key = key;
-          kind = kind;
-          sent = sent_by_all actions.old.items;
-          lost = lost_by_all (setting_of streams.now) key.receiver key.tick (count_of self.old.counts.items)
-              actions.old.items;
-          notes = noted actions.old.items;
-        }) }
+            (in_step self.old key streams.now posted_by actions.old.items)) }
+        ensures entry { IfOk result (λ e. e ≡ entry_of self.old key streams.now kind actions.old.items) }
     {
         let mut entry = self.empty_entry(key, kind);
         for place in 0..actions.len() {

@@ -66,7 +66,7 @@ fn is_down(crash: Option<u32>, tick: u32) -> bool
 }
 
 impl<M: Process> Seat<M> {
-    ghost use Rattle.steps.specs.Seat.{process_of, own_of, IsMindIn, IsSeated};
+    ghost use Rattle.steps.specs.Seat.{process_of, own_of, IsMindIn, IsSeated, StaysSeated};
     ghost use Rattle.trace_laws.specs.World.{opened};
 
     /// The seat of a machine that put nothing on any link.
@@ -128,9 +128,7 @@ impl<M: Process> Seat<M> {
             (step (setting_of streams.now) (process_of M.mind self.old) event.0 event.1).added) }
         ensures heard { OnOk result (HaveJoined L.heard listener.old listener.new
             (posted_in (setting_of streams.now) (process_of M.mind self.old) event.0 event.1)) }
-        ensures seated { OnOk result ((most : ℕ)
-            → IsSeated M.mind streams.now most self.old
-            → IsSeated M.mind streams.now (most + most_step_actions) self.new) }
+        ensures seated { OnOk result (StaysSeated M.mind streams.now self.old self.new) }
     {
         let (key, input) = event;
         if is_down(self.crash, key.tick) {

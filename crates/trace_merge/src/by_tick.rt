@@ -1,6 +1,7 @@
 //! The entries of all parts, tick by tick.
 ghost use Rattle.std.specs.Prelude.{◌≡◌, ◌≤◌, ◌^◌, ◌<◌, ◌++◌, [], map, All, IsTrue, OnOk, IfOk, IfErr, MatchOption, IsPermutation};
 ghost use Rattle.process_api.specs.Order.{is_rising};
+ghost use Rattle.trace_merge.specs.Inside.Moving.{HaveMoved};
 ghost use Rattle.trace_merge.specs.Parts.{all_of};
 
 use crate::joined::Joined;
@@ -56,9 +57,8 @@ pub(crate) fn take_tick(
     lanes: &mut [Lane],
     tick: u32,
 ) -> Result<Option<u32>, RunError>
-    ensures same { OnOk result (IsPermutation
-        (merged.old.entries.items ++ all_of (map (λ lane. lane.rest.items) lanes.old))
-        (merged.new.entries.items ++ all_of (map (λ lane. lane.rest.items) lanes.new))) }
+    ensures same { OnOk result (HaveMoved (λ lane. lane.rest.items) merged.old.entries.items lanes.old
+        merged.new.entries.items lanes.new) }
     ensures early { OnOk result (All (λ e. e.key.tick ≤ tick) merged.old.entries.items
         → All (λ e. e.key.tick ≤ tick) merged.new.entries.items) }
     ensures late { OnOk result (All (λ e. tick < e.key.tick) (all_of (map (λ lane. lane.rest.items) lanes.new))) }

@@ -1,13 +1,17 @@
 -- Where a run of the list stands.
-use Rattle.std.specs.Prelude.{◌≡◌, ℕ, ◌-◌, List, ◌++◌, Some, slice_get, slice_set}
+use Rattle.std.specs.Prelude.{◌≡◌, ℕ, ◌-◌, List, ◌++◌, Some, All, map, slice_get, slice_set}
 use Rattle.process_api.specs.EntryRecord.{EntryRecord}
 use Rattle.process_api.specs.Mind.{Mind}
 use Rattle.process_api.specs.declared.key.Key.{Key}
+use Rattle.scenario_record.specs.Record.{Record}
 use Rattle.trace_laws.specs.Setting.{Setting, IsProcess}
-use Rattle.steps.specs.Posting.{Posted, posted_along}
-use Rattle.trace_laws.specs.Step.{Events, Process, Made}
+use Rattle.steps.specs.Posting.{Posted, posted_along, posted_in}
+use Rattle.steps.specs.Seat.{process_of, IsSeated}
+use Rattle.trace_laws.specs.ScenarioSetting.{setting_of}
+use Rattle.trace_laws.specs.Step.{Event, Events, Process, Made, step}
 use Rattle.trace_laws.specs.Reached.{IsReached}
 use Rattle.trace_laws.specs.World.{World, Pair, Run, IsWorld, opening, joined}
+use Rattle.event_list.specs.declared.list.EventList.{EventList}
 
 module _ {M : Type 0} (S : Setting M) where
   -- whatever the list does from this world, it sent these letters before
@@ -33,3 +37,27 @@ pub record IsStepped {S : Setting Mind} (old new : List (Process Mind)) (before 
   pub processes : new ≡ slice_set old (key.receiver - 1) made.process
   pub entry_is : entry ≡ made.entry
   pub pending : after ≡ joined before made.added
+
+-- the letters of the step of an event, of a process of the scenario
+abbrev pub posted_at : Record → Event → Process Mind → List Posted
+posted_at s event before = posted_in (setting_of s) before event.0 event.1
+
+module _ {M : Type 0} (mind : M → Mind) where
+  -- the processes of the list
+  abbrev pub processes_of : EventList M → List (Process Mind)
+  processes_of list = map (process_of mind) list.seats.items
+
+  -- each machine put at most so much on each link
+  abbrev pub AreSeated : Record → (most : ℕ) → EventList M → Type 0
+  AreSeated s most list = All (IsSeated mind s most) list.seats.items
+
+  -- whichever process is at the place of the event's receiver
+  abbrev pub ForReceiver : EventList M → Event → (Process Mind → Type 0) → Type 0
+  ForReceiver list event Is =
+      (before : Process Mind) → slice_get (processes_of list) (event.0.receiver - 1) ≡ Some before → Is before
+
+  -- the list took the step of an event of this process
+  abbrev pub TookStep : Record → (old new : EventList M) → Event → EntryRecord → Process Mind → Type 0
+  TookStep s old new event entry before =
+      IsStepped (processes_of old) (processes_of new) old.pending new.pending event.0 entry
+      (step (setting_of s) before event.0 event.1)

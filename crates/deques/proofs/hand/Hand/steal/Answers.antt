@@ -2,8 +2,8 @@ use Rattle.std.proofs.Common.{◌≡◌, ◌<◌, ◌+◌, ◌%◌, ℕ, List, s
 use Rattle.std.proofs.lemmas.Nat.{mod_below}
 use Rattle.std.proofs.lemmas.List.{length-map, map-id}
 use Rattle.ledger.proofs.Lists.{parts_agree}
-use Rattle.deques.specs.Deques.{OwnerView, HandView, PermitView, TookOne}
-use Rattle.deques.proofs.Dealings.{hand_at, hand_stole, known_same}
+use Rattle.deques.specs.Deques.{OwnerView, HandView, PermitView, hand_at, TookOne}
+use Rattle.deques.proofs.Dealings.{hand_stole, known_same}
 use Rattle.deques.proofs.Deals.{holds_still, known_in}
 use Rattle.deques.proofs.hand.Hand.steal.Goals as goal
 

@@ -1,6 +1,6 @@
 use Rattle.std.proofs.Common.{subst}
-use Rattle.deques.specs.Deques.{TookOne}
-use Rattle.deques.proofs.Dealings.{hand_at, hand_popped}
+use Rattle.deques.specs.Deques.{hand_at, TookOne}
+use Rattle.deques.proofs.Dealings.{hand_popped}
 use Rattle.deques.proofs.hand.Hand.take.Goals as goal
 
 pub returns-in-Some : goal.returns-in-Some

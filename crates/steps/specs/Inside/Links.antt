@@ -1,0 +1,46 @@
+-- What the actions of a step do, as the links of the process stand.
+use Rattle.std.specs.Prelude.{ℕ, ◌+◌, ◌++◌, List}
+use Rattle.process_api.specs.EntryRecord.{EntryRecord}
+use Rattle.process_api.specs.Mind.{Mind}
+use Rattle.process_api.specs.declared.action.Action.{Action}
+use Rattle.process_api.specs.declared.entry.Kind.{Kind}
+use Rattle.process_api.specs.declared.key.Key.{Key}
+use Rattle.scenario_record.specs.Record.{Record}
+use Rattle.trace_laws.specs.ScenarioSetting.{setting_of}
+use Rattle.trace_laws.specs.Setting.{Setting}
+use Rattle.trace_laws.specs.Step.{sent_by, lost_by, noted_by, sent, lost, noted}
+use Rattle.steps.specs.Seat.{count_of}
+use Rattle.steps.specs.declared.links.Links.{Links}
+
+-- the key so many ticks later
+abbrev pub later : Key → (ticks : ℕ) → Key
+later key ticks = record key { tick = key.tick + ticks }
+
+-- in the step of this key
+module _ (links : Links) (key : Key) where
+  -- the key of a wake that is set
+  abbrev pub wake_key : (pause : ℕ) → Key
+  wake_key pause = record {
+    tick = key.tick + pause;
+    receiver = key.receiver;
+    sender = key.receiver;
+    number = count_of links.counts.items key.receiver + 1;
+  }
+
+  module _ (s : Record) where
+    -- what a word of the step's actions means in this scenario
+    abbrev pub in_step : {X : Type 0} → (Setting Mind → ℕ → ℕ → (ℕ → ℕ) → X) → X
+    in_step word = word (setting_of s) key.receiver key.tick (count_of links.counts.items)
+
+    -- the entry after one action more
+    abbrev pub with_action : EntryRecord → Action → EntryRecord
+    with_action entry action = record entry {
+      sent = entry.sent + sent_by action;
+      lost = entry.lost + in_step lost_by action;
+      notes = entry.notes ++ noted_by action;
+    }
+
+    -- the entry of all actions
+    abbrev pub entry_of : Kind → List Action → EntryRecord
+    entry_of kind actions =
+        record { key = key; kind = kind; sent = sent actions; lost = in_step lost actions; notes = noted actions }
