@@ -1,7 +1,7 @@
 //! Outages of several links at once, and the course of a run.
 ghost use Rattle.std.specs.Prelude.{◌≡◌, ◌≤◌, ◌++◌, map, OnOk};
 ghost use Rattle.process_api.specs.Bounds.{most_processes};
-ghost use Rattle.network.specs.Drawn.{AreTooMany, outage_on};
+ghost use Rattle.network.specs.Drawn.{OnTooMany, outage_on};
 
 use crate::error::DrawError;
 use crate::group::Ends;
@@ -29,8 +29,7 @@ impl Drawn {
     /// An outage of each of these links.
     pub(crate) fn push_each(&mut self, links: &[Ends], outage: Outage) -> Result<(), DrawError>
         ensures ok { OnOk result (self.new ≡ self.old ++ map (outage_on outage) links.now) }
-        ensures full { result ≡ Err DrawError.TooManyOutages
-            → AreTooMany (self.old ++ map (outage_on outage) links.now) }
+        ensures full { OnTooMany result (self.old ++ map (outage_on outage) links.now) }
     {
         for link in links {
             self.push(LinkOutage {

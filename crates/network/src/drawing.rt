@@ -2,7 +2,7 @@
 ghost use Rattle.std.specs.Prelude.{◌≡◌, ◌≤◌, ◌++◌, length, OnOk, IfOk};
 ghost use Rattle.std.specs.List.{All};
 ghost use Rattle.process_api.specs.Bounds.{most_processes};
-ghost use Rattle.network.specs.Drawn.{drawn_of, AreTooMany, most_outages, of_each};
+ghost use Rattle.network.specs.Drawn.{drawn_of, OnTooMany, most_outages, of_each};
 ghost use Rattle.network.specs.Ranges.{IsNetwork};
 ghost use Rattle.network.specs.Words.{most_tables};
 
@@ -24,8 +24,8 @@ fn draw_all<T: DrawsOutages>(
     requires few { length tables.now ≤ most_tables }
     ensures ok { OnOk result (drawn.new
         ≡ drawn.old ++ of_each (T.outages course.processes course.horizon course.seed) tables.now) }
-    ensures full { result ≡ Err DrawError.TooManyOutages
-        → AreTooMany (drawn.old ++ of_each (T.outages course.processes course.horizon course.seed) tables.now) }
+    ensures full { OnTooMany result
+        (drawn.old ++ of_each (T.outages course.processes course.horizon course.seed) tables.now) }
 {
     for i in 0..tables.len() {
         tables[i].draw(i, course, drawn)?;
@@ -50,8 +50,7 @@ pub fn draw(
     requires horizon { horizon ≤ 10000000 }
     ensures ok { IfOk result (λ v. v.items ≡ drawn_of processes horizon seed network.now) }
     ensures few { IfOk result (λ v. length v.items ≤ most_outages) }
-    ensures full { result ≡ Err DrawError.TooManyOutages
-        → AreTooMany (drawn_of processes horizon seed network.now) }
+    ensures full { OnTooMany result (drawn_of processes horizon seed network.now) }
 {
     let course = Course {
         alloc,

@@ -1,6 +1,6 @@
 //! The outages that are drawn, with their links.
 ghost use Rattle.std.specs.Prelude.{◌≡◌, ◌≤◌, ◌++◌, ◌∷◌, [], length, OnOk};
-ghost use Rattle.network.specs.Drawn.{AreTooMany, most_outages};
+ghost use Rattle.network.specs.Drawn.{OnTooMany, most_outages};
 
 use crate::error::DrawError;
 use scenario::LinkOutage;
@@ -41,7 +41,7 @@ impl Drawn {
     /// One more.
     pub(crate) fn push(&mut self, outage: LinkOutage) -> Result<(), DrawError>
         ensures ok { OnOk result (self.new ≡ self.old ++ outage ∷ []) }
-        ensures full { result ≡ Err DrawError.TooManyOutages → AreTooMany (self.old ++ outage ∷ []) }
+        ensures full { OnTooMany result (self.old ++ outage ∷ []) }
     {
         if self.outages.len() >= MOST_OUTAGES {
             return Err(DrawError::TooManyOutages);

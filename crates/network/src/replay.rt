@@ -1,7 +1,7 @@
 //! Records that are played again and again.
 ghost use Rattle.std.specs.Prelude.{◌≡◌, ◌<◌, ◌≤◌, ◌++◌, ◌+◌, ◌^◌, OnOk};
 ghost use Rattle.std.specs.Option.{option_to_list};
-ghost use Rattle.network.specs.Drawn.{AreTooMany, on_each};
+ghost use Rattle.network.specs.Drawn.{OnTooMany, on_each};
 ghost use Rattle.network.specs.Ranges.{IsReplay};
 ghost use Rattle.network.specs.Replays.{left_of, replayed_in};
 
@@ -34,8 +34,7 @@ impl Drawn {
     #[tactic(auto, using(crate::proofs::Adding::one_each))]
     fn push_left(&mut self, links: &[Ends], left: Option<Outage>) -> Result<(), DrawError>
         ensures ok { OnOk result (self.new ≡ self.old ++ on_each links.now (option_to_list left)) }
-        ensures full { result ≡ Err DrawError.TooManyOutages
-            → AreTooMany (self.old ++ on_each links.now (option_to_list left)) }
+        ensures full { OnTooMany result (self.old ++ on_each links.now (option_to_list left)) }
     {
         match left {
             Some(outage) => self.push_each(links, outage),
@@ -58,8 +57,8 @@ impl Replay {
         requires begins { turn ≤ 20000000 }
         ensures ok { OnOk result
             (drawn.new ≡ drawn.old ++ on_each links.now (replayed_in self.now.outages.items turn place horizon)) }
-        ensures full { result ≡ Err DrawError.TooManyOutages
-            → AreTooMany (drawn.old ++ on_each links.now (replayed_in self.now.outages.items turn place horizon)) }
+        ensures full { OnTooMany result
+            (drawn.old ++ on_each links.now (replayed_in self.now.outages.items turn place horizon)) }
     {
         for outage in &self.outages {
             drawn.push_left(links, left_of(*outage, turn, place, horizon))?;

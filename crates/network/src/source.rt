@@ -1,7 +1,7 @@
 //! What a source draws.
 ghost use Rattle.std.specs.Prelude.{◌≡◌, ◌≤◌, ◌++◌, ℕ, List, OnOk};
 ghost use Rattle.scenario_record.specs.declared.outage.Outage.{Outage};
-ghost use Rattle.network.specs.Drawn.{AreTooMany, on_each};
+ghost use Rattle.network.specs.Drawn.{OnTooMany, on_each};
 ghost use Rattle.network.specs.Words.{Words};
 ghost use Rattle.network.specs.Inside.Coming.{to_come};
 
@@ -30,6 +30,6 @@ pub(crate) trait Source {
         requires ends { horizon ≤ 10000000 }
         ensures ok { OnOk result
             (drawn.new ≡ drawn.old ++ on_each links.now (outages self.now (to_come words.old) horizon)) }
-        ensures full { result ≡ Err DrawError.TooManyOutages
-            → AreTooMany (drawn.old ++ on_each links.now (outages self.now (to_come words.old) horizon)) };
+        ensures full { OnTooMany result
+            (drawn.old ++ on_each links.now (outages self.now (to_come words.old) horizon)) };
 }

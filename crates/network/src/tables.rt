@@ -1,7 +1,7 @@
 //! The outages of each table.
 ghost use Rattle.std.specs.Prelude.{◌≡◌, ◌<◌, ◌++◌, ℕ, List, OnOk};
 ghost use Rattle.scenario.specs.declared.drawn.LinkOutage.{LinkOutage};
-ghost use Rattle.network.specs.Drawn.{AreTooMany, of_links, pause_of};
+ghost use Rattle.network.specs.Drawn.{OnTooMany, of_links, pause_of};
 ghost use Rattle.network.specs.Ranges.{IsRhythm};
 ghost use Rattle.network.specs.Words.{most_tables};
 
@@ -30,8 +30,8 @@ pub(crate) trait DrawsOutages {
         requires few { before < most_tables }
         ensures ok { OnOk result (drawn.new
             ≡ drawn.old ++ outages course.processes course.horizon course.seed before self.now) }
-        ensures full { result ≡ Err DrawError.TooManyOutages
-            → AreTooMany (drawn.old ++ outages course.processes course.horizon course.seed before self.now) };
+        ensures full { OnTooMany result
+            (drawn.old ++ outages course.processes course.horizon course.seed before self.now) };
 }
 
 /// Adds the outages of links that each are a source by itself, of a table of a kind with so many before it.
@@ -45,11 +45,10 @@ fn draw_alone<S: Source>(
 ) -> Result<(), DrawError>
     requires ranges { S.is_in_range source.now }
     requires few { before < most_tables }
-    ensures ok { OnOk result (drawn.new ≡ drawn.old ++ of_links course.processes course.seed kind before set.now
-        (λ words. S.outages source.now words course.horizon)) }
-    ensures full { result ≡ Err DrawError.TooManyOutages
-        → AreTooMany (drawn.old ++ of_links course.processes course.seed kind before set.now
-        (λ words. S.outages source.now words course.horizon)) }
+    ensures ok { OnOk result (drawn.new ≡ drawn.old ++ of_links course.processes course.horizon course.seed kind before
+        set.now (S.outages source.now)) }
+    ensures full { OnTooMany result (drawn.old ++ of_links course.processes course.horizon course.seed kind before
+        set.now (S.outages source.now)) }
 {
     let links = links_between(course.alloc, &set.from, &set.to, set.both, course.processes)?;
     for link in &links {
@@ -111,8 +110,8 @@ impl Pause {
         requires few { before < most_tables }
         ensures ok { OnOk result (drawn.new
             ≡ drawn.old ++ pause_of course.processes course.horizon course.seed before self.now p) }
-        ensures full { result ≡ Err DrawError.TooManyOutages
-            → AreTooMany (drawn.old ++ pause_of course.processes course.horizon course.seed before self.now p) }
+        ensures full { OnTooMany result
+            (drawn.old ++ pause_of course.processes course.horizon course.seed before self.now p) }
     {
         let mut own = ProcSet::new();
         own.insert(p);

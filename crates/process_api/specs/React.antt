@@ -1,13 +1,15 @@
 -- What one input makes of a mind, and what the process does.
-use Rattle.std.specs.Prelude.{ℕ, ◌++◌, None, Some}
+use Rattle.std.specs.Prelude.{◌≡◌, ℕ, List, ◌++◌, None, Some}
 use Rattle.std.specs.FinSet as set
-use Rattle.process_api.specs.Sets.{Processes}
+use Rattle.process_api.specs.Sets.{Processes, changes}
+use Rattle.process_api.specs.Actions.{notes_of_layer}
 use Rattle.process_api.specs.Answer.{Answer, still}
 use Rattle.process_api.specs.Detector.{suspected_by, step_detector}
 use Rattle.process_api.specs.Reduction.{step_reduction}
 use Rattle.process_api.specs.ConsensusS.{step_exchange}
 use Rattle.process_api.specs.Coordinator.{step_coordinator}
-use Rattle.process_api.specs.Mind.{Lower, AlgorithmState, Idle, Exchanging, Coordinating, Mind, suspects_of}
+use Rattle.process_api.specs.Mind.{Lower, AlgorithmState, Idle, Exchanging, Coordinating, Mind, layer_of, suspects_of}
+use Rattle.process_api.specs.declared.action.Action.{Action}
 use Rattle.process_api.specs.declared.message.StepInput.{StepInput}
 
 -- the base detector acts first, then the reduction, which sees whom the detector suspects by then
@@ -23,6 +25,12 @@ react_lower m now input =
             actions = base.actions ++ over.actions;
           }
     ]
+
+-- the notes of the detector's own layer are exactly the changes of its suspects
+abbrev pub TellsChanges : (old new : Lower) → List Action → Type 0
+TellsChanges old new actions =
+    notes_of_layer (layer_of old) actions
+    ≡ changes (layer_of old) old.place.processes (suspects_of old) (suspects_of new)
 
 -- the algorithm, with the suspects of the top layer
 unfoldable pub react_algorithm : AlgorithmState → StepInput → Processes → Answer AlgorithmState

@@ -1,9 +1,9 @@
 //! Notes of how suspects change.
-ghost use Rattle.std.specs.Prelude.{◌≡◌, ◌≤◌, ◌++◌, OnOk, map, if◌then◌else◌};
+ghost use Rattle.std.specs.Prelude.{◌≡◌, ◌≤◌, ◌++◌, OnOk, map};
 ghost use Rattle.process_api.specs.Bounds.{most_processes};
 ghost use Rattle.process_api.specs.Sets.{changes, gone};
+ghost use Rattle.process_api.specs.Inside.Noting.{note_of};
 ghost use Rattle.process_api.specs.declared.action.Action.TheVariants as Action;
-ghost use Rattle.process_api.specs.declared.action.Note.TheVariants as Note;
 
 use crate::action::{Action, Note, note_that};
 use crate::pid::Pid;
@@ -12,7 +12,7 @@ use std::alloc::AllocError;
 
 /// The note that the suspicion of a process begins, or that it ends.
 fn change_of(begins: bool, layer: u8, who: Pid) -> Note
-    ensures { result ≡ (if begins then Note.Suspect layer else Note.Trust layer) who }
+    ensures { result ≡ note_of begins layer who }
 {
     if begins {
         Note::Suspect { layer, who }
@@ -34,8 +34,7 @@ fn note_gone(
 ) -> Result<(), AllocError>
     requires { processes ≤ most_processes }
     ensures { OnOk result (out.new.items ≡ out.old.items
-        ++ map Action.Note (map (if begins then Note.Suspect layer else Note.Trust layer)
-        (gone processes from.now to.now))) }
+        ++ map Action.Note (map (note_of begins layer) (gone processes from.now to.now))) }
 {
     for who in from.without(to).up_to(processes).iter() {
         note_that(out, change_of(begins, layer, who))?;

@@ -1,12 +1,11 @@
 //! The traits of a machine's parts.
 ghost use Rattle.std.specs.Prelude.{◌≡◌, ◌≤◌, ◌++◌, Bool, false, IsTrue, OnOk, OnErr, IsErr, length, All};
 ghost use Rattle.std.specs.FinSet as set;
-ghost use Rattle.process_api.specs.Actions.{IsAllowed, notes_of_layer};
+ghost use Rattle.process_api.specs.Actions.{IsAllowed};
 ghost use Rattle.process_api.specs.Bounds.{most_algorithm_actions};
 ghost use Rattle.process_api.specs.Mind.{Lower, AlgorithmState, layer_of, most_actions, suspects_of, processes_of, leaves_out, stands_at};
 ghost use Rattle.process_api.specs.Place.{Place};
-ghost use Rattle.process_api.specs.React.{react_lower, react_algorithm};
-ghost use Rattle.process_api.specs.Sets.{changes};
+ghost use Rattle.process_api.specs.React.{TellsChanges, react_lower, react_algorithm};
 
 use crate::action::Action;
 use crate::message::StepInput;
@@ -39,10 +38,8 @@ pub trait Detector: Send + Drop {
             All (IsAllowed (lower self.old).place.processes) (react_lower (lower self.old) now input.now).actions) }
         ensures few { OnOk result (
             length (react_lower (lower self.old) now input.now).actions ≤ most_actions (lower self.old)) }
-        ensures changes { OnOk result (
-            notes_of_layer (layer_of (lower self.old)) (react_lower (lower self.old) now input.now).actions
-            ≡ changes (layer_of (lower self.old)) (lower self.old).place.processes
-            (suspects_of (lower self.old)) (suspects_of (lower self.new))) }
+        ensures changes { OnOk result (TellsChanges (lower self.old) (lower self.new)
+            (react_lower (lower self.old) now input.now).actions) }
 
         ensures place { (lower self.new).place ≡ (lower self.old).place }
         ensures layer { layer_of (lower self.new) ≡ layer_of (lower self.old) }

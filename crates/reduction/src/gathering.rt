@@ -1,7 +1,6 @@
 //! The steps of the reduction itself.
 ghost use Rattle.std.specs.Prelude.{◌≡◌, ◌≤◌, ◌++◌, false, OnOk, map};
 ghost use Rattle.std.specs.FinSet as set;
-ghost use Rattle.process_api.specs.Sets.{changes};
 
 use process_api::{
     Action, Payload, Pid, ProcSet, StepInput, Tag, note_changes, send_to_all, wake_after,
@@ -23,7 +22,7 @@ pub struct Gathering {
 }
 
 impl Gathering {
-    ghost use Rattle.reduction.specs.Inside.Parts.{state_of, gathered_by, answer_of};
+    ghost use Rattle.reduction.specs.Inside.Parts.{state_of, gathered_by, changes_by, answer_of};
 
     /// Whom the process suspects once it has the suspects of a sender, which is alive.
     fn gathered(&self, sender: Pid, shared: &ProcSet) -> ProcSet
@@ -47,8 +46,8 @@ impl Gathering {
         ensures opening { self.new.opening ≡ self.old.opening }
         ensures period { self.new.period ≡ self.old.period }
         ensures output { OnOk result (self.new.output ≡ gathered_by self.old sender shared.now) }
-        ensures notes { OnOk result (out.new.items ≡ out.old.items ++ map Action.Note
-            (changes 2 self.old.opening.processes self.old.output (gathered_by self.old sender shared.now))) }
+        ensures notes { OnOk result (
+            out.new.items ≡ out.old.items ++ map Action.Note (changes_by self.old sender shared.now)) }
     {
         let output = self.gathered(sender, shared);
         note_changes(out, 2, self.opening.processes, &self.output, &output)?;

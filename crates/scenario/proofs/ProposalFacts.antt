@@ -6,7 +6,7 @@ use Rattle.std.specs.Option.{option_map_or}
 use Rattle.std.proofs.lemmas.List.{length-map}
 use Rattle.std.proofs.Math.Dec.{eqb-zero-suc}
 use Rattle.toml.specs.Data.{Members, Items, as_array, get_member}
-use Rattle.scenario.specs.Table.{the_integers, integers_at, has_key}
+use Rattle.scenario.specs.Table.{array_in, the_integers, integers_at, has_key}
 use Rattle.scenario.specs.Text.{natural}
 use Rattle.scenario.specs.Rules.{is_bad_proposal, are_other_than}
 
@@ -15,38 +15,38 @@ none_of_some zero low = absurd (omega arith)
 none_of_some (suc n) low = eqb-zero-suc n
 
 -- where there is no array there aren't n numbers
-pub no_array : (n : ℕ) (key : List ℕ) (t : Members) → 1 ≤ n → None ≡ option_and_then as_array (get_member key t)
+pub no_array : (n : ℕ) (key : List ℕ) (t : Members) → 1 ≤ n → None ≡ array_in key t
     → are_other_than n (has_key key t) (integers_at key t) ≡ true
 unfolding are_other_than integers_at
 no_array n key t low e = rw (← e, none_of_some n low) (or-true (not (has_key key t)))
 
-there : (key : List ℕ) (t : Members) (ds : Items) → Some ds ≡ option_and_then as_array (get_member key t) → has_key key t ≡ true
+there : (key : List ℕ) (t : Members) (ds : Items) → Some ds ≡ array_in key t → has_key key t ≡ true
 unfolding has_key
 there key t ds e = elim (get_member key t) as (λ o. Some ds ≡ option_and_then as_array o → is_some o ≡ true) [ None ↦ λ f. cc | Some d ↦ λ f. refl ] e
 
-pub integers_of_array : (key : List ℕ) (t : Members) (ds : Items) → Some ds ≡ option_and_then as_array (get_member key t)
+pub integers_of_array : (key : List ℕ) (t : Members) (ds : Items) → Some ds ≡ array_in key t
     → integers_at key t ≡ the_integers ds
 unfolding integers_at
 integers_of_array key t ds e = rw (← e) refl
 
 -- of an array: whether its numbers are n in their range
-pub of_array : (n : ℕ) (key : List ℕ) (t : Members) (ds : Items) → Some ds ≡ option_and_then as_array (get_member key t)
+pub of_array : (n : ℕ) (key : List ℕ) (t : Members) (ds : Items) → Some ds ≡ array_in key t
     → are_other_than n (has_key key t) (integers_at key t) ≡ (not (length (the_integers ds) == n) || list_any is_bad_proposal (the_integers ds))
 unfolding are_other_than
 of_array n key t ds e = rw (there key t ds e, integers_of_array key t ds e) refl
 
-pub bad_number : (n : ℕ) (key : List ℕ) (t : Members) (ds : Items) → Some ds ≡ option_and_then as_array (get_member key t)
+pub bad_number : (n : ℕ) (key : List ℕ) (t : Members) (ds : Items) → Some ds ≡ array_in key t
     → list_any is_bad_proposal (the_integers ds) ≡ true → are_other_than n (has_key key t) (integers_at key t) ≡ true
 bad_number n key t ds e bad = of_array n key t ds e ∙ rw bad (or-true (not (length (the_integers ds) == n)))
 
 -- another count of numbers, or the right one
-pub other_count : (n : ℕ) (key : List ℕ) (t : Members) (ds : Items) (found : List ℕ) → Some ds ≡ option_and_then as_array (get_member key t)
+pub other_count : (n : ℕ) (key : List ℕ) (t : Members) (ds : Items) (found : List ℕ) → Some ds ≡ array_in key t
     → found ≡ map natural (the_integers ds) → (length found == n) ≡ false → are_other_than n (has_key key t) (integers_at key t) ≡ true
 other_count n key t ds found e made other =
     let count : length found ≡ length (the_integers ds) = ap length made ∙ length-map (the_integers ds) natural in
     of_array n key t ds e ∙ rw (← count, other) refl
 
-pub right_count : (n : ℕ) (key : List ℕ) (t : Members) (ds : Items) (found : List ℕ) → Some ds ≡ option_and_then as_array (get_member key t)
+pub right_count : (n : ℕ) (key : List ℕ) (t : Members) (ds : Items) (found : List ℕ) → Some ds ≡ array_in key t
     → found ≡ map natural (the_integers ds) → list_any is_bad_proposal (the_integers ds) ≡ false → (length found == n) ≡ true
     → are_other_than n (has_key key t) (integers_at key t) ≡ false
 right_count n key t ds found e made good here =

@@ -3,11 +3,11 @@ use Rattle.std.specs.Prelude.{◌≡◌, ◌≢◌, ℕ, zero, suc, ◌<◌, ℤ
 use Rattle.std.specs.List.{Contains, list_any}
 use Rattle.std.specs.Option.{option_map_or}
 use Rattle.std.specs.Ordering.{int_eq}
-use Rattle.toml.specs.Data.{Data, integer, Members, Items, no_items, item, get_member, get_item, as_integer, as_str, as_array, type_name}
+use Rattle.toml.specs.Data.{Data, integer, Members, Items, no_items, item, get_member, get_item, as_integer, as_str, type_name}
 use Rattle.scenario_record.specs.Record.{Record, link}
 use Rattle.scenario_record.specs.declared.algorithm.AlgorithmKind.{AlgorithmKind}
 use Rattle.scenario_record.specs.declared.algorithm.AlgorithmKind.TheVariants as kind
-use Rattle.scenario.specs.Table.{Field, is_listed, is_lacking, is_of, same_text, keys_of, has_key, tables_at}
+use Rattle.scenario.specs.Table.{Field, array_in, is_listed, is_lacking, is_of, same_text, keys_of, has_key, tables_at}
 use Rattle.scenario.specs.Text.{algorithm_in, processes_of, record_of}
 use Rattle.scenario.specs.Rules.{is_within}
 use Rattle.scenario.specs.Parts.{fields_of}
@@ -149,7 +149,7 @@ pub record AsksForOne (file : Members) : Type 0 where
 -- there is another number of proposals than one of each process
 pub record IsOtherCount (file : Members) (number processes : ℕ) : Type 0 where
   pub its : Items
-  pub there : option_and_then as_array (get_member (codes "proposals") file) ≡ Some its
+  pub there : array_in (codes "proposals") file ≡ Some its
   pub counted : number ≡ count its
   pub wanted : processes ≡ processes_of file
   pub other : number ≢ processes
@@ -157,7 +157,7 @@ pub record IsOtherCount (file : Members) (number processes : ℕ) : Type 0 where
 -- the proposal of this number is out of range
 pub record IsBadProposal (file : Members) (number : ℕ) (value : ℤ) : Type 0 where
   pub its : Items
-  pub there : option_and_then as_array (get_member (codes "proposals") file) ≡ Some its
+  pub there : array_in (codes "proposals") file ≡ Some its
   pub is : item_numbered number its ≡ Some (integer value)
   pub outside : is_within 0 4294967295 value ≡ false
 

@@ -9,3 +9,4 @@ pub mod Names
 pub mod Place
 pub mod Ranges
 pub mod Faults
+pub mod Inside

@@ -124,3 +124,7 @@ subject_of error.LinkNumbers (place.Element array.Links number) file = pair_subj
 subject_of error.CrashLine (place.Element array.Crash number) file = crash_subject (processes_of file)
 subject_of error.OutageLine (place.Element array.Outage number) file = outage_subject (processes_of file)
 subject_of _ _ file = numbers []
+
+-- that of a table of an array
+abbrev pub element_subject : TableArray → ℕ → (file : Members) → Subject
+element_subject a number file = subject_of (array_error a) (place.Element a number) file

@@ -23,9 +23,13 @@ the_integers no_items = []
 the_integers (item (integer z) ds) = z ∷ the_integers ds
 the_integers (item _ ds) = the_integers ds
 
+-- the array at a key, if there is one
+abbrev pub array_in : List ℕ → Members → Option Items
+array_in key t = option_and_then as_array (get_member key t)
+
 -- the integers of the array at a key; none where there is no array
 unfoldable pub integers_at : List ℕ → Members → List ℤ
-integers_at key t = option_map_or the_integers (option_and_then as_array (get_member key t)) []
+integers_at key t = option_map_or the_integers (array_in key t) []
 
 -- the key is there
 unfoldable pub has_key : List ℕ → Members → Bool
@@ -59,8 +63,7 @@ the_tables (item _ ds) = the_tables ds
 -- the tables of the array of tables at a key; none where there is no such array
 unfoldable pub tables_at : List ℕ → Members → List Members
 tables_at key t =
-    option_map_or (λ ds. if all_items is_table ds then the_tables ds else [])
-    (option_and_then as_array (get_member key t)) []
+    option_map_or (λ ds. if all_items is_table ds then the_tables ds else []) (array_in key t) []
 
 -- ---- the keys that a table may have
 

@@ -1,14 +1,14 @@
 //! The outage tables.
-ghost use Rattle.std.specs.Prelude.{◌≡◌, ◌<◌, ◌≤◌, ◌+◌, ◌++◌, ◌∷◌, ◌*◌, List, [], map, length, get_or, codes, vec_len, is_none, slice_set, OnOk, IfOk, IfSome};
+ghost use Rattle.std.specs.Prelude.{◌≡◌, ◌<◌, ◌≤◌, ◌+◌, ◌∷◌, ◌*◌, [], map, length, codes, vec_len, is_none, OnOk, IfOk, IfSome};
 ghost use Rattle.process_api.specs.Bounds.{most_processes};
 ghost use Rattle.toml.specs.Data.{Members};
 ghost use Rattle.toml.specs.View.{table_view};
 ghost use Rattle.scenario.specs.Table.{tables_at};
-ghost use Rattle.scenario.specs.Text.{pair_of, outage_of, each_pairs_outages, outages_among};
+ghost use Rattle.scenario.specs.Text.{outages_among};
 ghost use Rattle.scenario.specs.Drawn.{outage_table, all_outages};
-ghost use Rattle.scenario.specs.Rules.{is_bad_outage, are_bad_outages};
-ghost use Rattle.scenario.specs.Refusals.{Judges, when};
+ghost use Rattle.scenario.specs.Rules.{is_bad_outage};
 ghost use Rattle.scenario.specs.Parts.{tables_in, outages_in, AreProcesses, IsTop};
+ghost use Rattle.scenario.specs.Inside.Outages.{Adds, AreOutagesOf, JudgesOutages, Says, with_outage};
 
 use crate::crashes::MOST_TICK;
 use crate::drawn::LinkOutage;
@@ -33,8 +33,7 @@ pub(crate) struct PairOutage {
 #[tactic(auto, unfolding(crate::specs::Rules::is_bad_outage))]
 fn read_outage(table: &Table, n: u16) -> Option<PairOutage>
     ensures test { is_none result ≡ is_bad_outage n (table_view table.now) }
-    ensures pair { IfSome result (λ o. (o.from, o.to) ≡ pair_of (table_view table.now)) }
-    ensures outage { IfSome result (λ o. o.outage ≡ outage_of (table_view table.now)) }
+    ensures says { IfSome result (Says (table_view table.now)) }
     ensures processes { IfSome result (λ o. AreProcesses n (o.from, o.to)) }
 {
     let from = ranged(table, "from", 0, 1, u32::from(n))?;
@@ -50,7 +49,7 @@ fn read_outage(table: &Table, n: u16) -> Option<PairOutage>
 
 /// No outages of the link from each of n processes to each.
 fn no_outages(alloc: Global, n: u16) -> Result<Vec<Vec<Outage>>, AllocError>
-    ensures { IfOk result (λ v. outages_in v.items ≡ each_pairs_outages [] n) }
+    ensures { IfOk result (λ v. AreOutagesOf n [] v.items) }
 {
     let mut outages = Vec::new(alloc);
     for _k in 0..usize::from(n) * usize::from(n) {
@@ -62,8 +61,8 @@ fn no_outages(alloc: Global, n: u16) -> Result<Vec<Vec<Outage>>, AllocError>
 /// One more outage of the link at a place.
 fn push_at(lists: &mut Vec<Vec<Outage>>, place: usize, outage: Outage) -> Result<(), AllocError>
     requires { place < vec_len lists.old }
-    ensures { OnOk result (outages_in lists.new.items ≡ slice_set (outages_in lists.old.items) place
-        (get_or (outages_in lists.old.items) place [] ++ outage ∷ [])) }
+    ensures { OnOk result (
+        outages_in lists.new.items ≡ with_outage (outages_in lists.old.items) place outage) }
 {
     lists[place].push(outage)?;
     Ok(())
@@ -75,9 +74,7 @@ fn add(lists: &mut Vec<Vec<Outage>>, n: u16, pair: PairOutage) -> Result<(), All
     requires all { length lists.old.items ≡ n * n }
     requires processes { AreProcesses n (pair.from, pair.to) }
     ensures all { OnOk result (length lists.new.items ≡ n * n) }
-    ensures lists { (tables : List Members) (its : Members) → (pair.from, pair.to) ≡ pair_of its
-        → pair.outage ≡ outage_of its → outages_in lists.old.items ≡ each_pairs_outages tables n
-        → OnOk result (outages_in lists.new.items ≡ each_pairs_outages (tables ++ its ∷ []) n) }
+    ensures lists { (its : Members) → Says its pair → Adds n (its ∷ []) lists.old.items lists.new.items result }
 {
     push_at(lists, place_of(pair.from, pair.to, n), pair.outage)
 }
@@ -90,11 +87,9 @@ fn add_tables(
 ) -> Result<(), ScenarioError>
     requires numbers { IsTop top.now }
     requires tables { tables_in tables.now ≡ tables_at (codes "outage") (table_view top.now.table.now) }
-    requires none { outages_in lists.old.items ≡ each_pairs_outages [] top.now.numbers.processes }
-    ensures judged { Judges
-        (when (are_bad_outages top.now.numbers.processes (tables_in tables.now)) ScenarioError.OutageLine) result }
-    ensures lists { OnOk result
-        (outages_in lists.new.items ≡ each_pairs_outages (tables_in tables.now) top.now.numbers.processes) }
+    requires none { AreOutagesOf top.now.numbers.processes [] lists.old.items }
+    ensures judged { JudgesOutages top.now.numbers.processes (tables_in tables.now) result }
+    ensures lists { OnOk result (AreOutagesOf top.now.numbers.processes (tables_in tables.now) lists.new.items) }
 {
     let n = top.numbers.processes;
     for i in 0..tables.len() {
@@ -110,8 +105,7 @@ fn add_tables(
 #[tactic(auto, using(crate::proofs::DrawnTables::bad_drawn))]
 fn fitting(outage: LinkOutage, n: u16) -> Option<PairOutage>
     ensures test { is_none result ≡ is_bad_outage n (outage_table outage) }
-    ensures pair { IfSome result (λ o. (o.from, o.to) ≡ pair_of (outage_table outage)) }
-    ensures outage { IfSome result (λ o. o.outage ≡ outage_of (outage_table outage)) }
+    ensures says { IfSome result (Says (outage_table outage)) }
     ensures processes { IfSome result (λ o. AreProcesses n (o.from, o.to)) }
 {
     let LinkOutage {
@@ -142,9 +136,8 @@ fn add_drawn(
 ) -> Result<(), ScenarioError>
     requires few { n ≤ most_processes }
     requires all { length lists.old.items ≡ n * n }
-    ensures judged { Judges (when (are_bad_outages n (map outage_table drawn.now)) ScenarioError.OutageLine) result }
-    ensures lists { (tables : List Members) → outages_in lists.old.items ≡ each_pairs_outages tables n
-        → OnOk result (outages_in lists.new.items ≡ each_pairs_outages (tables ++ map outage_table drawn.now) n) }
+    ensures judged { JudgesOutages n (map outage_table drawn.now) result }
+    ensures lists { Adds n (map outage_table drawn.now) lists.old.items lists.new.items result }
 {
     for outage in drawn {
         let Some(pair) = fitting(*outage, n) else {
@@ -177,8 +170,8 @@ pub(crate) fn read_outages(
 ) -> Result<Vec<LinkOutages>, ScenarioError>
     requires numbers { IsTop top.now }
     requires tables { tables_in tables.now ≡ tables_at (codes "outage") (table_view top.now.table.now) }
-    ensures judged { Judges (when (are_bad_outages top.now.numbers.processes
-        (all_outages drawn.now (table_view top.now.table.now))) ScenarioError.OutageLine) result }
+    ensures judged { JudgesOutages top.now.numbers.processes
+        (all_outages drawn.now (table_view top.now.table.now)) result }
     ensures value { IfOk result (λ v. v.items
         ≡ outages_among (all_outages drawn.now (table_view top.now.table.now)) top.now.numbers.processes) }
 {

@@ -1,11 +1,11 @@
 //! The proposals of the processes.
-ghost use Rattle.std.specs.Prelude.{◌≡◌, ◌≤◌, true, false, Some, map, codes, is_none, MatchOption, IfOk, IfSome};
-ghost use Rattle.std.specs.List.{list_any};
+ghost use Rattle.std.specs.Prelude.{◌≡◌, ◌≤◌, Some, codes, is_none, IfOk, IfSome};
 ghost use Rattle.toml.specs.View.{items_view, table_view};
 ghost use Rattle.scenario.specs.Table.{the_integers, has_key};
 ghost use Rattle.scenario.specs.Text.{natural, algorithm_in, proposals_of, record_of};
 ghost use Rattle.scenario.specs.Rules.{is_bad_proposal, has_other_proposals, proposals_refused};
 ghost use Rattle.scenario.specs.Parts.{IsTop};
+ghost use Rattle.scenario.specs.Inside.Proposals.{AreReadOf};
 ghost use Rattle.scenario.specs.Refusals.{Judges, when};
 
 use crate::error::ScenarioError;
@@ -29,10 +29,7 @@ fn proposal_of(number: i64) -> Option<u32>
 
 /// The proposals among some values, where each number is below 2^32.
 fn proposals_among(alloc: Global, values: &[Value]) -> Result<Option<Vec<u32>>, AllocError>
-    ensures { IfOk result (λ found. MatchOption found
-        (list_any is_bad_proposal (the_integers (items_view values.now)) ≡ true)
-        (λ v. (list_any is_bad_proposal (the_integers (items_view values.now)) ≡ false)
-        × (v.items ≡ map natural (the_integers (items_view values.now))))) }
+    ensures { IfOk result (AreReadOf (the_integers (items_view values.now))) }
 {
     let mut found = Vec::new(alloc);
     for value in values {

@@ -1,7 +1,8 @@
 //! What is wrong with proposals that are refused.
-ghost use Rattle.std.specs.Prelude.{◌≡◌, Some, codes, option_and_then, IfSome};
-ghost use Rattle.toml.specs.Data.{Members, as_array, get_member};
+ghost use Rattle.std.specs.Prelude.{◌≡◌, Some, codes, IfSome};
+ghost use Rattle.toml.specs.Data.{Members};
 ghost use Rattle.toml.specs.View.{items_view, table_view};
+ghost use Rattle.scenario.specs.Table.{array_in};
 ghost use Rattle.scenario.specs.Text.{processes_of};
 ghost use Rattle.scenario.specs.Faults.{AsksForOne, Breaks, IsProposalsFault};
 ghost use Rattle.scenario.specs.declared.error.ScenarioError.{ScenarioError};
@@ -16,8 +17,7 @@ use toml::{Table, Value};
 
 /// The first proposal among some values that is out of range.
 fn bad_proposal(values: &[Value]) -> Option<ProposalsFault>
-    ensures { (file : Members) → AsksForOne file
-        → Some (items_view values.now) ≡ option_and_then as_array (get_member (codes "proposals") file)
+    ensures { (file : Members) → AsksForOne file → Some (items_view values.now) ≡ array_in (codes "proposals") file
         → IfSome result (IsProposalsFault file) }
 {
     for i in 0..values.len() {

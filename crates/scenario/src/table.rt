@@ -1,9 +1,9 @@
 //! The values of a TOML table at its keys, and the faults of its keys.
-ghost use Rattle.std.specs.Prelude.{◌≡◌, false, is_some, option_map, option_copied, option_and_then, IfOk, IfSome};
+ghost use Rattle.std.specs.Prelude.{◌≡◌, false, is_some, option_map, option_copied, IfOk, IfSome};
 ghost use Rattle.std.specs.List.{Contains};
 ghost use Rattle.toml.specs.View.{view, array_view, items_view, table_view};
-ghost use Rattle.toml.specs.Data.{as_array, get_member};
-ghost use Rattle.scenario.specs.Table.{number_or, text_or, has_key, table_at, tables_at, the_tables, all_items, is_number, is_table, is_of, is_listed, keys_of, has_unlisted, is_lacking, has_lacking, is_mistyped, has_mistyped};
+ghost use Rattle.toml.specs.Data.{get_member};
+ghost use Rattle.scenario.specs.Table.{array_in, number_or, text_or, has_key, table_at, tables_at, the_tables, all_items, is_number, is_table, is_of, is_listed, keys_of, has_unlisted, is_lacking, has_lacking, is_mistyped, has_mistyped};
 ghost use Rattle.scenario.specs.Parts.{field_of, fields_of, table_in, tables_in};
 ghost use Rattle.scenario.specs.Text.{is_second as second_in, is_fresh as fresh_in};
 ghost use Rattle.scenario.specs.Faults.{integer_in, text_in, has_integer, IsMissing, IsWrongKind, IsWrongKindOf};
@@ -135,8 +135,7 @@ fn tables_among<'a>(alloc: Global, values: &'a [Value]) -> Result<Vec<&'a Table>
 
 /// The array at a key, if there is one.
 pub fn inner_array<'a>(table: &'a Table, key: &str) -> Option<&'a Vec<Value>>
-    ensures { option_map (λ v. array_view v.now) result
-        ≡ option_and_then as_array (get_member key.now (table_view table.now)) }
+    ensures { option_map (λ v. array_view v.now) result ≡ array_in key.now (table_view table.now) }
 {
     value_at(table, key)?.as_array()
 }

@@ -5,7 +5,7 @@ ghost use Rattle.toml.specs.Data.{Members};
 ghost use Rattle.toml.specs.View.{table_view};
 ghost use Rattle.scenario.specs.Table.{same_text};
 ghost use Rattle.scenario.specs.Text.{processes_of};
-ghost use Rattle.scenario.specs.Ranges.{Subject, allowed_of, array_error, ends_of, section_error, subject_of};
+ghost use Rattle.scenario.specs.Ranges.{Subject, allowed_of, element_subject, ends_of, section_error, subject_of};
 ghost use Rattle.scenario.specs.Ranges.{crash_subject, detector_subject, link_subject, outage_subject, pair_subject};
 ghost use Rattle.scenario.specs.Faults.{IsFoundBy};
 
@@ -198,7 +198,7 @@ fn outage_fault(table: &Table, n: u16) -> Option<Fault<'_>>
 /// The fault of a table of an array, of n processes.
 pub(crate) fn element_fault(array: TableArray, table: &Table, n: u16) -> Option<Fault<'_>>
     ensures { (file : Members) (number : ℕ) → n ≡ processes_of file
-        → IsFoundBy (subject_of (array_error array) (Place.Element array number) file) (table_view table.now) result }
+        → IsFoundBy (element_subject array number file) (table_view table.now) result }
 {
     match array {
         TableArray::Links => pair_fault(table, n),

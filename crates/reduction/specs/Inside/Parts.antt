@@ -1,8 +1,9 @@
 -- The reduction's own part as plain data.
-use Rattle.std.specs.Prelude.{ℕ}
+use Rattle.std.specs.Prelude.{ℕ, List}
 use Rattle.process_api.specs.Answer.{Answer}
-use Rattle.process_api.specs.Sets.{Processes}
+use Rattle.process_api.specs.Sets.{Processes, changes}
 use Rattle.process_api.specs.Reduction.{ReductionState, gathered, step_reduction}
+use Rattle.process_api.specs.declared.action.Note.{Note}
 use Rattle.process_api.specs.declared.message.StepInput.{StepInput}
 use Rattle.scenario_record.specs.Opening.{place_of}
 use Rattle.reduction.specs.declared.gathering.Gathering.{Gathering}
@@ -13,6 +14,10 @@ state_of g = record { period = g.period; output = g.output }
 -- whom it suspects once a sender shared a set
 abbrev pub gathered_by : Gathering → ℕ → Processes → Processes
 gathered_by g sender shared = gathered (place_of g.opening) g.output sender shared
+
+-- how whom it suspects changes then
+abbrev pub changes_by : Gathering → ℕ → Processes → List Note
+changes_by g sender shared = changes 2 g.opening.processes g.output (gathered_by g sender shared)
 
 -- what an input makes of it, and what it does, with these suspects below
 abbrev pub answer_of : Gathering → Processes → StepInput → Answer ReductionState

@@ -15,7 +15,7 @@ pub returns-in_err-draw_on-clause-full : goal.returns-in_err-draw_on-clause-full
 returns-in_err-draw_on-clause-full g c = λ is.
     let seed = c.args.course.seed in
     let source : Words → List Outage = λ words. g.S.Source.outages c.args.source.now words c.args.course.horizon in
-    let f : Ends → List LinkOutage = alone seed c.args.kind c.args.before source in
+    let f : Ends → List LinkOutage = alone c.args.course.horizon seed c.args.kind c.args.before (g.S.Source.outages c.args.source.now) in
     let xs = c.deref-link-items.result.now in
     let i = c.loop-link.link-index in
     let x = c.link-item.result in

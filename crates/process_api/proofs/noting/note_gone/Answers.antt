@@ -1,13 +1,13 @@
-use Rattle.std.proofs.Common.{◌++◌, ap, ◌∙◌, map, if◌then◌else◌}
+use Rattle.std.proofs.Common.{◌++◌, ap, ◌∙◌, map}
 use Rattle.process_api.specs.InOrder.{in_order}
 use Rattle.process_api.specs.Sets.{up_to}
+use Rattle.process_api.specs.Inside.Noting.{note_of}
 use Rattle.process_api.specs.declared.action.Action.TheVariants as action
-use Rattle.process_api.specs.declared.action.Note.TheVariants as note
 use Rattle.process_api.proofs.Rising.{gone-members}
 use Rattle.process_api.proofs.noting.note_gone.Goals as goal
 
 pub loop-who-init : goal.loop-who-init
 loop-who-init c =
-    ap (λ qs. c.args.out.now.items ++ map action.Note (map (if c.args.begins then note.Suspect c.args.layer else note.Trust c.args.layer) qs))
+    ap (λ qs. c.args.out.now.items ++ map action.Note (map (note_of c.args.begins c.args.layer) qs))
     (c.into_iter-who-iterator.ensures.into_iter_gives
     ∙ (c.iter-who-items.ensures ∙ (ap in_order (c.up_to.ensures ∙ ap (up_to c.args.processes) c.without.ensures) ∙ gone-members c.args.processes c.args.from.now c.args.to.now c.requires)))

@@ -8,6 +8,6 @@ on_ok (Ok x) A B f a = f a
 on_ok (Err e) A B f a = tt
 
 pub returns-clause-lists : goal.returns-clause-lists
-returns-clause-lists c = λ tables its e f are.
+returns-clause-lists c = λ its says tables are.
     let pair : ℕ × ℕ = (c.args.pair.from, c.args.pair.to) in
-    on_ok c.push_at.result _ _ (λ pushed. rw c.place_of.ensures.value at pushed ∙ one_added c.args.n (outages_in c.args.lists.now.items) tables its pair c.args.pair.outage are e f c.requires.processes) c.push_at.ensures
+    on_ok c.push_at.result _ _ (λ pushed. rw c.place_of.ensures.value at pushed ∙ one_added c.args.n (outages_in c.args.lists.now.items) tables its pair c.args.pair.outage are says.0 says.1 c.requires.processes) c.push_at.ensures

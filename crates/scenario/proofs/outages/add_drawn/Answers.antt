@@ -17,7 +17,7 @@ loop-outage-preserved c =
       clean = good_more c.args.drawn.now i o c.loop-outage-test.true c.outage-item.is (is_bad_outage n) c.loop-outage.invariant.clean (sym c.in-Some.ensures.test);
       all = c.in_ok-add.ensures.all;
       lists = λ tables are.
-          c.in_ok-add.ensures.lists (tables ++ done) (outage_table o) c.in-Some.ensures.pair c.in-Some.ensures.outage (c.loop-outage.invariant.lists tables are)
+          c.in_ok-add.ensures.lists (outage_table o) c.in-Some.ensures.says (tables ++ done) (c.loop-outage.invariant.lists tables are)
           ∙ ap (λ ts. each_pairs_outages ts n) (append_assoc tables done (outage_table o ∷ []) ∙ ap (λ ts. tables ++ ts) (sym more));
     }
 

@@ -5,8 +5,5 @@ use Rattle.scenario.proofs.outages.fitting.Goals as goal
 pub returns-clause-test : goal.returns-clause-test
 returns-clause-test c = sym (bad_drawn c.args.n c.args.outage ∙ search rules)
 
-pub returns-clause-pair : goal.returns-clause-pair
-returns-clause-pair c = rw (drawn_pair c.args.outage) (search rules)
-
-pub returns-clause-outage : goal.returns-clause-outage
-returns-clause-outage c = sym (drawn_outage c.args.outage)
+pub returns-clause-says : goal.returns-clause-says
+returns-clause-says c = (rw (drawn_pair c.args.outage) (search rules), sym (drawn_outage c.args.outage))

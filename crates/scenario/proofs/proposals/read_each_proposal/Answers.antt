@@ -1,8 +1,7 @@
-use Rattle.std.proofs.Common.{◌≡◌, ◌==◌, rules, true, false, map, length, Some, option_and_then, codes}
+use Rattle.std.proofs.Common.{◌≡◌, ◌==◌, rules, true, false, map, length, Some, codes}
 use Rattle.std.specs.List.{list_any}
-use Rattle.toml.specs.Data.{as_array, get_member}
 use Rattle.toml.specs.View.{items_view, table_view}
-use Rattle.scenario.specs.Table.{the_integers}
+use Rattle.scenario.specs.Table.{array_in, the_integers}
 use Rattle.scenario.specs.Text.{natural}
 use Rattle.scenario.specs.Rules.{is_bad_proposal}
 use Rattle.scenario.proofs.Firsts.{applies, passes}
@@ -14,20 +13,20 @@ returns-in_default-clause-judged c = λ other. applies _ _ (no_array c.args.n (c
 
 pub returns-in_default-2-clause-judged : goal.returns-in_default-2-clause-judged
 returns-in_default-2-clause-judged c = λ other.
-    let array : Some (items_view c.in-Some.values.now.items) ≡ option_and_then as_array (get_member (codes "proposals") (table_view c.args.top.now)) = search rules in
+    let array : Some (items_view c.in-Some.values.now.items) ≡ array_in (codes "proposals") (table_view c.args.top.now) = search rules in
     let bad : list_any is_bad_proposal (the_integers (items_view c.in-Some.values.now.items)) ≡ true = search rules in
     applies _ _ (bad_number c.args.n (codes "proposals") (table_view c.args.top.now) (items_view c.in-Some.values.now.items) array bad)
 
 pub returns-then-len-from-clause-judged : goal.returns-then-len-from-clause-judged
 returns-then-len-from-clause-judged c = λ other.
-    let array : Some (items_view c.in-Some.values.now.items) ≡ option_and_then as_array (get_member (codes "proposals") (table_view c.args.top.now)) = search rules in
+    let array : Some (items_view c.in-Some.values.now.items) ≡ array_in (codes "proposals") (table_view c.args.top.now) = search rules in
     let made : c.in-Some-2.proposals.items ≡ map natural (the_integers (items_view c.in-Some.values.now.items)) = search rules in
     let count : (length c.in-Some-2.proposals.items == c.args.n) ≡ false = search rules in
     applies _ _ (other_count c.args.n (codes "proposals") (table_view c.args.top.now) (items_view c.in-Some.values.now.items) c.in-Some-2.proposals.items array made count)
 
 pub returns-clause-judged : goal.returns-clause-judged
 returns-clause-judged c =
-    let array : Some (items_view c.in-Some.values.now.items) ≡ option_and_then as_array (get_member (codes "proposals") (table_view c.args.top.now)) = search rules in
+    let array : Some (items_view c.in-Some.values.now.items) ≡ array_in (codes "proposals") (table_view c.args.top.now) = search rules in
     let made : c.in-Some-2.proposals.items ≡ map natural (the_integers (items_view c.in-Some.values.now.items)) = search rules in
     let good : list_any is_bad_proposal (the_integers (items_view c.in-Some.values.now.items)) ≡ false = search rules in
     let count : (length c.in-Some-2.proposals.items == c.args.n) ≡ true = search rules in
@@ -35,6 +34,6 @@ returns-clause-judged c =
 
 pub returns-clause-value : goal.returns-clause-value
 returns-clause-value c =
-    let array : Some (items_view c.in-Some.values.now.items) ≡ option_and_then as_array (get_member (codes "proposals") (table_view c.args.top.now)) = search rules in
+    let array : Some (items_view c.in-Some.values.now.items) ≡ array_in (codes "proposals") (table_view c.args.top.now) = search rules in
     let made : c.in-Some-2.proposals.items ≡ map natural (the_integers (items_view c.in-Some.values.now.items)) = search rules in
     rw (integers_of_array (codes "proposals") (table_view c.args.top.now) (items_view c.in-Some.values.now.items) array) made

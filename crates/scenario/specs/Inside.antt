@@ -1,0 +1,3 @@
+-- words that private functions and proofs of this crate use alone: no public contract rests on them
+pub mod Outages
+pub mod Proposals
