@@ -1,12 +1,12 @@
 -- Lemmas on the keys of a table.
-use Rattle.std.proofs.Common.{is_some, is_none, option_map, ◌≡◌, ℕ, List, [], ◌∷◌, map, Bool, not, refl, ap, ◌||◌, String, string_bytes, Global, Option, Some, None, if◌then◌else◌}
+use Rattle.std.proofs.Common.{is_some, is_none, option_map, ◌≡◌, ℕ, List, [], ◌∷◌, map, Bool, not, refl, ap, ◌||◌, String, string_bytes, Global, Option, Some, None}
 use Rattle.std.specs.List.{list_any}
 use Rattle.scenario.specs.Parts.{field_of, fields_of}
 use Rattle.scenario.specs.declared.field.Field as code
-use Rattle.toml.specs.Data.{Members, Items}
+use Rattle.toml.specs.Data.{Members}
 use Rattle.toml.specs.View.{members_view}
 use Rattle.toml.specs.declared.value.Value.{Value}
-use Rattle.scenario.specs.Table.{Field, array_in, same_text, is_listed, has_unlisted, is_lacking, has_lacking, is_mistyped, has_mistyped, tables_at, the_tables, all_items, is_table}
+use Rattle.scenario.specs.Table.{Field, same_text, is_listed, has_unlisted, is_lacking, has_lacking, is_mistyped, has_mistyped}
 
 pub some_of_map : {A B : Type 0} (f : A → B) (o : Option A) → is_some (option_map f o) ≡ is_some o
 some_of_map f None = refl
@@ -46,13 +46,3 @@ unlisted_view fields (e ∷ es) = ap (λ b. not (is_listed fields (string_bytes 
 pub unlisted_step : (fields : List Field) (left : List (String Global)) (k : String Global) (ks : List (String Global)) (t : List ℕ) (b : Bool)
     → left ≡ k ∷ ks → t ≡ string_bytes k → b ≡ is_listed fields t → any_unlisted fields left ≡ (not b || any_unlisted fields ks)
 unlisted_step fields left k ks t b is text e = rw (is, e, text) refl
-
--- the tables of an array that is there
-pub tables_at-array : (key : List ℕ) (t : Members) (ds : Items) (b : Bool) → array_in key t ≡ Some ds
-    → b ≡ all_items is_table ds → tables_at key t ≡ (if b then the_tables ds else [])
-unfolding tables_at
-tables_at-array key t ds b found e = rw (found, e) refl
-
-pub tables_at-none : (key : List ℕ) (t : Members) → array_in key t ≡ None → tables_at key t ≡ []
-unfolding tables_at
-tables_at-none key t found = rw found refl

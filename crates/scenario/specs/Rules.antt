@@ -5,7 +5,7 @@ use Rattle.std.specs.Option.{option_map_or}
 use Rattle.toml.specs.Data.{Members}
 use Rattle.scenario_record.specs.Record.{Record, link}
 use Rattle.scenario.specs.Table.{number_or, same_text, integers_at, has_key, table_at, table_or_empty, tables_at}
-use Rattle.scenario.specs.Text.{natural_of, is_second, kind_in, is_fresh, algorithm_in, watch_in, delays_of, pair_of, same_pair, outage_of, crash_process, processes_of}
+use Rattle.scenario.specs.Text.{natural_of, kind_in, is_fresh, algorithm_in, watch_in, delays_of, pair_of, same_pair, outage_of, crash_process, processes_of}
 use Rattle.scenario_record.specs.declared.algorithm.AlgorithmKind.{AlgorithmKind}
 use Rattle.scenario_record.specs.declared.link.Link.{Link}
 use Rattle.scenario_record.specs.declared.algorithm.AlgorithmKind.TheVariants as kind

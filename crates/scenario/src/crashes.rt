@@ -8,12 +8,9 @@ ghost use Rattle.scenario.specs.Refusals.{Judges, when};
 ghost use Rattle.scenario.specs.Parts.{tables_in, IsProcess, IsTop};
 
 use crate::error::ScenarioError;
-use crate::numbers::{Top, ranged};
+use crate::numbers::{LAST_TICK, Top, ranged};
 use std::alloc::Global;
 use toml::Table;
-
-/// The greatest tick at which a process may crash.
-pub(crate) const MOST_TICK: u32 = 10_000_000;
 
 /// What a crash table says.
 #[derive(Clone, Copy)]
@@ -33,7 +30,7 @@ fn read_crash(table: &Table, n: u16) -> Option<Crash>
     ensures one_of_them { IfSome result (λ c. IsProcess n c.process) }
 {
     let process = ranged(table, "process", 0, 1, u32::from(n))?;
-    let at = ranged(table, "at", 0, 0, MOST_TICK)?;
+    let at = ranged(table, "at", 0, 0, LAST_TICK)?;
     Some(Crash { process, at })
 }
 

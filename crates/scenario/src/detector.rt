@@ -5,7 +5,7 @@ ghost use Rattle.scenario.specs.Text.{detector_of, freshness_of, record_of, time
 ghost use Rattle.scenario.specs.Rules.{detector_refused, is_bad_detector, is_bad_freshness, is_bad_timeout, is_other_kind, share_refused};
 
 use crate::names::watch_of;
-use crate::numbers::ranged;
+use crate::numbers::{MOST_TICKS, ranged};
 use crate::table::{inner_table, is_fresh, text};
 use process_api::{DetectorNumbers, FreshnessNumbers, TimeoutNumbers};
 use toml::Table;
@@ -24,10 +24,10 @@ fn read_timeout(table: &Table) -> Option<TimeoutNumbers>
     ensures test { is_none result ≡ (is_other_kind (table_view table.now) || is_bad_timeout (table_view table.now)) }
     ensures value { IfSome result (λ d. d ≡ timeout_of (table_view table.now)) }
 {
-    let period = ranged(table, "period", 0, 1, 1_000_000)?;
-    let check = ranged(table, "check", 0, 1, 1_000_000)?;
-    let timeout = ranged(table, "timeout", 0, 1, 1_000_000)?;
-    let grow = ranged(table, "grow", 1, 1, 1_000_000)?;
+    let period = ranged(table, "period", 0, 1, MOST_TICKS)?;
+    let check = ranged(table, "check", 0, 1, MOST_TICKS)?;
+    let timeout = ranged(table, "timeout", 0, 1, MOST_TICKS)?;
+    let grow = ranged(table, "grow", 1, 1, MOST_TICKS)?;
     if names_other_kind(table) {
         return None;
     }
@@ -47,8 +47,8 @@ fn read_freshness(table: &Table) -> Option<FreshnessNumbers>
     ensures test { is_none result ≡ is_bad_freshness (table_view table.now) }
     ensures value { IfSome result (λ d. d ≡ freshness_of (table_view table.now)) }
 {
-    let eta = ranged(table, "eta", 0, 1, 1_000_000)?;
-    let delta = ranged(table, "delta", 0, 1, 1_000_000)?;
+    let eta = ranged(table, "eta", 0, 1, MOST_TICKS)?;
+    let delta = ranged(table, "delta", 0, 1, MOST_TICKS)?;
     let watch = watch_of(text(table, "watch", "all"))?;
     Some(FreshnessNumbers { eta, delta, watch })
 }
@@ -67,6 +67,7 @@ fn read_named(table: &Table) -> Option<DetectorNumbers>
 }
 
 /// The numbers of the detector's table, where there is one and all are in their ranges.
+#[tactic(auto, using(crate::proofs::NumberFacts::no_detector))]
 pub(crate) fn read_detector(top: &Table) -> Option<DetectorNumbers>
     ensures test { is_none result ≡ detector_refused (table_view top.now) }
     ensures value { IfSome result (λ d. d ≡ (record_of (table_view top.now)).detector) }
@@ -82,6 +83,6 @@ pub(crate) fn read_share(top: &Table) -> Option<Option<u32>>
     let Some(table) = inner_table(top, "share") else {
         return Some(None);
     };
-    let period = ranged(table, "period", 0, 1, 1_000_000)?;
+    let period = ranged(table, "period", 0, 1, MOST_TICKS)?;
     Some(Some(period))
 }

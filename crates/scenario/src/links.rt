@@ -9,7 +9,7 @@ ghost use Rattle.scenario.specs.Refusals.{Judges, when};
 ghost use Rattle.scenario.specs.Parts.{tables_in, AreProcesses, IsTop, links_of, pairs_refused};
 
 use crate::error::ScenarioError;
-use crate::numbers::{Top, ranged};
+use crate::numbers::{MOST_TICKS, Top, ranged};
 use crate::table::inner_table;
 use scenario_record::Link;
 use std::alloc::{AllocError, Global};
@@ -24,8 +24,8 @@ fn read_link(table: &Table) -> Option<Link>
     ensures test { is_none result ≡ is_bad_link (table_view table.now) }
     ensures value { IfSome result (λ l. l ≡ delays_of (table_view table.now)) }
 {
-    let min = ranged(table, "min", 0, 1, 1_000_000)?;
-    let max = ranged(table, "max", 0, 1, 1_000_000)?;
+    let min = ranged(table, "min", 0, 1, MOST_TICKS)?;
+    let max = ranged(table, "max", 0, 1, MOST_TICKS)?;
     let loss = ranged(table, "loss", 0, 0, MOST_LOSS)?;
     if max < min {
         return None;
@@ -109,6 +109,7 @@ fn filled(alloc: Global, own: &[Option<Link>], common: Link) -> Result<Vec<Link>
 }
 
 /// The common link, where there is a table of it and its numbers are in their ranges.
+#[tactic(auto, using(crate::proofs::NumberFacts::no_link_table))]
 fn read_common(top: &Table) -> Option<Link>
     ensures test { is_none result ≡ is_bad_link (table_or_empty (codes "link") (table_view top.now)) }
     ensures value { IfSome result (λ l. l ≡ delays_of (table_or_empty (codes "link") (table_view top.now))) }

@@ -71,6 +71,12 @@ pub(crate) fn ranged(
     Some(value as u32)
 }
 
+/// The most ticks that a delay, a period or a time-out may have.
+pub(crate) const MOST_TICKS: u32 = 1_000_000;
+
+/// The last tick that a horizon, a crash or an outage may have.
+pub(crate) const LAST_TICK: u32 = 10_000_000;
+
 /// How many processes a file of version 1 may have.
 const MOST_IN_FIRST: u32 = 64;
 
@@ -123,8 +129,8 @@ pub(crate) fn read_numbers(top: &Table) -> Result<TopNumbers, ScenarioError>
 {
     ranged(top, "version", 0, 1, 2).ok_or(Version)?;
     let processes = read_processes(top).ok_or(Processes)?;
-    let horizon = ranged(top, "horizon", 0, 1, 10_000_000).ok_or(Horizon)?;
-    let lookahead = ranged(top, "lookahead", 0, 1, 1_000_000).ok_or(Lookahead)?;
+    let horizon = ranged(top, "horizon", 0, 1, LAST_TICK).ok_or(Horizon)?;
+    let lookahead = ranged(top, "lookahead", 0, 1, MOST_TICKS).ok_or(Lookahead)?;
     let limit = ranged(top, "limit", 1_000_000, 1, 100_000_000).ok_or(Limit)?;
     let seed = natural_at(top, "seed", 0).ok_or(Seed)?;
     Ok(TopNumbers {

@@ -10,11 +10,10 @@ ghost use Rattle.scenario.specs.Rules.{is_bad_outage};
 ghost use Rattle.scenario.specs.Parts.{tables_in, outages_in, AreProcesses, IsTop};
 ghost use Rattle.scenario.specs.Inside.Outages.{Adds, AreOutagesOf, JudgesOutages, Says, with_outage};
 
-use crate::crashes::MOST_TICK;
 use crate::drawn::LinkOutage;
 use crate::error::ScenarioError;
 use crate::links::place_of;
-use crate::numbers::{Top, ranged};
+use crate::numbers::{LAST_TICK, Top, ranged};
 use scenario_record::{LinkOutages, Outage};
 use std::alloc::{AllocError, Global};
 use toml::Table;
@@ -38,8 +37,8 @@ fn read_outage(table: &Table, n: u16) -> Option<PairOutage>
 {
     let from = ranged(table, "from", 0, 1, u32::from(n))?;
     let to = ranged(table, "to", 0, 1, u32::from(n))?;
-    let begin = ranged(table, "begin", 0, 0, MOST_TICK)?;
-    let until = ranged(table, "until", 0, 0, MOST_TICK)?;
+    let begin = ranged(table, "begin", 0, 0, LAST_TICK)?;
+    let until = ranged(table, "until", 0, 0, LAST_TICK)?;
     if from == to || until <= begin {
         return None;
     }
@@ -102,7 +101,7 @@ fn add_tables(
 }
 
 /// What a drawn outage says, where its table would be right among n processes.
-#[tactic(auto, using(crate::proofs::DrawnTables::bad_drawn))]
+#[tactic(auto, using(crate::proofs::DrawnTables::bad_drawn, crate::proofs::DrawnTables::drawn_pair, crate::proofs::DrawnTables::drawn_outage))]
 fn fitting(outage: LinkOutage, n: u16) -> Option<PairOutage>
     ensures test { is_none result ≡ is_bad_outage n (outage_table outage) }
     ensures says { IfSome result (Says (outage_table outage)) }
@@ -118,7 +117,7 @@ fn fitting(outage: LinkOutage, n: u16) -> Option<PairOutage>
     if from > n || to > n || from == to {
         return None;
     }
-    if begin > MOST_TICK || until > MOST_TICK || until <= begin {
+    if begin > LAST_TICK || until > LAST_TICK || until <= begin {
         return None;
     }
     Some(PairOutage {

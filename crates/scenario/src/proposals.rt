@@ -45,6 +45,7 @@ fn proposals_among(alloc: Global, values: &[Value]) -> Result<Option<Vec<u32>>, 
 }
 
 /// The proposals of the processes of a scenario without an algorithm: there may be none.
+#[tactic(auto, using(crate::proofs::ProposalFacts::no_key))]
 fn read_no_proposals(alloc: Global, top: &Table) -> Result<Vec<u32>, ScenarioError>
     ensures judged { Judges (when (has_key (codes "proposals") (table_view top.now)) ScenarioError.Proposals) result }
     ensures value { IfOk result (λ v. v.items ≡ proposals_of (table_view top.now)) }
@@ -56,6 +57,7 @@ fn read_no_proposals(alloc: Global, top: &Table) -> Result<Vec<u32>, ScenarioErr
 }
 
 /// The proposals of n processes that run an algorithm: one of each.
+#[tactic(auto, using(crate::proofs::ProposalFacts::no_array, crate::proofs::ProposalFacts::bad_number, crate::proofs::ProposalFacts::integers_of_array))]
 fn read_each_proposal(alloc: Global, top: &Table, n: u16) -> Result<Vec<u32>, ScenarioError>
     requires { 1 ≤ n }
     ensures judged { Judges (when (has_other_proposals n (table_view top.now)) ScenarioError.Proposals) result }

@@ -14,6 +14,7 @@ use std::alloc::{AllocError, Global};
 use toml::{Table, Value};
 
 /// The value at a key, if there is one.
+#[tactic(auto, using(toml::proofs::Views::table_get))]
 pub(crate) fn value_at<'a>(table: &'a Table, key: &str) -> Option<&'a Value>
     ensures { option_map (λ v. view v.now) result ≡ get_member key.now (table_view table.now) }
 {
@@ -141,6 +142,7 @@ pub fn inner_array<'a>(table: &'a Table, key: &str) -> Option<&'a Vec<Value>>
 }
 
 /// The tables of the array of tables at a key; none where there is no such array.
+#[tactic(auto, unfolding(crate::specs::Table::tables_at))]
 pub(crate) fn inner_tables<'a>(
     alloc: Global,
     table: &'a Table,

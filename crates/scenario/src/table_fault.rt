@@ -9,11 +9,10 @@ ghost use Rattle.scenario.specs.Ranges.{Subject, allowed_of, element_subject, en
 ghost use Rattle.scenario.specs.Ranges.{crash_subject, detector_subject, link_subject, outage_subject, pair_subject};
 ghost use Rattle.scenario.specs.Faults.{IsFoundBy};
 
-use crate::crashes::MOST_TICK;
 use crate::error::ScenarioError;
 use crate::fault::{Fault, MinAboveMax, NotBefore, OtherName, Outside};
 use crate::links::MOST_LOSS;
-use crate::numbers::{lies_within, most_of_version};
+use crate::numbers::{LAST_TICK, lies_within, most_of_version};
 use crate::place::{Place, Section, TableArray};
 use crate::table::{integer_at, text_at};
 use toml::Table;
@@ -114,7 +113,7 @@ pub(crate) fn top_fault<'a>(top: &'a Table, error: &ScenarioError) -> Option<Fau
     match error {
         ScenarioError::Version => outside(top, "version", 1, 2),
         ScenarioError::Processes => outside(top, "processes", 1, u64::from(most_of_version(top))),
-        ScenarioError::Horizon => outside(top, "horizon", 1, 10_000_000),
+        ScenarioError::Horizon => outside(top, "horizon", 1, u64::from(LAST_TICK)),
         ScenarioError::Lookahead => outside(top, "lookahead", 1, MOST_TICKS),
         ScenarioError::Limit => outside(top, "limit", 1, 100_000_000),
         ScenarioError::Seed => outside(top, "seed", 0, i64::MAX as u64),
@@ -179,7 +178,7 @@ fn pair_fault(table: &Table, n: u16) -> Option<Fault<'_>>
 fn crash_fault(table: &Table, n: u16) -> Option<Fault<'_>>
     ensures { IsFoundBy (crash_subject n) (table_view table.now) result }
 {
-    outside(table, "process", 1, u64::from(n)).or(outside(table, "at", 0, u64::from(MOST_TICK)))
+    outside(table, "process", 1, u64::from(n)).or(outside(table, "at", 0, u64::from(LAST_TICK)))
 }
 
 /// The fault of a table of `outage`, of n processes.
@@ -189,8 +188,8 @@ fn outage_fault(table: &Table, n: u16) -> Option<Fault<'_>>
 {
     outside(table, "from", 1, u64::from(n))
         .or(outside(table, "to", 1, u64::from(n)))
-        .or(outside(table, "begin", 0, u64::from(MOST_TICK)))
-        .or(outside(table, "until", 0, u64::from(MOST_TICK)))
+        .or(outside(table, "begin", 0, u64::from(LAST_TICK)))
+        .or(outside(table, "until", 0, u64::from(LAST_TICK)))
         .or(to_itself(table))
         .or(not_before(table))
 }

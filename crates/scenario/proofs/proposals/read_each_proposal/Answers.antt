@@ -5,17 +5,8 @@ use Rattle.scenario.specs.Table.{array_in, the_integers}
 use Rattle.scenario.specs.Text.{natural}
 use Rattle.scenario.specs.Rules.{is_bad_proposal}
 use Rattle.scenario.proofs.Firsts.{applies, passes}
-use Rattle.scenario.proofs.ProposalFacts.{no_array, bad_number, other_count, right_count, integers_of_array}
+use Rattle.scenario.proofs.ProposalFacts.{other_count, right_count}
 use Rattle.scenario.proofs.proposals.read_each_proposal.Goals as goal
-
-pub returns-in_default-clause-judged : goal.returns-in_default-clause-judged
-returns-in_default-clause-judged c = λ other. applies _ _ (no_array c.args.n (codes "proposals") (table_view c.args.top.now) c.requires (search rules))
-
-pub returns-in_default-2-clause-judged : goal.returns-in_default-2-clause-judged
-returns-in_default-2-clause-judged c = λ other.
-    let array : Some (items_view c.in-Some.values.now.items) ≡ array_in (codes "proposals") (table_view c.args.top.now) = search rules in
-    let bad : list_any is_bad_proposal (the_integers (items_view c.in-Some.values.now.items)) ≡ true = search rules in
-    applies _ _ (bad_number c.args.n (codes "proposals") (table_view c.args.top.now) (items_view c.in-Some.values.now.items) array bad)
 
 pub returns-then-len-from-clause-judged : goal.returns-then-len-from-clause-judged
 returns-then-len-from-clause-judged c = λ other.
@@ -31,9 +22,3 @@ returns-clause-judged c =
     let good : list_any is_bad_proposal (the_integers (items_view c.in-Some.values.now.items)) ≡ false = search rules in
     let count : (length c.in-Some-2.proposals.items == c.args.n) ≡ true = search rules in
     passes _ _ (right_count c.args.n (codes "proposals") (table_view c.args.top.now) (items_view c.in-Some.values.now.items) c.in-Some-2.proposals.items array made good count)
-
-pub returns-clause-value : goal.returns-clause-value
-returns-clause-value c =
-    let array : Some (items_view c.in-Some.values.now.items) ≡ array_in (codes "proposals") (table_view c.args.top.now) = search rules in
-    let made : c.in-Some-2.proposals.items ≡ map natural (the_integers (items_view c.in-Some.values.now.items)) = search rules in
-    rw (integers_of_array (codes "proposals") (table_view c.args.top.now) (items_view c.in-Some.values.now.items) array) made

@@ -1,4 +1,4 @@
-use Rattle.std.proofs.Common.{◌∙◌, ◌∷◌, sym, ap, map, subst, rules, string_bytes, true, false}
+use Rattle.std.proofs.Common.{◌∙◌, ◌∷◌, sym, ap, map, subst, rules, string_bytes, true}
 use Rattle.std.specs.Map.Iter.{deref}
 use Rattle.std.specs.List.{Contains}
 use Rattle.std.proofs.lemmas.Map.Iter.{rest_more}
