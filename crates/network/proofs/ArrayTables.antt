@@ -1,5 +1,5 @@
 -- The tables of an array of tables.
-use Rattle.std.proofs.Common.{◌≡◌, ℕ, zero, suc, ◌<◌, ◌+◌, ◌++◌, true, false, List, [], ◌∷◌, length, get_or, map, slice_get, Some, None, option_and_then, refl, ap, sym, ◌∙◌, add-one}
+use Rattle.std.proofs.Common.{◌≡◌, ℕ, zero, suc, ◌<◌, ◌+◌, ◌++◌, Bool, true, false, if◌then◌else◌, List, [], ◌∷◌, length, get_or, map, slice_get, Some, None, option_and_then, refl, ap, sym, ◌∙◌, add-one}
 use Rattle.std.specs.List.{AllZip}
 use Rattle.std.proofs.lemmas.List.{length-map, get_or-map}
 use Rattle.std.proofs.lemmas.Option.{slice_get-get_or}
@@ -7,13 +7,22 @@ use Rattle.toml.specs.Data.{Data, Items, Members, no_items, item, table, array, 
 use Rattle.toml.specs.View.{view, items_view}
 use Rattle.toml.specs.declared.value.Value.{Value}
 use Rattle.toml.proofs.Views.{get_item_within}
-use Rattle.scenario.specs.Table.{all_items, is_of, is_table, tables_at, the_tables}
+use Rattle.scenario.specs.Table.{all_items, array_in, is_of, is_table, tables_at, the_tables}
 use Rattle.scenario.specs.Place.{numbered}
 use Rattle.scenario.specs.Faults.{count}
 use Rattle.scenario.specs.declared.field.Kind.TheVariants as kind
-use Rattle.scenario.proofs.FieldFacts.{tables_at-array, tables_at-none}
 use Rattle.scenario.proofs.Items.{count_view}
 use Rattle.network.specs.Fields.{items_in}
+
+-- the tables of an array that is there, and of none
+tables_at-array : (key : List ℕ) (t : Members) (ds : Items) (b : Bool) → array_in key t ≡ Some ds
+    → b ≡ all_items is_table ds → tables_at key t ≡ (if b then the_tables ds else [])
+unfolding tables_at
+tables_at-array key t ds b found e = rw (found, e) refl
+
+tables_at-none : (key : List ℕ) (t : Members) → array_in key t ≡ None → tables_at key t ≡ []
+unfolding tables_at
+tables_at-none key t found = rw found refl
 
 items_counted : (ds : Items) → all_items is_table ds ≡ true → length (the_tables ds) ≡ count ds
 items_counted no_items e = refl
