@@ -1,5 +1,5 @@
 -- What it is that all pairs were fed with the entries of a trace, and how they open.
-use Rattle.std.specs.Prelude.{◌≡◌, ℕ, suc, ◌+◌, ◌*◌, ◌<◌, ◌≤◌, Bool, List, [], ◌∷◌, get_or}
+use Rattle.std.specs.Prelude.{◌≡◌, ℕ, suc, ◌+◌, ◌*◌, ◌<◌, ◌≤◌, Bool, List, [], ◌∷◌, ◌++◌, get_or}
 use Rattle.process_api.specs.EntryRecord.{EntryRecord}
 use Rattle.scenario_record.specs.Record.{Record}
 use Rattle.judges.specs.Crashes.{end_of}
@@ -17,6 +17,11 @@ AreUntil (entry ∷ trace) last = (entry.key.tick ≤ last) × AreUntil trace la
 abbrev pub AreFrom : (first : ℕ) → List EntryRecord → Type 0
 AreFrom first [] = Unit {0}
 AreFrom first (entry ∷ trace) = (first ≤ entry.key.tick) × AreFrom entry.key.tick trace
+
+-- whatever it was fed with before, it was fed with this entry after it, of no earlier tick
+abbrev pub WasFed : {F : Type 0} (fed : List EntryRecord → F → Type 0) → EntryRecord → (old new : F) → Type 0
+WasFed fed entry old new = (trace : List EntryRecord)
+    → fed trace old → AreUntil trace entry.key.tick → fed (trace ++ entry ∷ []) new
 
 module _ {K : Type 0} (passed : (until : ℕ) → (suspected : Bool) → (end : ℕ) → K → K) where
   -- a pair that opened so, after its turns in a trace

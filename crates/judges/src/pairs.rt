@@ -1,7 +1,6 @@
 //! All pairs of processes, as a trace goes by.
-ghost use Rattle.std.specs.Prelude.{◌≡◌, ℕ, ◌+◌, ◌*◌, ◌<◌, ◌≤◌, ◌++◌, ◌∷◌, [], ◌==◌, if◌then◌else◌, List, Some, length, vec_len, get_or, IfOk};
+ghost use Rattle.std.specs.Prelude.{◌≡◌, ℕ, ◌+◌, ◌*◌, ◌<◌, ◌≤◌, [], ◌==◌, if◌then◌else◌, Some, length, vec_len, get_or, IfOk};
 ghost use Rattle.process_api.specs.Bounds.{most_processes};
-ghost use Rattle.process_api.specs.EntryRecord.{EntryRecord};
 ghost use Rattle.scenario_record.specs.Record.{Record};
 ghost use Rattle.judges.specs.Ends.{opened_at};
 ghost use Rattle.judges.specs.Pair.{AreTurned};
@@ -97,7 +96,7 @@ pub struct Pairs<K> {
 }
 
 impl<K: Gauge> Pairs<K> {
-    ghost use Rattle.judges.specs.Pairs.{ArePairs, AreUntil};
+    ghost use Rattle.judges.specs.Pairs.{ArePairs, WasFed};
 
     /// Pairs that were fed with nothing: of layer 1, the base detector, or layer 2, the reduction's output. Of each is
     /// kept what is given.
@@ -126,9 +125,8 @@ impl<K: Gauge> Pairs<K> {
     /// One more entry. Takes no memory.
     #[inline(always)]
     pub fn feed(&mut self, entry: &Entry)
-        ensures { (S : Record) (layer : ℕ) (kept : K) (trace : List EntryRecord)
-            → ArePairs K.passed S layer kept trace self.old → AreUntil trace entry.now.key.tick
-            → ArePairs K.passed S layer kept (trace ++ entry.now ∷ []) self.new }
+        ensures { (S : Record) (layer : ℕ) (kept : K)
+            → WasFed (ArePairs K.passed S layer kept) entry.now self.old self.new }
     {
         if entry.key.tick < self.horizon {
             note_all(

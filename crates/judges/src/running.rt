@@ -1,5 +1,5 @@
 //! A judge that runs beside a trace.
-ghost use Rattle.std.specs.Prelude.{◌≡◌, ℕ, ◌++◌, ◌∷◌, List, [], IfOk};
+ghost use Rattle.std.specs.Prelude.{◌≡◌, ℕ, List, [], IfOk};
 
 use crate::grid::grid_verdicts;
 use crate::pairs::Pairs;
@@ -21,7 +21,7 @@ pub struct RunningJudge {
 impl RunningJudge {
     ghost use Rattle.process_api.specs.EntryRecord.{EntryRecord};
     ghost use Rattle.scenario_record.specs.Record.{Record};
-    ghost use Rattle.judges.specs.Pairs.{AreUntil};
+    ghost use Rattle.judges.specs.Pairs.{WasFed};
     ghost use Rattle.judges.specs.Judging.{IsJudging};
     ghost use Rattle.judges.specs.Verdicts.{verdicts};
 
@@ -40,8 +40,7 @@ impl RunningJudge {
 
     /// One more entry. Takes no memory.
     pub fn feed(&mut self, entry: &Entry)
-        ensures { (S : Record) (layer : ℕ) (trace : List EntryRecord) → IsJudging S layer trace self.old
-            → AreUntil trace entry.now.key.tick → IsJudging S layer (trace ++ entry.now ∷ []) self.new }
+        ensures { (S : Record) (layer : ℕ) → WasFed (IsJudging S layer) entry.now self.old self.new }
     {
         self.pairs.feed(entry);
     }

@@ -1,5 +1,5 @@
 //! Letters that are posted together.
-ghost use Rattle.std.specs.Prelude.{◌≡◌, ◌≤◌, ◌+◌, length, OnOk};
+ghost use Rattle.std.specs.Prelude.{◌≡◌, ◌≤◌, ◌+◌, [], get_or, length, OnOk};
 ghost use Rattle.mailboxes.specs.Mailboxes.{filed};
 
 use process_api::Key;
@@ -40,6 +40,16 @@ impl Tray {
         ensures { result ≡ length self.now }
     {
         self.lists.len()
+    }
+
+    /// How many letters wait for the receiver at a place, and 0 where there is none.
+    pub fn waiting(&self, place: usize) -> usize
+        ensures { result ≡ length (get_or self.now place []) }
+    {
+        match self.lists.get(place) {
+            Some(list) => list.len(),
+            None => 0,
+        }
     }
 
     /// One letter more, to a receiver of 1 to n. The error is that memory was refused. Some letters of the tray may

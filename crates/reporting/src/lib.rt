@@ -22,7 +22,8 @@
 //! - [`Outlet`] says what a put does, and [`put_all`] hands on a whole piece up to the first put that fails.
 //!
 //! Nothing is ever tried again. Each text is formed whole before the first of its bytes is written. Rows are formed by
-//! `csv` over memory, their numbers by `itoa`. All that is measured of a run takes one pass over its entries, by
+//! `csv` over memory, their numbers by `itoa`; the fields that all rows of a subject begin with are formed once, and
+//! reach `csv` as one. All that is measured of a run takes one pass over its entries, by
 //! followers put together ([`Running`]): an entry without notes is counted, and no more. That pass can be the run
 //! itself, so no entry is held. A run whose report alone is asked for holds nothing that grows with the run. A run that
 //! is only measured holds the length of each mistake.

@@ -14,6 +14,7 @@ use crate::findings::RunFindings;
 use crate::following::{Measuring, Recording, Running, Summing};
 use crate::layer::Layer;
 use crate::pair_measures::PairMeasures;
+use crate::panel::places;
 use crate::report::text_of_report;
 use crate::summary::Summary;
 use crate::trace_text::TraceText;
@@ -68,7 +69,7 @@ pub fn close_measuring(
         → IsMeasuring true S trace measuring → AreRunDurations S trace told.1) }
 {
     let (summing, (first, second)) = measuring;
-    let mut measures = Vec::new(alloc);
+    let mut measures = Vec::with_capacity(alloc, places(&first.pairs))?;
     let (verdicts, lengths) = first.close(&mut measures)?;
     let (second, second_lengths) = close_second(alloc, second, &mut measures)?;
     Ok((

@@ -8,7 +8,7 @@ use std::alloc::{AllocError, Global};
 /// How many letters of a link share a draw: their words are four blocks of ChaCha, which come together.
 pub(crate) const LETTERS: usize = 32;
 
-/// No process has a greater number than places below this many.
+/// A process's number has 16 bits, so that no receiver has its place at this one or beyond.
 const MOST_PLACES: usize = 65_536;
 
 /// The two words of a letter of a link.

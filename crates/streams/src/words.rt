@@ -127,7 +127,9 @@ impl SenderWords {
         seed: u64,
         from: Pid,
         places: usize,
-    ) -> Result<SenderWords, AllocError> {
+    ) -> Result<SenderWords, AllocError>
+        ensures { IfOk result (λ words. words ≡ (seed, from)) }
+    {
         Ok(SenderWords {
             seed,
             from: from.number(),

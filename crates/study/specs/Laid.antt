@@ -52,10 +52,14 @@ drawn_in t its = drawn_of (processes_of t) (horizon_of t) (seed_of t) its
 
 -- ---- tables of a scenario's file
 
+-- the table with this number at the key
+abbrev pub with_number : (key : List ℕ) → (number : ℕ) → Members → Members
+with_number key number t = put key (integer (pos number)) t
+
 -- a table with these numbers at these keys
 abbrev pub with_numbers : List (List ℕ × ℕ) → Members
 with_numbers [] = no_members
-with_numbers (n ∷ ns) = put n.0 (integer (pos n.1)) (with_numbers ns)
+with_numbers (n ∷ ns) = with_number n.0 n.1 (with_numbers ns)
 
 unfoldable pub link_table : LaidLink → Data
 link_table l = table (with_numbers ((codes "from", l.from) ∷ (codes "to", l.to)

@@ -57,8 +57,9 @@ fn name_in(alloc: Global, word: &str) -> Result<String, KeyError>
 /// The key of a table of an array, or of all of them: by what stands before the array's bracket, between it and the
 /// dot, and after the dot.
 fn listed_key(alloc: Global, array: &str, place: &str, key: &str) -> Result<FileKey, KeyError>
-    ensures ok { IfOk result (λ k. ((array.now ++ (91 ∷ place.now)) ++ (46 ∷ key.now) ≡ file_key_text (file_path_of k))
-        × (IsInArray (file_path_of k) × HasFileNames (file_path_of k))) }
+    ensures text { IfOk result
+        (λ k. (array.now ++ (91 ∷ place.now)) ++ (46 ∷ key.now) ≡ file_key_text (file_path_of k)) }
+    ensures names { IfOk result (λ k. IsInArray (file_path_of k) × HasFileNames (file_path_of k)) }
     ensures err { IfErr result (λ e. is_memory e ≡ false → (e ≡ KeyError.NoKey)
         × (is_name array.now ≡ true → IsPlace place.now → is_name key.now ≡ false)) }
 {
@@ -75,8 +76,8 @@ fn listed_key(alloc: Global, array: &str, place: &str, key: &str) -> Result<File
 
 /// The key of a table of the scenario's file, by what stands before and after its dot.
 fn owned_key(alloc: Global, owner: &str, key: &str) -> Result<FileKey, KeyError>
-    ensures ok { IfOk result (λ k. (owner.now ++ (46 ∷ key.now) ≡ file_key_text (file_path_of k))
-        × HasFileNames (file_path_of k)) }
+    ensures text { IfOk result (λ k. owner.now ++ (46 ∷ key.now) ≡ file_key_text (file_path_of k)) }
+    ensures names { IfOk result (λ k. HasFileNames (file_path_of k)) }
     ensures err { IfErr result (λ e. is_memory e ≡ false
         → (e ≡ KeyError.NoKey) × (IsOwner owner.now → is_name key.now ≡ false)) }
 {
@@ -92,8 +93,8 @@ fn owned_key(alloc: Global, owner: &str, key: &str) -> Result<FileKey, KeyError>
 
 /// The key of the network's file, by what stands before and after its dot.
 fn network_key(alloc: Global, owner: &str, key: &str) -> Result<FileKey, KeyError>
-    ensures ok { IfOk result (λ k. (owner.now ++ (46 ∷ key.now) ≡ file_key_text (file_path_of k))
-        × (IsInArray (file_path_of k) × HasFileNames (file_path_of k))) }
+    ensures text { IfOk result (λ k. owner.now ++ (46 ∷ key.now) ≡ file_key_text (file_path_of k)) }
+    ensures names { IfOk result (λ k. IsInArray (file_path_of k) × HasFileNames (file_path_of k)) }
     ensures err { IfErr result (λ e. is_memory e ≡ false
         → (e ≡ KeyError.NoKey) × (IsListed owner.now → is_name key.now ≡ false)) }
 {

@@ -1,13 +1,13 @@
 //! Tables of links and of outages, laid over those of a scenario's table.
-ghost use Rattle.std.specs.Prelude.{◌≡◌, ◌++◌, ◌∷◌, [], codes, pos, not, true, filter, map, IfOk, OnOk, IfErr, MatchOption, if◌then◌else◌};
+ghost use Rattle.std.specs.Prelude.{◌≡◌, ◌++◌, ◌∷◌, [], codes, not, true, filter, map, IfOk, OnOk, IfErr, IfNone, IfSome, if◌then◌else◌};
 ghost use Rattle.std.specs.List.{list_any};
-ghost use Rattle.toml.specs.Data.{Data, integer};
+ghost use Rattle.toml.specs.Data.{Data};
 ghost use Rattle.toml.specs.View.{view, table_view};
-ghost use Rattle.scenario.specs.Drawn.{put as put_member, with_outages};
+ghost use Rattle.scenario.specs.Drawn.{with_outages};
 ghost use Rattle.scenario.specs.Text.{same_pair};
 ghost use Rattle.study.specs.Placed.{is_memory};
 ghost use Rattle.study.specs.Laid as spec;
-ghost use Rattle.study.specs.Laid.{StaysAsItIs, HasValues, with_rows};
+ghost use Rattle.study.specs.Laid.{StaysAsItIs, HasValues, with_number, with_rows};
 
 use crate::error::PlaceError;
 use crate::extent_of::natural_at;
@@ -23,8 +23,7 @@ type Done = Result<(), PlaceError>;
 
 /// Puts a number at a key of a table.
 fn put_number(alloc: Global, table: &mut Table, key: &str, number: u32) -> Done
-    ensures ok { OnOk result (table_view table.new
-        ≡ put_member key.now (integer (pos number)) (table_view table.old)) }
+    ensures ok { OnOk result (table_view table.new ≡ with_number key.now number (table_view table.old)) }
     ensures err { IfErr result (λ e. is_memory e ≡ true) }
 {
     put(alloc, table, key, Value::Integer(i64::from(number)))
@@ -32,8 +31,8 @@ fn put_number(alloc: Global, table: &mut Table, key: &str, number: u32) -> Done
 
 /// Puts the ends of a link into a table.
 fn put_ends(alloc: Global, table: &mut Table, from: Pid, to: Pid) -> Done
-    ensures ok { OnOk result (table_view table.new ≡ put_member (codes "from") (integer (pos from))
-        (put_member (codes "to") (integer (pos to)) (table_view table.old))) }
+    ensures ok { OnOk result (table_view table.new
+        ≡ with_number (codes "from") from (with_number (codes "to") to (table_view table.old))) }
     ensures err { IfErr result (λ e. is_memory e ≡ true) }
 {
     put_number(alloc, table, "to", u32::from(to.number()))?;
@@ -85,8 +84,9 @@ impl Row for LinkOutage {
 
 /// Copies of what the array of tables at a key has: nothing where there is no such key. None: something else is there.
 fn values_at(alloc: Global, table: &Table, key: &str) -> Result<Option<Vec<Value>>, PlaceError>
-    ensures ok { IfOk result (λ found. MatchOption found (StaysAsItIs key.now (table_view table.now))
-        (λ v. HasValues key.now (map view v.items) (table_view table.now))) }
+    ensures none { IfOk result (λ found. IfNone found (StaysAsItIs key.now (table_view table.now))) }
+    ensures some { IfOk result (λ found.
+        IfSome found (λ v. HasValues key.now (map view v.items) (table_view table.now))) }
     ensures err { IfErr result (λ e. is_memory e ≡ true) }
 {
     let Some(value) = value_at(table, key) else {

@@ -77,8 +77,9 @@ fn draw_over(
     ensures ok { IfOk result (λ v. v.items
         ≡ drawn_of extent.processes extent.horizon extent.seed network.now) }
     ensures few { IfOk result (λ v. length v.items ≤ most_outages) }
-    ensures err { IfErr result (λ e. is_memory e ≡ false → (e ≡ PlaceError.TooManyOutages) × (most_outages
-        < length (drawn_of extent.processes extent.horizon extent.seed network.now))) }
+    ensures err { IfErr result (λ e. is_memory e ≡ false → e ≡ PlaceError.TooManyOutages) }
+    ensures many { IfErr result (λ e. is_memory e ≡ false
+        → most_outages < length (drawn_of extent.processes extent.horizon extent.seed network.now)) }
 {
     match draw(
         alloc,

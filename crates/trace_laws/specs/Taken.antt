@@ -47,7 +47,7 @@ abbrev pub AreFilled : Vector → Type 0
 AreFilled cells = IsSomeKnown cells ⊎ (2 ^ 32 ≤ length cells)
 
 -- what takes memory of its own: a set with a member above 64, cells of a round that are filled, all cells of the last
--- round, or a long round or stamp
+-- round, or an estimate's long round or stamp
 abbrev pub LiesAside : Payload → Type 0
 LiesAside (payload.Suspects set) = HasAbove 64 set
 LiesAside (payload.Vector round cells) = AreFilled cells

@@ -55,10 +55,11 @@ pub use Rattle.window_laws.proofs.Whole.{one_merge, windows_trace}
 pub use Rattle.window_laws.specs.Machine.{Act, IsRun, StageRecord, StandsFor, end_of, first_status, for_others, for_self}
 pub use Rattle.window_laws.specs.Theorems.{IsMerge, end_to_end}
 pub use Rattle.window_laws.specs.Window.{AreBerths, BerthRun, IsPosted, IsSameStage}
-pub use Rattle.windows.specs.Berth.{IsBerth, all_filed, made_in, most_in_part, with_letters}
+pub use Rattle.windows.specs.Berth.{IsBerth, all_filed, most_in_part, with_letters}
 pub use Rattle.windows.specs.Inside.Agenda.{AreFrom, AreLists, AreOne, IsParted, all_ahead, all_in, first_tick, in_box}
 pub use Rattle.windows.specs.Inside.Closing.{IsClosed, IsNextWindow, delivered, kept_in}
 pub use Rattle.windows.specs.Inside.Last.{AreParts, IsMerged, TookAllBut, TookFrontOf}
+pub use Rattle.windows.specs.Inside.Outbox.{made_in}
 pub use Rattle.windows.specs.Inside.Shared.{AreAnswers, ArePosting, AreReady, IsAnswerTo, IsOneTooLong, IsStart, IsWorkBy, IsWorkIn}
 pub use Rattle.windows.specs.Inside.Workers.{AreRun, AreRunBy, BringsTogether, HasLong, IsFresh, IsOutcome, IsReady, IsRest, IsSent, IsStay, IsWork, RiseBy, Stay, given_to, is_to, left_in, sent_in, stay, taken_in}
 pub use Rattle.windows.specs.Refusals.{AreThere, IsFirstRefusal, IsRefusal, IsRefusalOfOne}

@@ -8,8 +8,7 @@ use Rattle.process_api.specs.declared.message.StepInput.{StepInput}
 use Rattle.scenario_record.specs.Record.{Record}
 use Rattle.trace_laws.specs.ScenarioSetting.{setting_of}
 use Rattle.steps.specs.Seat.{process_of, own_of, IsSeated}
-use Rattle.steps.specs.declared.seat.Seat.{Seat}
-use Rattle.trace_laws.specs.Step.{Event, Events, Process, Made, step}
+use Rattle.trace_laws.specs.Step.{Event, Events, Process}
 use Rattle.trace_laws.specs.World.{Pair, Has, entries}
 use Rattle.mailboxes.specs.Mailboxes.{SlipView, filed, slip_of}
 use Rattle.trace_laws.specs.Taken.{event_of}
@@ -37,10 +36,6 @@ AreFiled p es old new =
     (letters : List Letter) × (map event_of letters ≡ for_others p es) × (new ≡ all_filed old letters)
 
 module _ {M : Type 0} (mind : M → Mind) (s : Record) where
-  -- what the process in a seat makes of an event
-  abbrev pub made_in : Seat M → Key → StepInput → Made (setting_of s)
-  made_in seat key input = step (setting_of s) (process_of mind seat) key input
-
   -- with an entry for each event of the process below the end, its part of the window has more than so many
   abbrev pub IsLong : (end left : ℕ) → Berth M → Type 0
   IsLong end left b = (history : List Pair) (after : Process Mind) (rest : Events) (letters : List Event)
@@ -64,3 +59,8 @@ module _ {M : Type 0} (mind : M → Mind) (s : Record) where
     pub run : BerthRun (setting_of s) p end (process_of mind old.seat) old.pending history
         (process_of mind new.seat) new.pending (map event_of letters)
     pub part : new.part.items ≡ old.part.items ++ entries history
+
+  -- the process in the berth took its events below the end, and the letters that it posted are so
+  abbrev pub HasRun : (end : ℕ) (old new : Berth M) → (List Letter → Type 0) → Type 0
+  HasRun end old new Are = (p : ℕ) → own_of mind old.seat ≡ p
+      → (letters : List Letter) × RanTo p end old new letters × Are letters

@@ -45,7 +45,7 @@ module _ {K : Type 0} (took : K → List EntryRecord → K → Type 0) {Mind : T
         → (rest : List EntryRecord) × (whole ≡ (end_to_end parts ++ last) ++ rest)
 
   -- The sink took whole parts and was handed nothing more. They have just the entries that every trace has below some
-  -- tick: those of the windows that were closed
+  -- tick. Which tick that is isn't said; the run hands on the entries of the windows that were closed
   pub record TookClosed (old new : K) : Type 0 where
     pub parts : List (List EntryRecord)
     pub took_all : TookAll took old parts new

@@ -16,6 +16,7 @@ use Rattle.trace_laws.specs.Reached.{IsReached}
 use Rattle.trace_laws.specs.Step.{Events}
 use Rattle.trace_laws.specs.World.{World, IsWorld, NoneBelow, start_of, opening_process}
 use Rattle.windows.specs.Berth.{IsBerth}
+use Rattle.windows.specs.Plan.{PlanRecord}
 use Rattle.window_laws.specs.Machine.{StageRecord, Act, StandsFor, IsRun, end_of, first_status}
 use Rattle.window_laws.specs.Theorems.{IsMerge}
 use Rattle.window_laws.specs.Window.{IsSameStage}
@@ -102,3 +103,8 @@ module _ {M : Type 0} where
     pub some : All (λ b. ¬ (NoneBelow end b.pending)) waiting
     pub none : All (λ b. NoneBelow end b.pending) idle
     pub count : started ≡ min (length waiting) workers
+
+  -- the next window of a stage started so many, by a plan
+  abbrev pub StartedWorkers : PlanRecord → (old new : Stage M) → Type 0
+  StartedWorkers plan old new =
+      IsCountOfWorkers (end_of (setting_of old.scenario.now) plan.window old.start) plan.workers old.berths.items new.workers

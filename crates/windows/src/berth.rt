@@ -1,12 +1,11 @@
 //! One process of a window: its machine, its pending events, and its part of the trace.
 ghost use Rattle.std.specs.Prelude.{◌≡◌, ◌≤◌, ◌<◌, ◌+◌, ◌*◌, ◌^◌, ◌++◌, [], ◌∷◌, ℕ, List, length, vec_len, IfErr, IfOk, OnOk, IsErrOf};
 ghost use Rattle.process_api.specs.Bounds.{most_step_actions};
-ghost use Rattle.process_api.specs.declared.message.Letter.{Letter};
-ghost use Rattle.steps.specs.Seat.{process_of, own_of, IsMindIn, IsSeated};
-ghost use Rattle.trace_laws.specs.World.{joined, opened};
+ghost use Rattle.steps.specs.Seat.{process_of, own_of, IsMindIn, IsSeated, StaysSeated};
+ghost use Rattle.trace_laws.specs.World.{opened};
 ghost use Rattle.mailboxes.specs.Mailboxes.{IsSlipOf};
-ghost use Rattle.windows.specs.Berth.{all_filed, with_letters, made_in, AreFiled, IsBerth, IsBerthOf, IsLong, RanTo};
-ghost use Rattle.window_laws.specs.Machine.{for_self};
+ghost use Rattle.windows.specs.Berth.{all_filed, with_letters, AreFiled, HasRun, IsBerth, IsBerthOf, IsLong};
+ghost use Rattle.windows.specs.Inside.Outbox.{made_in, with_own};
 ghost use Rattle.windows.specs.Refusals.{IsRefusalOfOne};
 
 use crate::agenda::Agenda;
@@ -91,16 +90,15 @@ impl<M: Process> Berth<M> {
 
         ensures tray { length tray.new ≡ length tray.old }
         ensures process { OnOk result (process_of M.mind self.new.seat
-            ≡ (made_in M.mind streams.now self.old.seat event.0 event.1).process) }
+            ≡ (made_in M.mind streams.now self.old.seat event).process) }
         ensures own { OnOk result (own_of M.mind self.new.seat ≡ own_of M.mind self.old.seat) }
-        ensures seated { OnOk result ((most : ℕ) → IsSeated M.mind streams.now most self.old.seat
-            → IsSeated M.mind streams.now (most + most_step_actions) self.new.seat) }
-        ensures pending { OnOk result (self.new.pending ≡ joined self.old.pending
-            (for_self event.0.receiver (made_in M.mind streams.now self.old.seat event.0 event.1).added)) }
+        ensures seated { OnOk result (StaysSeated M.mind streams.now self.old.seat self.new.seat) }
+        ensures pending { OnOk result (self.new.pending ≡ with_own event.0.receiver self.old.pending
+            (made_in M.mind streams.now self.old.seat event).added) }
         ensures part { OnOk result (self.new.part.items
-            ≡ self.old.part.items ++ (made_in M.mind streams.now self.old.seat event.0 event.1).entry ∷ []) }
+            ≡ self.old.part.items ++ (made_in M.mind streams.now self.old.seat event).entry ∷ []) }
         ensures letters { OnOk result (AreFiled event.0.receiver
-            (made_in M.mind streams.now self.old.seat event.0 event.1).added tray.old tray.new) }
+            (made_in M.mind streams.now self.old.seat event).added tray.old tray.new) }
     {
         let (key, input) = event;
         let mut outbox = Outbox {
@@ -135,8 +133,8 @@ pub(crate) fn run_into<M: Process, R: Wait>(
     requires tray { length tray.old ≡ streams.now.processes }
 
     ensures tray { length tray.new ≡ length tray.old }
-    ensures ran { OnOk result ((p : ℕ) → own_of M.mind berth.old.seat ≡ p → (letters : List Letter)
-        × RanTo M.mind streams.now p end berth.old berth.new letters × (tray.new ≡ all_filed tray.old letters)) }
+    ensures ran { OnOk result (HasRun M.mind streams.now end berth.old berth.new
+        (λ letters. tray.new ≡ all_filed tray.old letters)) }
     ensures berth { OnOk result ((p most : ℕ)
         → IsBerth M.mind streams.now p most berth.old → IsBerth M.mind streams.now p most berth.new) }
     ensures within { OnOk result (vec_len berth.new.part ≤ left) }
@@ -186,8 +184,8 @@ pub fn run_berth<M: Process, R: Wait>(
     requires boxes { length mailboxes.now ≡ streams.now.processes }
 
     ensures slip { IsSlipOf mailboxes.now slip.new }
-    ensures ran { OnOk result ((p : ℕ) → own_of M.mind berth.old.seat ≡ p → (letters : List Letter)
-        × RanTo M.mind streams.now p end berth.old berth.new letters × (slip.new ≡ with_letters slip.old letters)) }
+    ensures ran { OnOk result (HasRun M.mind streams.now end berth.old berth.new
+        (λ letters. slip.new ≡ with_letters slip.old letters)) }
     ensures berth { OnOk result ((p most : ℕ)
         → IsBerth M.mind streams.now p most berth.old → IsBerth M.mind streams.now p most berth.new) }
     ensures within { OnOk result (vec_len berth.new.part ≤ left) }

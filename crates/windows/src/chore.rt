@@ -2,6 +2,7 @@
 ghost use Rattle.std.specs.Prelude.{◌≡◌};
 ghost use Rattle.std.specs.Borrow.{GName};
 
+use process_api::Entry;
 use std::alloc::Global;
 
 /// What the starter does beside the workers of a window.
@@ -20,6 +21,11 @@ pub(crate) trait Chore {
         requires { waits self.old }
         ensures done { done self.old self.new }
         ensures place { place self.new ≡ place self.old };
+
+    /// Gives up lists in whose memory the next window's parts may lie. It stays as done as it is.
+    fn rooms(&mut self, alloc: Global) -> Vec<Vec<Entry>>
+        ensures done { (before : Self) → done before self.old → done before self.new }
+        ensures place { place self.new ≡ place self.old };
 }
 
 /// There is nothing to do.
@@ -31,4 +37,8 @@ impl Chore for () {
     ghost place = { λ _. 0 };
 
     fn work(&mut self, _alloc: Global) {}
+
+    fn rooms(&mut self, alloc: Global) -> Vec<Vec<Entry>> {
+        Vec::new(alloc)
+    }
 }

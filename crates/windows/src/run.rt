@@ -5,10 +5,10 @@ ghost use Rattle.process_api.specs.Numbers.{numbers_to};
 ghost use Rattle.scenario_record.specs.Record.{opening_mind};
 ghost use Rattle.trace_laws.specs.ScenarioSetting.{setting_of};
 ghost use Rattle.trace_laws.specs.World.{IsTrace};
-ghost use Rattle.windows.specs.Inside.Closing.{HasNextWindow, IsNextWindow, IsOverLimit};
+ghost use Rattle.windows.specs.Inside.Closing.{HasNextWindow, IsNextWindow};
 ghost use Rattle.windows.specs.Inside.Last.{AreParts, HandedOn, TookAllBut, TookFrontOf};
 ghost use Rattle.windows.specs.Plan.{IsPlanFor};
-ghost use Rattle.windows.specs.Refusals.{IsRefusal};
+ghost use Rattle.windows.specs.Refusals.{IsOverLimit, IsRefusal};
 ghost use Rattle.windows.specs.Sink.{IsRefusalOfSink, TookTrace, TookFront, TookClosed, writes_of};
 
 use crate::chore::Chore;
@@ -60,13 +60,6 @@ fn hand_on<K: Sink>(
     }
 }
 
-/// Parts that wait to be handed on, and memory in which the next window's may lie.
-#[derive(Drop)]
-struct Waiting {
-    parts: Vec<Vec<Entry>>,
-    rooms: Vec<Vec<Entry>>,
-}
-
 /// Parts that wait to be handed on, memory of those that were, and what the sink answered to these.
 #[derive(Drop)]
 struct Left {
@@ -97,6 +90,10 @@ impl<K: Sink> Chore for Handing<'_, K> {
         let parts = replace(&mut self.left.parts, Vec::new(alloc));
         self.left.told = hand_on(alloc, self.sink, parts, &mut self.left.rooms);
     }
+
+    fn rooms(&mut self, alloc: Global) -> Vec<Vec<Entry>> {
+        replace(&mut self.left.rooms, Vec::new(alloc))
+    }
 }
 
 /// Runs the next window of a stage, as [`run_parts`] does. Meanwhile the starter hands the parts that wait to the sink.
@@ -109,26 +106,25 @@ fn run_and_hand_on<M: Process, G: Gate, K: Sink, R: Threads + Wait + Sync>(
     plan: &Plan,
     gate: &G,
     sink: &mut K,
-    waiting: Waiting,
+    parts: Vec<Vec<Entry>>,
 ) -> (Result<Vec<Vec<Entry>>, RunError>, Left)
     requires window { HasNextWindow M.mind plan.now stage.old }
-    requires waiting { AreParts waiting.parts.items }
+    requires waiting { AreParts parts.items }
     requires failures { K.failed sink.old < 2 ^ 64 - 1 }
 
-    ensures handed { HandedOn K.took K.took_front K.failed waiting.parts.items result.1.parts.items sink.old sink.new
+    ensures handed { HandedOn K.took K.took_front K.failed parts.items result.1.parts.items sink.old sink.new
         result.1.told }
     ensures window { IfOk result.0 (λ parts. IsNextWindow M.mind plan.now stage.old parts.items stage.new) }
     ensures errors { IfErr result.0 IsRefusal }
     ensures limit { IsErrOf result.0 RunError.Limit → IsOverLimit stage.old.scenario.now }
 {
-    let Waiting { parts, mut rooms } = waiting;
     let left = Left {
         parts,
         rooms: Vec::new(alloc),
         told: Ok(()),
     };
     let mut handing = Handing { left, sink };
-    let ran = run_parts(rt, alloc, stage, plan, gate, &mut handing, &mut rooms);
+    let ran = run_parts(rt, alloc, stage, plan, gate, &mut handing);
     let Handing { left, sink: _sink } = handing;
     (ran, left)
 }
@@ -164,29 +160,25 @@ pub fn run_windows_into<M: Process, G: Gate, K: Sink, R: Threads + Wait + Sync>(
     ensures closed { IsErrOf result RunError.Limit ⊎ IsErrOf result RunError.Spawn
         → TookClosed K.took (setting_of scenario.now) sink.old sink.new }
     ensures count { K.failed sink.new ≡ K.failed sink.old + writes_of result }
-    ensures limit { IsErrOf result RunError.Limit → (whole : List EntryRecord)
-        → IsTrace (setting_of scenario.now) whole → scenario.now.limit < length whole }
+    ensures limit { IsErrOf result RunError.Limit → IsOverLimit scenario.now }
 {
     // Readers say that a window has a tick at least, and that the scenario's fields are in their ranges.
     let _window = plan.window();
     let _horizon = scenario.horizon();
     let mut stage = Stage::open(alloc, scenario, machines)?;
     let mut parts = Vec::new(alloc);
-    let mut rooms = Vec::new(alloc);
     while !stage.finished() {
-        let waiting = Waiting { parts, rooms };
-        let (ran, left) = run_and_hand_on(rt, alloc, &mut stage, plan, gate, sink, waiting);
+        let (ran, left) = run_and_hand_on(rt, alloc, &mut stage, plan, gate, sink, parts);
         let Left {
             parts: rest,
-            rooms: mut kept,
+            mut rooms,
             told,
         } = left;
         told?;
-        hand_on(alloc, sink, rest, &mut kept)?;
+        hand_on(alloc, sink, rest, &mut rooms)?;
         parts = ran?;
-        rooms = kept;
     }
-    hand_on(alloc, sink, parts, &mut rooms)
+    hand_on(alloc, sink, parts, &mut Vec::new(alloc))
 }
 
 /// The same, where the whole trace is kept, and answered.
@@ -209,8 +201,7 @@ pub fn run_windows<M: Process, G: Gate, R: Threads + Wait + Sync>(
     ensures trace { IfOk result (λ t. IsTrace (setting_of scenario.now) t) }
     ensures within { IfOk result (λ t. length t ≤ scenario.now.limit) }
     ensures errors { IfErr result IsRefusal }
-    ensures limit { IsErrOf result RunError.Limit → (whole : List EntryRecord)
-        → IsTrace (setting_of scenario.now) whole → scenario.now.limit < length whole }
+    ensures limit { IsErrOf result RunError.Limit → IsOverLimit scenario.now }
 {
     let _horizon = scenario.horizon();
     let mut entries = Vec::new(alloc);

@@ -1,5 +1,5 @@
 //! All processes between two windows.
-ghost use Rattle.std.specs.Prelude.{◌≡◌, ◌≤◌, ◌<◌, ◌+◌, ◌^◌, [], ℕ, map, vec_len, length, IfErr, IfOk, OnOk, IsErrOf, MatchOption, nat_eq};
+ghost use Rattle.std.specs.Prelude.{◌≡◌, ◌≤◌, ◌<◌, ◌+◌, ◌^◌, [], ℕ, map, vec_len, length, IfErr, IfNone, IfOk, IfSome, OnOk, IsErrOf, MatchOption, nat_eq};
 ghost use Rattle.std.specs.List.{All};
 ghost use Rattle.process_api.specs.Numbers.{numbers_to};
 ghost use Rattle.scenario_record.specs.Record.{opening_mind};
@@ -132,8 +132,9 @@ fn hand_over<M: Process, R: Wait>(
 
 /// How many entries the parts have together, if that is at most `left`.
 fn count_within(parts: &[Vec<Entry>], left: u64) -> Option<u64>
-    ensures { MatchOption result (left < length (all_of (map (λ part. part.items) parts.now)))
-        (λ made. (made ≡ length (all_of (map (λ part. part.items) parts.now))) × (made ≤ left)) }
+    ensures over { IfNone result (left < length (all_of (map (λ part. part.items) parts.now))) }
+    ensures within { IfSome result (λ made.
+        (made ≡ length (all_of (map (λ part. part.items) parts.now))) × (made ≤ left)) }
 {
     let mut made = 0;
     for part in parts {

@@ -3,18 +3,15 @@ ghost use Rattle.std.specs.Prelude.{◌≡◌, ◌≤◌, ◌<◌, ◌+◌, ◌+
 ghost use Rattle.std.specs.List.{All};
 ghost use Rattle.std.specs.Thread.{IsSync};
 ghost use Rattle.process_api.specs.EntryRecord.{EntryRecord};
-ghost use Rattle.trace_laws.specs.ScenarioSetting.{setting_of};
 ghost use Rattle.steps.specs.Seat.{own_of};
-ghost use Rattle.trace_laws.specs.World.{IsTrace};
 ghost use Rattle.mailboxes.specs.Mailboxes.{IsSlipOf, unused};
-ghost use Rattle.windows.specs.Inside.Closing.{HasNextWindow, IsNextWindow, IsOverLimit};
+ghost use Rattle.windows.specs.Inside.Closing.{HasNextWindow, IsNextWindow};
 ghost use Rattle.deques.specs.Deques.{deques_of};
 ghost use Rattle.windows.specs.Plan.{IsPlanFor, most_workers};
-ghost use Rattle.window_laws.specs.Machine.{end_of};
-ghost use Rattle.windows.specs.Refusals.{IsRefusal, IsRefusalOfOne};
+ghost use Rattle.windows.specs.Refusals.{IsOverLimit, IsRefusal, IsRefusalOfOne};
 ghost use Rattle.windows.specs.Inside.Shared.{AreReady, IsOneTooLong, IsStart, IsWorkIn, AreAnswers};
 ghost use Rattle.windows.specs.Inside.Shared.{HadWindow};
-ghost use Rattle.windows.specs.Stage.{IsCountOfWorkers, IsStage, IsStageAfter, IsWindowRun};
+ghost use Rattle.windows.specs.Stage.{IsCountOfWorkers, IsStage, IsStageAfter, IsWindowRun, StartedWorkers};
 ghost use Rattle.windows.specs.Inside.Workers.{IsOutcome, RiseBy, given_to};
 
 use crate::berth::Berth;
@@ -120,6 +117,7 @@ fn run_berths_of<M: Process, G: Gate, C: Chore, R: Threads + Wait + Sync>(
         × IsCountOfWorkers window.now.end crew.now.workers berths.items started × (vec_len r.1 ≡ started + 1)) }
     ensures run { IfOk result (λ r.
         HadWindow M.mind window.now mailboxes.old.mailboxes berths.items r.0.items r.1.items) }
+    ensures worked { OnOk result (C.done chore.old chore.new) }
     ensures chore { (chore.new ≡ chore.old) ⊎ C.done chore.old chore.new }
     ensures place { C.place chore.new ≡ C.place chore.old }
     ensures errors { IfErr result IsRefusal }
@@ -184,6 +182,7 @@ fn run_all<M: Process, G: Gate, C: Chore, R: Threads + Wait + Sync>(
     ensures slips { IfOk result (λ r. All (IsSlipOf r.mailboxes.mailboxes) r.slips.items) }
     ensures outcome { IfOk result (λ r.
         IsOutcome M.mind window.now.streams window.now.end berths.items r.berths.items r.slips.items) }
+    ensures worked { OnOk result (C.done chore.old chore.new) }
     ensures chore { (chore.new ≡ chore.old) ⊎ C.done chore.old chore.new }
     ensures place { C.place chore.new ≡ C.place chore.old }
     ensures errors { IfErr result IsRefusal }
@@ -201,7 +200,7 @@ fn run_all<M: Process, G: Gate, C: Chore, R: Threads + Wait + Sync>(
 
 /// Runs the next window of a stage, as [`run_window`] does, but answers its parts, which aren't merged yet. The starter
 /// does its chore meanwhile, unless the window was refused before a worker began. The next window's parts may lie in
-/// these rooms.
+/// the memory that the chore gives up.
 ///
 /// # Errors
 ///
@@ -213,7 +212,6 @@ pub(crate) fn run_parts<M: Process, G: Gate, C: Chore, R: Threads + Wait + Sync>
     plan: &Plan,
     gate: &G,
     chore: &mut C,
-    rooms: &mut Vec<Vec<Entry>>,
 ) -> Result<Vec<Vec<Entry>>, RunError>
     requires window { HasNextWindow M.mind plan.now stage.old }
     requires chore { C.waits chore.old }
@@ -239,7 +237,8 @@ pub(crate) fn run_parts<M: Process, G: Gate, C: Chore, R: Threads + Wait + Sync>
         workers,
     };
     let ran = run_all(rt, &crew, mailboxes, &window, berths, chore)?;
-    stage.close(rt, alloc, ran, left, rooms)
+    let mut rooms = chore.rooms(alloc);
+    stage.close(rt, alloc, ran, left, &mut rooms)
 }
 
 /// Runs the next window of a stage. The smaller of the plan's workers and the number of processes with an event below
@@ -268,14 +267,10 @@ pub fn run_window<M: Process, G: Gate, R: Threads + Wait + Sync>(
     ensures stage { IfOk result (λ part. (trace : List EntryRecord)
         → IsStageAfter M.mind trace stage.old → IsStageAfter M.mind (trace ++ part.items) stage.new) }
     ensures run { IfOk result (λ part. IsWindowRun M.mind plan.now.window stage.old stage.new part.items) }
-    ensures workers { IfOk result (λ _. IsCountOfWorkers
-        (end_of (setting_of stage.old.scenario.now) plan.now.window stage.old.start) plan.now.workers
-        stage.old.berths.items stage.new.workers) }
+    ensures workers { IfOk result (λ _. StartedWorkers plan.now stage.old stage.new) }
     ensures errors { IfErr result IsRefusal }
-    ensures limit { IsErrOf result RunError.Limit → (whole : List EntryRecord)
-        → IsTrace (setting_of stage.old.scenario.now) whole → stage.old.scenario.now.limit < length whole }
+    ensures limit { IsErrOf result RunError.Limit → IsOverLimit stage.old.scenario.now }
 {
-    let mut rooms = Vec::new(alloc);
-    let parts = run_parts(rt, alloc, stage, plan, gate, &mut (), &mut rooms)?;
+    let parts = run_parts(rt, alloc, stage, plan, gate, &mut ())?;
     merge(alloc, parts)
 }

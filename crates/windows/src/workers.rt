@@ -23,9 +23,9 @@ use std::snapshot::Snapshot;
 use std::sync::Wait;
 use std::thread::{Promise, PromisedHandle, Scope, Threads};
 
-/// A process with so many entries of a window has its letters posted when its turn ends. Those of smaller ones wait in
-/// the worker's tray until it has run its last process, so that more of them go to one receiver in a row.
-const MANY_ENTRIES: usize = 512;
+/// A worker posts its letters when a process's turn ends and about so many wait in its tray, or when it has run its
+/// last process. Fewer wait, so that more of them go to one receiver in a row. More would leave the processor's caches.
+const MANY_LETTERS: usize = 1024;
 
 /// The place of the receiver to whom a worker posts first. Workers begin far from one another, so that they seldom post
 /// to one receiver at once.
@@ -98,9 +98,9 @@ pub(crate) fn run_taken<M: Process, G: Gate, R: Wait>(
         window.left,
     )?;
     swap_memory(done, &mut berth);
-    let many = berth.part.len() >= MANY_ENTRIES;
     done.push(berth)?;
-    if !many {
+    // as if each receiver had as many as the first, since a process often sends to all
+    if tray.waiting(0).saturating_mul(tray.receivers()) < MANY_LETTERS {
         return Ok(());
     }
     let first = first_receiver(worker, shared.fronts.len(), tray.receivers());

@@ -4,24 +4,17 @@ use Rattle.std.specs.Global.{Vec}
 use Rattle.process_api.specs.EntryRecord.{EntryRecord}
 use Rattle.process_api.specs.Mind.{Mind}
 use Rattle.process_api.specs.declared.message.Letter.{Letter}
-use Rattle.scenario_record.specs.Record.{Record}
-use Rattle.trace_laws.specs.ScenarioSetting.{setting_of}
 use Rattle.trace_laws.specs.Step.{Events}
 use Rattle.trace_laws.specs.Taken.{event_of}
-use Rattle.trace_laws.specs.World.{IsTrace, joined}
+use Rattle.trace_laws.specs.World.{joined}
 use Rattle.trace_merge.specs.Parts.{all_of}
 use Rattle.mailboxes.specs.Mailboxes.{SlipView, list_of, posted_to}
 use Rattle.steps.specs.declared.seat.Seat.{Seat}
-use Rattle.window_laws.specs.Machine.{end_of}
 use Rattle.windows.specs.Plan.{PlanRecord, IsPlanFor}
-use Rattle.windows.specs.Stage.{IsCountOfWorkers, IsNextStart, IsStage, IsStageAfter, IsWindowRun}
+use Rattle.windows.specs.Stage.{IsNextStart, IsStage, IsStageAfter, IsWindowRun, StartedWorkers}
 use Rattle.windows.specs.Inside.Last.{AreParts, IsMerged}
 use Rattle.windows.specs.declared.berth.Berth.{Berth}
 use Rattle.windows.specs.declared.stage.Stage.{Stage}
-
--- every trace of the scenario has more entries than its limit
-abbrev pub IsOverLimit : Record → Type 0
-IsOverLimit s = (whole : List EntryRecord) → IsTrace (setting_of s) whole → s.limit < length whole
 
 module _ {M : Type 0} (mind : M → Mind) (plan : PlanRecord) where
   -- the next window of a stage may be run by this plan
@@ -37,8 +30,7 @@ module _ {M : Type 0} (mind : M → Mind) (plan : PlanRecord) where
     pub stage : (merged : List EntryRecord) → IsMerged parts merged → (trace : List EntryRecord)
         → IsStageAfter mind trace old → IsStageAfter mind (trace ++ merged) new
     pub run : (merged : List EntryRecord) → IsMerged parts merged → IsWindowRun mind plan.window old new merged
-    pub workers : IsCountOfWorkers (end_of (setting_of old.scenario.now) plan.window old.start) plan.workers
-        old.berths.items new.workers
+    pub workers : StartedWorkers plan old new
 
 module _ {M : Type 0} where
   -- what stays of a berth: its process, the events that are pending, and the entries of its part

@@ -10,7 +10,7 @@ returns-clause-found c = λ listed S trace h small. record {
   second = c.in_ok-second.ensures.verdicts listed S trace h.1.1;
   measures =
       c.in_ok-second.ensures.measures listed S trace h.1.1
-      ∙ ap (λ rows. rows ++ second_measures S trace) (c.in_ok-verdicts.ensures.measures listed S 1 trace h.1.0 ∙ ap (λ rows. rows ++ layer_measures S trace 1) c.new-measures.ensures.items)
+      ∙ ap (λ rows. rows ++ second_measures S trace) (c.in_ok-verdicts.ensures.measures listed S 1 trace h.1.0 ∙ ap (λ rows. rows ++ layer_measures S trace 1) c.in_ok-measures.ensures.items)
       ∙ both_layers S trace;
 }
 

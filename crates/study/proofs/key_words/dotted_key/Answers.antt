@@ -36,4 +36,4 @@ returns-in_ok-key-in-Some-clause-text c =
     let same : c.args.owner.now ≡ codes "network" = search rules in
     network_text c.args.owner.now c.args.rest.now c.in-Some.array.now c.in-Some.key.now
     (file_path_of c.in_ok-key-in-Some.key) same split.0
-    c.in_ok-key-in-Some.ensures.ok.0
+    c.in_ok-key-in-Some.ensures.text

@@ -1,4 +1,4 @@
-use Rattle.std.proofs.Common.{◌≡◌, ◌∙◌, ◌++◌, ◌==◌, MatchOption, map, filter, not, ap, sym, subst, rules}
+use Rattle.std.proofs.Common.{◌≡◌, ◌∙◌, ◌++◌, ◌==◌, IfNone, IfSome, map, filter, not, ap, sym, subst, rules}
 use Rattle.std.proofs.lemmas.List.{length-map}
 use Rattle.std.proofs.lemmas.Result.{on_ok_weaker}
 use Rattle.toml.specs.View.{view, table_view}
@@ -18,8 +18,7 @@ returns-in_default-clause-ok g c =
     let key = c.args.key.now in
     let t = table_view c.args.table.now in
     let as_it_is : StaysAsItIs key t =
-    subst (λ o. MatchOption o (StaysAsItIs key t) (λ v. HasValues key (map view v.items) t))
-    c.in_default.is c.in_ok-values.ensures.ok in
+    subst (λ o. IfNone o (StaysAsItIs key t)) c.in_default.is c.in_ok-values.ensures.none in
     rows_stay key c.args.laid.now (map g.R.Row.said c.args.rows.now) t
     (ap (λ n. n == 0) (length-map c.args.rows.now g.R.Row.said) ∙ (sym c.is_empty.ensures ∙ c.if-is_empty.false)) as_it_is
 
@@ -30,8 +29,7 @@ returns-clause-ok g c =
     let laid = c.args.laid.now in
     let rows = map g.R.Row.said c.args.rows.now in
     let has : HasValues key (map view c.in-Some.values.items) t =
-    subst (λ o. MatchOption o (StaysAsItIs key t) (λ v. HasValues key (map view v.items) t))
-    c.in-Some.is c.in_ok-values.ensures.ok in
+    subst (λ o. IfSome o (λ v. HasValues key (map view v.items) t)) c.in-Some.is c.in_ok-values.ensures.some in
     let others : map view c.in_ok-others.others.items
     ≡ filter (λ d. not (is_laid laid d)) (map view c.deref.result.now) = search rules in
     let made : map view c.push_rows.new.values.items

@@ -6,23 +6,23 @@ use Rattle.study.specs.Laid.{HasValues}
 use Rattle.study.proofs.LaidTables.{nothing_there, no_tables, tables_there}
 use Rattle.study.proofs.laid_tables.values_at.Goals as goal
 
-pub returns-in_default-clause-ok : goal.returns-in_default-clause-ok
-returns-in_default-clause-ok c =
+pub returns-in_default-clause-some : goal.returns-in_default-clause-some
+returns-in_default-clause-some c =
     let key = c.args.key.now in
     let t = table_view c.args.table.now in
     let none : get_member key t ≡ None = sym c.value_at.ensures ∙ ap (option_map (λ v. view v.now)) c.in_default.is in
     subst (λ vs. HasValues key (map view vs) t) (sym c.new.ensures.items) (nothing_there key t none)
 
-pub returns-then-not-takes-clause-ok : goal.returns-then-not-takes-clause-ok
-returns-then-not-takes-clause-ok c =
+pub returns-then-not-takes-clause-none : goal.returns-then-not-takes-clause-none
+returns-then-not-takes-clause-none c =
     let key = c.args.key.now in
     let t = table_view c.args.table.now in
     let there : get_member key t ≡ Some (view c.in-Some.value.now) =
     sym c.value_at.ensures ∙ ap (option_map (λ v. view v.now)) c.in-Some.is in
     no_tables key t (view c.in-Some.value.now) there (sym c.takes.ensures ∙ c.if-not-takes.true)
 
-pub returns-in-Ok-Array-clause-ok : goal.returns-in-Ok-Array-clause-ok
-returns-in-Ok-Array-clause-ok c =
+pub returns-in-Ok-Array-clause-some : goal.returns-in-Ok-Array-clause-some
+returns-in-Ok-Array-clause-some c =
     let key = c.args.key.now in
     let t = table_view c.args.table.now in
     let there : get_member key t ≡ Some (view c.in-Some.value.now) =

@@ -17,9 +17,9 @@ returns-in_err-drawn-clause-err c =
     λ i. drawn_of (e.processes i) (e.horizon i) (e.seed i) its in
     carried (λ f. is_memory f ≡ false → CantBeLaid t (table_view c.args.file.now) f)
     c.from_residual-in_err-drawn.result c.in_err-drawn.field-0.0 c.from_residual-in_err-drawn.ensures.1
-    (λ other. let refused = c.in_err-drawn.ensures.err other in
-    subst (CantBeLaid t (table_view c.args.file.now)) (sym refused.0)
-    (too_many its c.in_ok-network.ensures.ok (subst (λ os. most_outages < length os) drawn refused.1)))
+    (λ other. subst (CantBeLaid t (table_view c.args.file.now)) (sym (c.in_err-drawn.ensures.err other))
+    (too_many its c.in_ok-network.ensures.ok
+    (subst (λ os. most_outages < length os) drawn (c.in_err-drawn.ensures.many other))))
 
 pub returns-clause-ok : goal.returns-clause-ok
 returns-clause-ok c =

@@ -37,7 +37,7 @@ loop-event-preserved g c =
     let taken = rw c.in-Some.is at c.in_ok-event.ensures.least in
     let removed = rw c.in-Some.is at c.in_ok-event.ensures.removed in
     let done = c.in_ok-take.ensures in
-    let entry = (made_in mind c.args.streams.now old.seat c.in-Some.event.0 c.in-Some.event.1).entry in
+    let entry = (made_in mind c.args.streams.now old.seat c.in-Some.event).entry in
     let longer : length new.part.items ≡ length old.part.items + 1 = one_longer old.part.items new.part.items _ done.part in
     record {
       fits = done.tray ∙ i.fits;

@@ -2,10 +2,10 @@ use Rattle.windows.proofs.Words.{◌≡◌, ◌-◌}
 use Rattle.windows.proofs.Waiting.{IsUnderway}
 use Rattle.windows.proofs.run.run_windows_into.Given as goal
 
-abbrev pub invariant-loop-parts : goal.invariant-loop-parts
-invariant-loop-parts g l =
+abbrev pub invariant-loop-stage : goal.invariant-loop-stage
+invariant-loop-stage g l =
     IsUnderway g.K.Sink.took g.M.Process.mind l.fn.scenario l.initial.sink l.stage l.sink l.parts.items
     × (g.K.Sink.failed l.sink ≡ g.K.Sink.failed l.initial.sink)
 
-abbrev pub decreases-loop-parts : goal.decreases-loop-parts
-decreases-loop-parts g l = l.fn.scenario.horizon - l.stage.start
+abbrev pub decreases-loop-stage : goal.decreases-loop-stage
+decreases-loop-stage g l = l.fn.scenario.horizon - l.stage.start

@@ -1,4 +1,4 @@
-use Rattle.windows.proofs.Words.{rules, ◌≡◌, ◌+◌, ◌-◌, min, sym, ap, ◌∙◌, subst, arith, Vec, All, Record, setting_of, own_of, end_of, IsReady, RiseBy, HasLong, Berth, IfOk-weaker, IsOutcome, IsCountOfWorkers}
+use Rattle.windows.proofs.Words.{inr, rules, ◌≡◌, ◌+◌, ◌-◌, min, sym, ap, ◌∙◌, subst, arith, Vec, All, Record, setting_of, own_of, end_of, IsReady, RiseBy, HasLong, Berth, IfOk-weaker, IsOutcome, IsCountOfWorkers}
 use Rattle.windows.proofs.Closing.{stage_ready, stage_rises, long_limit, outcome_many, outcome_one, outcome_limit, next_window}
 use Rattle.windows.proofs.Refused.{one_refused}
 use Rattle.windows.proofs.window.run_parts.Goals as goal
@@ -64,8 +64,8 @@ returns g c =
     let workers = of_same (λ w e bs. IsCountOfWorkers e w bs ran.workers) c.workers-workers.ensures.value end same c.in_ok-ran.ensures.workers in
     record {
       window = IfOk-weaker c.close.result _ _ (λ parts closed. next_window mind old c.processes-processes.ensures.ranges stage c.args.plan.now c.requires.window.plan_is _ _ by c.close.new.self c.close.ensures.scenario left sum parts.items ran.workers closed workers) c.close.ensures.closed;
-      chore = c.in_ok-ran.ensures.chore;
-      place = c.in_ok-ran.ensures.place;
+      chore = inr (c.rooms-rooms.ensures.done _ c.in_ok-ran.ensures.worked);
+      place = c.rooms-rooms.ensures.place ∙ c.in_ok-ran.ensures.place;
       errors = one_refused c.close.result c.close.ensures.errors;
       limit = λ is. outcome_limit mind old c.processes-processes.ensures.ranges stage.0 stage.1 c.args.plan.now.window c.requires.window.plan_is _ _ by left sum (c.close.ensures.limit is);
     }

@@ -3,8 +3,8 @@ use Rattle.windows.proofs.Posting.{posting_more, posted_more, all_posted}
 use Rattle.windows.proofs.Gathered.{run_more}
 use Rattle.windows.proofs.workers.run_taken.Goals as goal
 
-pub returns-then-not-many-clause-ran : goal.returns-then-not-many-clause-ran
-returns-then-not-many-clause-ran g c =
+pub returns-then-saturating_mul-lt-MANY_LETTERS-clause-ran : goal.returns-then-saturating_mul-lt-MANY_LETTERS-clause-ran
+returns-then-saturating_mul-lt-MANY_LETTERS-clause-ran g c =
     let w = c.args.shared.now in
     let ran = c.in_ok-run_into.ensures.ran _ refl in
     let is = subst (λ b. IsStay g.M.Process.mind w.window.now.streams w.window.now.end (stay b c.run_into.new.berth ran.0)) c.swap_memory.ensures.berth (ran.1, c.in_ok-run_into.ensures.berth) in

@@ -28,12 +28,12 @@ returns-clause-tray g c =
 
 pub returns-clause-pending : goal.returns-clause-pending
 returns-clause-pending g c =
-    let made = made_in g.M.Process.mind c.args.streams.now c.args.self.now.seat c.args.event.0 c.args.event.1 in
+    let made = made_in g.M.Process.mind c.args.streams.now c.args.self.now.seat c.args.event in
     (all_handed _ _ made.added c.in_ok-entry.ensures.added).pending
 
 pub returns-clause-letters : goal.returns-clause-letters
 returns-clause-letters g c =
-    let made = made_in g.M.Process.mind c.args.streams.now c.args.self.now.seat c.args.event.0 c.args.event.1 in
+    let made = made_in g.M.Process.mind c.args.streams.now c.args.self.now.seat c.args.event in
     let is = still_for _ _ c.turn.ensures.serves _ _ refl c.requires.tray in
     let same : c.tray-1.given.0 ≡ c.turn.new.added.tray.now = search (rules, is.tray) in
     let handed = all_handed _ _ made.added c.in_ok-entry.ensures.added in

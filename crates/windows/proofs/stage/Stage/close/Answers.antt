@@ -12,14 +12,14 @@ hand_over-requires-clause-one g c κs within =
 pub returns-clause-closed : goal.returns-clause-closed
 returns-clause-closed g c =
     let count : c.in-Some.made ≡ length (all_of (map (λ (v : Vec _). v.items) c.in_ok-berths.parts.items)) =
-    c.in-Some.ensures.0 ∙ ap (λ ps. length (all_of (map (λ (v : Vec _). v.items) ps))) c.deref.ensures.value in
+    c.in-Some.ensures.within.0 ∙ ap (λ ps. length (all_of (map (λ (v : Vec _). v.items) ps))) c.deref.ensures.value in
     record {
       lists = c.in_ok-inboxes.inboxes.items;
       count = omega (arith, c.in_ok-inboxes.inboxes.ok.0, c.in_ok-inboxes.ensures.count, c.requires.boxes, c.args.ran.berths.ok.0);
       letters = c.in_ok-inboxes.ensures.letters;
       berths_are = c.in_ok-berths.ensures.berths;
       parts_are = c.in_ok-berths.ensures.parts;
-      few = omega (arith, count, c.in-Some.ensures.1);
+      few = omega (arith, count, c.in-Some.ensures.within.1);
       longer = search rules ∙ ap (λ n. c.args.self.now.so_far + n) count;
       start = search rules;
       workers_are = search rules;
