@@ -7,17 +7,16 @@ use Rattle.trace_laws.specs.Setting.{IsSound}
 use Rattle.trace_laws.specs.World.{IsTrace}
 use Rattle.process_api.specs.declared.run_error.RunError.{RunError}
 use Rattle.process_api.specs.declared.run_error.RunError.TheVariants as run
-use Rattle.command_line.specs.Order.{States}
+use Rattle.command_line.specs.Order.{AsksHelp, Explains, States}
 use Rattle.command_line.specs.declared.order.Order.{Order}
 use Rattle.command_line.specs.declared.order.Order.TheVariants as order
 use Rattle.command_line.specs.declared.order.WordsError.{WordsError}
-use Rattle.command_line.specs.declared.told.Told.{Told}
-use Rattle.command_line.specs.declared.told.Told.TheVariants as saying
+use Rattle.command_line.specs.declared.order.WordsError.TheVariants as refusal
 use Rattle.bench_commands.specs.Answer.{IsListAnswer, IsRunFront, LeavesBy, WritesBy, path_of}
 use Rattle.bench_commands.specs.Fault.{end_of, status_of}
 use Rattle.bench_commands.specs.Scenario.{IsTooLong}
 use Rattle.bench_commands.specs.Mode.{RefusesBy}
-use Rattle.bench_commands.specs.Serve.{IsReason, IsRunAsked, TellsFor, TellsOf}
+use Rattle.bench_commands.specs.Serve.{IsHelp, IsReason, IsRunAsked, TellsOf}
 use Rattle.bench_commands.specs.Why.{StopsBefore, StopsBy, StopsFor, StopsWindows}
 use Rattle.bench_commands.specs.declared.bench.Mode.{Mode}
 use Rattle.bench_commands.specs.declared.bench.Mode.TheVariants as mode
@@ -122,12 +121,14 @@ stopped_run input words asked fault stated (inr over) three =
     record { asked = asked; stated = stated; is_run = tt; scenario = over.0; stands = over.1 }
 
 -- words that state no order end with 2, or with 4 where help can't be written
-said_status : (said : Told) (fault : Fault) → TellsOf said fault → (status_of fault ≡ 2) ⊎ (status_of fault ≡ 4)
-said_status (saying.Help text) fault is = inr (ap status_of is)
-said_status _ fault is = inl (ap status_of is)
+pub unasked_status : (reason : WordsError) (fault : Fault) → TellsOf reason fault → (status_of fault ≡ 2) ⊎ (status_of fault ≡ 4)
+unasked_status (refusal.Help text) fault is = inr (ap status_of is)
+unasked_status _ fault is = inl (ap status_of is)
 
-pub unasked_status : (reason : WordsError) (fault : Fault) → TellsFor reason fault → (status_of fault ≡ 2) ⊎ (status_of fault ≡ 4)
-unasked_status reason fault tells = said_status tells.0 fault tells.2
+-- help is told only where it was asked for
+pub answered : (words : List (List ℕ)) (reason : WordsError) → Explains words reason → IsHelp reason → AsksHelp words
+answered words (refusal.Help text) explains is = explains
+answered words _ explains is = absurd is
 
 -- so 3 comes of an order alone
 pub run_asked : (input : Option (List ℕ)) (words : List (List ℕ)) (fault : Fault) → IsReason input words fault → status_of fault ≡ 3 → IsRunAsked input words

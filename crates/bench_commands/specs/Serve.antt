@@ -1,11 +1,9 @@
 -- What the program does for a command line.
 use Rattle.std.specs.Prelude.{◌≡◌, ◌≢◌, ℕ, List, Option, Result}
-use Rattle.command_line.specs.Order.{Explains, States}
-use Rattle.command_line.specs.Told.{AsksHelp, Tells}
+use Rattle.command_line.specs.Order.{AsksHelp, Explains, States}
 use Rattle.command_line.specs.declared.order.Order.{Order}
 use Rattle.command_line.specs.declared.order.WordsError.{WordsError}
-use Rattle.command_line.specs.declared.told.Told.{Told}
-use Rattle.command_line.specs.declared.told.Told.TheVariants as told
+use Rattle.command_line.specs.declared.order.WordsError.TheVariants as refusal
 use Rattle.process_api.specs.declared.run_error.RunError.TheVariants.{Write}
 use Rattle.bench_commands.specs.Answer.{Answers, AsksRun, Leaves, Writes, path_of}
 use Rattle.bench_commands.specs.Fault.{end_of, line_of, status_of}
@@ -39,19 +37,19 @@ NamesNoInput words = (asked : Order) → States words asked → path_of asked �
 -- ---- the line that is told
 
 -- the fault of words that state no order. Help is told well, unless it can't be written
-abbrev pub TellsOf : Told → Fault → Type 0
-TellsOf (told.Help text) fault = fault ≡ Run Write
-TellsOf (told.Mistake text) fault = fault ≡ Words text
-TellsOf told.Form fault = fault ≡ Form
-TellsOf told.Memory fault = fault ≡ WordsMemory
+abbrev pub TellsOf : WordsError → Fault → Type 0
+TellsOf (refusal.Help text) fault = fault ≡ Run Write
+TellsOf (refusal.Mistake text) fault = fault ≡ Words text
+TellsOf refusal.Form fault = fault ≡ Form
+TellsOf refusal.Memory fault = fault ≡ WordsMemory
 
--- the fault of words that are refused so, by what is told of them
-abbrev pub TellsFor : WordsError → Fault → Type 0
-TellsFor reason fault = (said : Told) × Tells reason said × TellsOf said fault
+abbrev pub IsHelp : WordsError → Type 0
+IsHelp (refusal.Help text) = Unit {0}
+IsHelp _ = ⊥
 
 -- the words aren't followed for this fault
 abbrev pub IsReason : Option (List ℕ) → List (List ℕ) → Fault → Type 0
-IsReason input words = IsReasonOf (States words) (Explains words) TellsFor (StopsFor input)
+IsReason input words = IsReasonOf (States words) (Explains words) TellsOf (StopsFor input)
 
 -- a run for the words ends with this status: what is out of the outlet by then, and what is told of a fault
 abbrev pub EndsFor : {O F : Type 0} (told : O → Option (List ℕ)) (failed : O → ℕ) (old new : O)

@@ -1,9 +1,8 @@
 //! One run of the program.
 ghost use Rattle.std.specs.Prelude.{◌≡◌, ◌≢◌, ◌^◌, ◌-◌, ◌+◌, ◌<◌, ◌≤◌, IfErr, map};
-ghost use Rattle.command_line.specs.Told.{IsHelp};
 ghost use Rattle.bench_commands.specs.Answer.{GoesFor, path_of};
 ghost use Rattle.bench_commands.specs.Fault.{end_of};
-ghost use Rattle.bench_commands.specs.Serve.{EndsFor, GoesForWords, IsReason, IsRunAsked, NamesNoInput, TellsOf};
+ghost use Rattle.bench_commands.specs.Serve.{EndsFor, GoesForWords, IsHelp, IsReason, IsRunAsked, NamesNoInput, TellsOf};
 ghost use Rattle.bench_commands.specs.Why.{StopsFor};
 ghost use Rattle.shell.specs.Ending.{Puts};
 ghost use Rattle.shell.specs.Input.{TakesAtMost, input_path, most_bytes};
@@ -11,7 +10,7 @@ ghost use Rattle.shell.specs.Input.{TakesAtMost, input_path, most_bytes};
 use crate::commands::answer;
 use crate::fault::Fault;
 use crate::file::scenario_at;
-use command_line::{Order, Told, read_words, told_of};
+use command_line::{Order, WordsError, read_words};
 use qos_report::Outlet;
 use shell::{ended, put_text};
 use std::alloc::Global;
@@ -59,16 +58,16 @@ pub fn carry_out<R: Files + Threads + Wait + Sync, G: Gate, I: Read, O: Outlet>(
 }
 
 /// Tells of words that state no order: help goes to the outlet, all else is a fault.
-fn tell<O: Outlet>(told: Told, outlet: &mut O) -> Result<(), Fault>
+fn tell<O: Outlet>(error: WordsError, outlet: &mut O) -> Result<(), Fault>
     requires { O.failed outlet.old < 2 ^ 64 - 1 }
-    ensures text { Puts end_of O.told O.failed outlet.old outlet.new (λ _. IsHelp told) result }
-    ensures why { IfErr result (TellsOf told) }
+    ensures text { Puts end_of O.told O.failed outlet.old outlet.new (λ _. IsHelp error) result }
+    ensures why { IfErr result (TellsOf error) }
 {
-    match told {
-        Told::Help(text) => put_text(text.as_str(), outlet),
-        Told::Mistake(text) => Err(Fault::Words(text)),
-        Told::Form => Err(Fault::Form),
-        Told::Memory => Err(Fault::WordsMemory),
+    match error {
+        WordsError::Help(text) => put_text(text.as_str(), outlet),
+        WordsError::Mistake(text) => Err(Fault::Words(text)),
+        WordsError::Form => Err(Fault::Form),
+        WordsError::Memory => Err(Fault::WordsMemory),
     }
 }
 
@@ -89,7 +88,7 @@ fn answer_words<R: Files + Threads + Wait + Sync, I: Read, O: Outlet>(
 {
     match read_words(alloc, words) {
         Ok(order) => carry_out(rt, alloc, &order, &OpenGate, input, outlet),
-        Err(error) => tell(told_of(alloc, &error), outlet),
+        Err(error) => tell(error, outlet),
     }
 }
 

@@ -4,11 +4,10 @@ use Rattle.clap.specs.Words.{App, Row, Text, HasKind, HasMatchesOf, IsAmong, Rea
 use Rattle.clap.specs.declared.builder.command.Command.{Command}
 use Rattle.clap.specs.declared.error.Error.{Error}
 use Rattle.clap.specs.declared.error.kind.ErrorKind.TheVariants.{DisplayHelp, OutOfMemory}
-use Rattle.command_line.specs.Told.{AsksHelp}
 use Rattle.clap.specs.declared.parser.matches.ArgMatches.{ArgMatches}
 use Rattle.clap.proofs.OnLiterals.{clap_on_literals}
 use Rattle.command_line.specs.Commands.{IsCommand, Prints, app_with}
-use Rattle.command_line.specs.Order.{IsNumberAt, IsOfClap, States, StatesNothing, StatesCheck, StatesCompare, StatesIn, StatesList, StatesNothingIn, StatesRun}
+use Rattle.command_line.specs.Order.{AsksHelp, IsMistaken, IsNumberAt, States, StatesNothing, StatesCheck, StatesCompare, StatesIn, StatesList, StatesNothingIn, StatesRun}
 use Rattle.command_line.specs.declared.order.Order.{Order}
 use Rattle.command_line.specs.declared.order.Order.TheVariants as order
 
@@ -92,20 +91,21 @@ module _ (c : Command) (words : List Text) (is : IsCommand c) where
     nothing = λ found met. nothing found (met_here m has ∙ met);
   }
 
-  -- an error of clap's that isn't of memory is of a kind that the words call for
-  pub of_clap_by_words : (error : Error) → kind_of error ≢ OutOfMemory → (is_simple_and_free (app_of c) ≡ true → HasKind (fault_of (app_of c) words) error) → IsOfClap words error
-  of_clap_by_words error other kinds = record {
-    prints = is.prints;
-    kind = subst (λ (a : App). IsAmong (kind_of error) (fault_of a words)) is.app (among (kinds free_here));
-  }
-    where
-      among : HasKind (fault_of (app_of c) words) error → IsAmong (kind_of error) (fault_of (app_of c) words)
-      among (inl memory) = absurd (other memory)
-      among (inr h) = h
+  -- the kind of clap's error is one that the words call for
+  pub kind_by_words : (error : Error)
+      → (is_simple_and_free (app_of c) ≡ true → HasKind (fault_of (app_of c) words) error)
+      → HasKind (fault_of (app_with is.prints) words) error
+  kind_by_words error kinds = subst (λ (a : App). HasKind (fault_of a words) error) is.app (kinds free_here)
 
--- where clap shows help, the words ask for it
-pub asks_help : (words : List Text) (error : Error) → IsOfClap words error → kind_of error ≡ DisplayHelp → AsksHelp words
-asks_help words error of_clap help = record {
-  prints = of_clap.prints;
-  help = subst (λ k. IsAmong k (fault_of (app_with of_clap.prints) words)) help of_clap.kind;
-}
+-- what is told of an error of clap's stands where its kind is one that the words call for
+module _ (prints : Prints) (words : List Text) (error : Error) where
+  pub asks_help : HasKind (fault_of (app_with prints) words) error → kind_of error ≡ DisplayHelp → AsksHelp words
+  asks_help (inl memory) is = absurd (cc (memory, is))
+  asks_help (inr called_for) is =
+      record { prints = prints; help = subst (λ k. IsAmong k (fault_of (app_with prints) words)) is called_for }
+
+  pub is_mistaken : HasKind (fault_of (app_with prints) words) error → kind_of error ≢ OutOfMemory
+      → kind_of error ≢ DisplayHelp → IsMistaken words
+  is_mistaken (inl memory) other no_help = absurd (other memory)
+  is_mistaken (inr called_for) other no_help =
+      record { prints = prints; kind = kind_of error; other = no_help; called_for = called_for }

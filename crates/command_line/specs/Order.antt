@@ -1,11 +1,12 @@
 -- What the words of a command line state.
-use Rattle.std.specs.Prelude.{◌≡◌, [], ℕ, nat_eq, Bool, List, Ok, Option, Some, codes, if◌then◌else◌}
+use Rattle.std.specs.Prelude.{◌≡◌, ◌≢◌, [], ℕ, nat_eq, Bool, List, Ok, Option, Some, codes, if◌then◌else◌}
 use Rattle.std.specs.Cmp.Lexicographic.{pointwise}
 use Rattle.std.specs.Option.{option_map_or}
 use Rattle.std.specs.Str.Parse.{ParsesUnsigned}
 use Rattle.std.specs.declared.num.ParseIntError.{ParseIntError}
-use Rattle.clap.specs.Words.{Row, Text, subcommand_of, first_of, one_of, fault_of, kind_of, IsAmong}
-use Rattle.clap.specs.declared.error.Error.{Error}
+use Rattle.clap.specs.Words.{Row, Text, subcommand_of, first_of, one_of, fault_of, IsAmong}
+use Rattle.clap.specs.declared.error.kind.ErrorKind.{ErrorKind}
+use Rattle.clap.specs.declared.error.kind.ErrorKind.TheVariants.{DisplayHelp}
 use Rattle.command_line.specs.Commands.{Prints, app_with}
 use Rattle.command_line.specs.declared.order.Order.{Order}
 use Rattle.command_line.specs.declared.order.Order.TheVariants as order
@@ -87,12 +88,21 @@ pub record StatesNothing (words : List Text) : Type 0 where
   pub taken : fault_of (app_with prints) words ≡ []
   pub nothing : StatesNothingFound (subcommand_of (app_with prints) words)
 
--- clap refuses the words, or shows help for them: the error is of a kind that the words call for
-pub record IsOfClap (words : List Text) (error : Error) : Type 0 where
+-- the words ask for help
+pub record AsksHelp (words : List Text) : Type 0 where
   pub prints : Prints
-  pub kind : IsAmong (kind_of error) (fault_of (app_with prints) words)
+  pub help : IsAmong DisplayHelp (fault_of (app_with prints) words)
 
+-- clap refuses them for another reason
+pub record IsMistaken (words : List Text) : Type 0 where
+  pub prints : Prints
+  pub kind : ErrorKind
+  pub other : kind ≢ DisplayHelp
+  pub called_for : IsAmong kind (fault_of (app_with prints) words)
+
+-- what is told of the words
 abbrev pub Explains : List Text → WordsError → Type 0
-Explains words (refusal.Clap error) = IsOfClap words error
-Explains words refusal.Memory = Unit {0}
+Explains words (refusal.Help text) = AsksHelp words
+Explains words (refusal.Mistake text) = IsMistaken words
 Explains words refusal.Form = StatesNothing words
+Explains words refusal.Memory = Unit {0}

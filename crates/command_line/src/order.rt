@@ -1,6 +1,7 @@
 //! Orders: the tasks that a command line asks for.
 ghost use Rattle.std.specs.Prelude.{◌≡◌, ℕ, IfOk, IfErr, IfSome, IsNone, Some, None, List, option_map, map, codes};
-ghost use Rattle.clap.specs.Words.{rows_of, found_of, first_of, subcommand_rows_of, Text, Row};
+ghost use Rattle.clap.specs.Words.{HasKind, Text, Row, fault_of, rows_of, found_of, first_of, subcommand_rows_of};
+ghost use Rattle.command_line.specs.Commands.{Prints, app_with};
 ghost use Rattle.command_line.specs.declared.order.Order.{Order as Asked};
 ghost use Rattle.command_line.specs.Order.{IsNumberAt, States, StatesCheck, StatesCompare, StatesFound, StatesIn, StatesList, StatesNothingFound, StatesNothingIn, StatesPrint, StatesRun, Explains, choice_of};
 
@@ -47,15 +48,17 @@ pub enum Order<'a> {
     },
 }
 
-/// Why words are refused.
+/// Why words state no order, with what is to be told of them.
 #[derive(Debug, Drop)]
 pub enum WordsError {
-    /// `clap` refuses them, or they ask for help.
-    Clap(clap::Error),
-    /// Memory was refused.
-    Memory,
+    /// They ask for help, which is this.
+    Help(String),
+    /// `clap` refuses them, and says why.
+    Mistake(String),
     /// `clap` takes them, but the command, the path, `--workers` or `--window` is missing.
     Form,
+    /// Memory was refused.
+    Memory,
 }
 
 /// The text of an argument.
@@ -176,12 +179,28 @@ fn read_matches<'a>(matches: &ArgMatches<'a>) -> Option<Order<'a>>
     read_found(name, found)
 }
 
+/// What is told of words that `clap` refuses, or for which it shows help. Where a text finds no room, memory was refused.
+fn told_of(alloc: Global, error: &clap::Error) -> WordsError
+    ensures { (prints : Prints) (read : List Text) → HasKind (fault_of (app_with prints) read) error.now
+        → Explains read result }
+{
+    let kind = error.kind();
+    if kind == ErrorKind::OutOfMemory {
+        return WordsError::Memory;
+    }
+    match error.to_string(alloc) {
+        Ok(text) if kind == ErrorKind::DisplayHelp => WordsError::Help(text),
+        Ok(text) => WordsError::Mistake(text),
+        Err(_) => WordsError::Memory,
+    }
+}
+
 /// What the words ask for, the program's name first.
 ///
 /// # Errors
 ///
-/// `Clap` where `clap` refuses the words or they ask for help, `Form` where it takes them but the command, the path,
-/// `--workers` or `--window` is missing, and `Memory`.
+/// `Help` where they ask for help, `Mistake` where `clap` refuses them, `Form` where it takes them but the command, the
+/// path, `--workers` or `--window` is missing, and `Memory`.
 pub fn read_words<'a>(alloc: Global, words: &'a [&'a str]) -> Result<Order<'a>, WordsError>
     ensures stated { IfOk result (States (map (λ w. w.now) words.entry.now)) }
     ensures refused { IfErr result (Explains (map (λ w. w.now) words.entry.now)) }
@@ -194,9 +213,6 @@ pub fn read_words<'a>(alloc: Global, words: &'a [&'a str]) -> Result<Order<'a>, 
             Some(order) => Ok(order),
             None => Err(WordsError::Form),
         },
-        Err(error) => match error.kind() {
-            ErrorKind::OutOfMemory => Err(WordsError::Memory),
-            _ => Err(WordsError::Clap(error)),
-        },
+        Err(error) => Err(told_of(alloc, &error)),
     }
 }

@@ -1,10 +1,9 @@
 //! Takes the entries of a run by windows.
-ghost use Rattle.std.specs.Prelude.{◌≡◌, ◌<◌, ◌^◌, ◌-◌, ◌+◌, ◌++◌, ◌∷◌, [], List, map, length, true, OnOk, OnErr, IfErr, IfOk, IsErrOf, IsTrue};
-ghost use Rattle.process_api.specs.EntryRecord.{EntryRecord};
+ghost use Rattle.std.specs.Prelude.{◌≡◌, ◌<◌, ◌^◌, ◌-◌, ◌+◌, map, length, true, OnOk, OnErr, IfErr, IfOk, IsErrOf, IsTrue};
 ghost use Rattle.process_api.specs.Numbers.{numbers_to};
 ghost use Rattle.scenario_record.specs.Record.{opening_mind};
 ghost use Rattle.runs.specs.Finishing.{IsLonger};
-ghost use Rattle.qos_report.specs.Inside.Streaming.{AreUnderWay, StreamedFront, StreamedTrace, WroteFront, WroteWhere};
+ghost use Rattle.qos_report.specs.Inside.Streaming.{AreUnderWay, HasStreamed, StreamedFront, StreamedTrace, WithRow, WroteFront, WroteWhere};
 ghost use Rattle.reporting.specs.TraceText.{handed, rows_text, trace_header};
 ghost use Rattle.reporting.specs.Writing.{Wrote, WrotePart};
 ghost use Rattle.windows.specs.Plan.{IsPlanFor};
@@ -26,12 +25,10 @@ const MOST_BYTES: usize = 57_344;
 /// Forms one row more, and hands all of them on where they got long: less than 65,536 bytes are kept.
 fn write_row<O: Outlet>(entry: &Entry, rows: &mut TraceText, outlet: &mut O) -> Result<(), RunError>
     requires { O.failed outlet.old < 2 ^ 64 - 1 }
-    ensures whole { OnOk result ((first : O) (entries : List EntryRecord)
-        → AreUnderWay O.told O.failed first outlet.old entries rows.old
-        → AreUnderWay O.told O.failed first outlet.new (entries ++ entry.now ∷ []) rows.new) }
-    ensures front { OnErr result ((first : O) (entries : List EntryRecord)
-        → AreUnderWay O.told O.failed first outlet.old entries rows.old
-        → WroteFront O.told O.failed first outlet.new true (entries ++ entry.now ∷ [])) }
+    ensures whole { OnOk result (WithRow O.told O.failed entry.now outlet.old rows.old
+        (λ first all. AreUnderWay O.told O.failed first outlet.new all rows.new)) }
+    ensures front { OnErr result (WithRow O.told O.failed entry.now outlet.old rows.old
+        (λ first all. WroteFront O.told O.failed first outlet.new true all)) }
     ensures short { OnOk result (length (handed rows.new) < 57344) }
     ensures errors { IfErr result IsRefusalOfSink }
     ensures count { O.failed outlet.new ≡ O.failed outlet.old + writes_of result }
@@ -123,8 +120,7 @@ fn run_into<M: Process, G: Gate, O: Outlet, R: Threads + Wait + Sync>(
     requires plan { IsPlanFor scenario.now plan.now }
     requires failures { O.failed sink.old.outlet.now < 2 ^ 64 - 1 }
     ensures outlet { sink.new.outlet.ghost_name ≡ sink.old.outlet.ghost_name }
-    ensures took { OnOk result (StreamedTrace scenario.now O.told O.failed sink.old.is_traced sink.old.running
-        sink.old.outlet.now sink.new.running sink.new.outlet.now) }
+    ensures took { OnOk result (HasStreamed scenario.now O.told O.failed sink.old sink.new) }
     ensures front { OnErr result (StreamedFront scenario.now O.told O.failed sink.old.is_traced sink.old.outlet.now
         sink.new.outlet.now) }
     ensures count { O.failed sink.new.outlet.now ≡ O.failed sink.old.outlet.now + writes_of result }

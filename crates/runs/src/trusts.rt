@@ -1,7 +1,7 @@
 //! How often each process was trusted again.
-ghost use Rattle.std.specs.Prelude.{◌≡◌, ℕ, ◌+◌, ◌*◌, ◌&&◌, ◌==◌, ◌++◌, ◌∷◌, [], if◌then◌else◌, List, length, count_by, IfOk};
+ghost use Rattle.std.specs.Prelude.{◌≡◌, ℕ, ◌*◌, ◌==◌, ◌++◌, ◌∷◌, [], if◌then◌else◌, List, length, count_by, IfOk};
 ghost use Rattle.detector_bounds.specs.Detected.{is_trust};
-ghost use Rattle.runs.specs.Trusts.{AreCounts};
+ghost use Rattle.runs.specs.Inside.Counting.{HasCounted};
 
 use process_api::{Entry, Follower, Note, Pid};
 use scenario_record::Scenario;
@@ -10,8 +10,7 @@ use std::alloc::{AllocError, Global};
 /// An observer trusts a subject once more. Numbers above `n` have no count.
 fn count(counts: &mut [u32], n: usize, observer: Pid, subject: Pid)
     requires square { length counts.old ≡ n * n }
-    ensures { (of : (q p : ℕ) → ℕ) → AreCounts n of counts.old
-        → AreCounts n (λ q p. of q p + (if observer == q then (if subject == p then 1 else 0) else 0)) counts.new }
+    ensures { HasCounted n observer (λ p. if subject == p then 1 else 0) counts.old counts.new }
 {
     let row = usize::from(observer.number()) - 1;
     let column = usize::from(subject.number()) - 1;
@@ -24,9 +23,7 @@ fn count(counts: &mut [u32], n: usize, observer: Pid, subject: Pid)
 /// One more note of an observer.
 fn note(counts: &mut [u32], n: usize, observer: Pid, note: &Note)
     requires square { length counts.old ≡ n * n }
-    ensures { (of : (q p : ℕ) → ℕ) → AreCounts n of counts.old
-        → AreCounts n (λ q p. of q p + (if observer == q then (if is_trust p note.now then 1 else 0) else 0))
-        counts.new }
+    ensures { HasCounted n observer (λ p. if is_trust p note.now then 1 else 0) counts.old counts.new }
 {
     if let Note::Trust { layer: 1, who } = *note {
         count(counts, n, observer, who);
@@ -37,8 +34,7 @@ fn note(counts: &mut [u32], n: usize, observer: Pid, note: &Note)
 #[inline(never)]
 fn note_all(counts: &mut [u32], n: usize, observer: Pid, notes: &[Note])
     requires square { length counts.old ≡ n * n }
-    ensures { (of : (q p : ℕ) → ℕ) → AreCounts n of counts.old
-        → AreCounts n (λ q p. of q p + (if observer == q then count_by (is_trust p) notes.now else 0)) counts.new }
+    ensures { HasCounted n observer (λ p. count_by (is_trust p) notes.now) counts.old counts.new }
 {
     for one in notes {
         note(counts, n, observer, one);

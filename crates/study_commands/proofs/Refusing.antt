@@ -2,8 +2,7 @@
 use Rattle.std.proofs.Common.{◌≡◌, ◌⊎◌, inl, inr, sym, ℕ, List, Option, None, Some, Result, Ok, Err, IfErr, MatchOption, subst}
 use Rattle.drawing.specs.Refusals.{IsMemory, letters_refusal}
 use Rattle.drawing.specs.declared.error.DrawError.{DrawError}
-use Rattle.study.specs.Words.{Word}
-use Rattle.study_commands.specs.Draw.{AreNamed, IsOfPicture, IsRefused, NamesNone, StopsPicture, TellsOf, end_of_ticks, first_tick, picture_line}
+use Rattle.study_commands.specs.Draw.{AreNamed, IsOfPicture, IsRefused, NamesNone, StopsPicture, TellsOf, end_of_ticks, first_tick, of_word, picture_line}
 use Rattle.study_commands.specs.Fault.{IsBefore, IsOfWordsFor}
 use Rattle.study_commands.specs.File.{IsScenario}
 use Rattle.study_commands.specs.declared.fault.Fault.{Fault}
@@ -14,6 +13,7 @@ use Rattle.reporting.specs.declared.letter.Letter.{Letter}
 use Rattle.scenario_record.specs.Record.{Record}
 use Rattle.study_line.specs.declared.order.Picture.{Picture}
 use Rattle.study_line.specs.declared.order.Picture.TheVariants as picture
+use Rattle.study_line.specs.declared.order.PictureTexts.{PictureTexts}
 use Rattle.study_line.specs.declared.order.SourceTexts.{SourceTexts}
 
 -- what speaks against a picture is what its refusal says, unless memory was refused
@@ -42,29 +42,29 @@ told_as path named s of from until error Memory why tells = tt
 told_as path named s of from until error _ why tells = absurd tells
 
 -- the fault of a picture of the files' scenario
-pub picture_stops : (input : Option (List ℕ)) (texts : SourceTexts) (named : Picture) (from until : Option ℕ)
-    (word : Option Word) (s : Record) (of : List ℕ) (f : Fault) → IsScenario input texts s → AreNamed named word of
-    → IsOfPicture texts.path.now named s of (first_tick from) (end_of_ticks s until) f
-    → IsBefore (StopsPicture input texts named from until word) f
-picture_stops input texts named from until word s of (NotDrawn error line) at are is =
+pub picture_stops : (input : Option (List ℕ)) (texts : SourceTexts) (words : PictureTexts)
+    (s : Record) (of : List ℕ) (f : Fault) → IsScenario input texts s → AreNamed words.picture (of_word words) of
+    → IsOfPicture texts.path.now words.picture s of (first_tick words.from) (end_of_ticks s words.until) f
+    → IsBefore (StopsPicture input texts words) f
+picture_stops input texts words s of (NotDrawn error line) at are is =
     record { of = of; are_named = are; scenario = s; is_scenario = at; refused = is.0; says = is.1 }
-picture_stops input texts named from until word s of Limit at are is = (s, at, is.0, is.1)
-picture_stops input texts named from until word s of Memory at are is = tt
-picture_stops input texts named from until word s of _ at are is = absurd is
+picture_stops input texts words s of Limit at are is = (s, at, is.0, is.1)
+picture_stops input texts words s of Memory at are is = tt
+picture_stops input texts words s of _ at are is = absurd is
 
 -- that of words or files
-pub files_stop : (input : Option (List ℕ)) (texts : SourceTexts) (named : Picture) (from until : Option ℕ)
-    (word : Option Word) (f : Fault) → IsOfFile input texts f → IsBefore (StopsPicture input texts named from until word) f
-files_stop input texts named from until word (Words line) is = inr is
-files_stop input texts named from until word WordsMemory is = tt
-files_stop input texts named from until word (Refused line) is = is
-files_stop input texts named from until word Memory is = tt
-files_stop input texts named from until word _ is = absurd is
+pub files_stop : (input : Option (List ℕ)) (texts : SourceTexts) (words : PictureTexts)
+    (f : Fault) → IsOfFile input texts f → IsBefore (StopsPicture input texts words) f
+files_stop input texts words (Words line) is = inr is
+files_stop input texts words WordsMemory is = tt
+files_stop input texts words (Refused line) is = is
+files_stop input texts words Memory is = tt
+files_stop input texts words _ is = absurd is
 
 -- that of processes that aren't named
-pub names_stop : (input : Option (List ℕ)) (texts : SourceTexts) (named : Picture) (from until : Option ℕ)
-    (word : Option Word) (f : Fault) → IsOfWordsFor (NamesNone named word) f
-    → IsBefore (StopsPicture input texts named from until word) f
-names_stop input texts named from until word (Words line) is = inl is
-names_stop input texts named from until word WordsMemory is = tt
-names_stop input texts named from until word _ is = absurd is
+pub names_stop : (input : Option (List ℕ)) (texts : SourceTexts) (words : PictureTexts)
+    (f : Fault) → IsOfWordsFor (NamesNone words.picture (of_word words)) f
+    → IsBefore (StopsPicture input texts words) f
+names_stop input texts words (Words line) is = inl is
+names_stop input texts words WordsMemory is = tt
+names_stop input texts words _ is = absurd is

@@ -1,5 +1,5 @@
 -- What an order is answered with.
-use Rattle.std.specs.Prelude.{ℕ, List, Option, None, Some, Result, option_map}
+use Rattle.std.specs.Prelude.{ℕ, List, Option, None, Some, Result}
 use Rattle.study_commands.specs.Check.{IsCheckAnswer, IsStudyCheck}
 use Rattle.study_commands.specs.Draw.{IsDrawAnswer}
 use Rattle.study_commands.specs.Fault.{end_of}
@@ -22,8 +22,7 @@ IsChecked input texts (Some study) piece = IsStudyCheck input texts study piece
 abbrev pub Answers : Option (List ℕ) → Order → List ℕ → Type 0
 Answers input (order.Check texts study) piece = IsChecked input texts study piece
 Answers input (order.Letters texts) piece = IsLettersAnswer input texts piece
-Answers input (order.Draw texts words) piece =
-    IsDrawAnswer input texts words.picture words.from words.until (option_map (λ w. w.now) words.of) piece
+Answers input (order.Draw texts words) piece = IsDrawAnswer input texts words piece
 Answers input (order.Show texts grid point run) piece = IsShowAnswer input texts grid point run piece
 Answers input (order.Sweep texts study) piece = IsSweepAnswer input texts study piece
 

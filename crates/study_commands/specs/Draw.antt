@@ -1,5 +1,5 @@
 -- What `draw` answers.
-use Rattle.std.specs.Prelude.{◌≡◌, ◌⊎◌, ℕ, ◌-◌, List, [], ◌++◌, map, nat_le, ◌&&◌, Contains, Option, None, Some, String, codes, decimal, if◌then◌else◌, unwrap_or}
+use Rattle.std.specs.Prelude.{◌≡◌, ◌⊎◌, ℕ, ◌-◌, List, [], ◌++◌, map, nat_le, ◌&&◌, Contains, Option, None, Some, String, codes, decimal, if◌then◌else◌, option_map, unwrap_or}
 use Rattle.std.specs.declared.alloc.Global.{Global}
 use Rattle.printable.specs.Printable.{printable}
 use Rattle.process_api.specs.Bounds.{most_processes}
@@ -23,6 +23,7 @@ use Rattle.process_api.specs.EntryRecord.{EntryRecord}
 use Rattle.scenario_record.specs.Record.{Record}
 use Rattle.study_line.specs.declared.order.Picture.{Picture}
 use Rattle.study_line.specs.declared.order.Picture.TheVariants as picture
+use Rattle.study_line.specs.declared.order.PictureTexts.{PictureTexts}
 use Rattle.study_line.specs.declared.order.SourceTexts.{SourceTexts}
 
 -- the text is the picture of who suspects whom at these ticks of the scenario's run, and nothing speaks against it
@@ -68,6 +69,9 @@ NamesNone named None = ⊥
 NamesNone picture.Letters (Some word) = HasNoProcess (between 44 word)
 NamesNone picture.Suspicions (Some word) = Unit {0}
 
+abbrev pub of_word : PictureTexts → Option Word
+of_word words = option_map (λ w. w.now) words.of
+
 -- where nothing is said, a picture begins at tick 0 and ends at the horizon
 abbrev pub first_tick : Option ℕ → ℕ
 first_tick from = unwrap_or from 0
@@ -76,13 +80,13 @@ abbrev pub end_of_ticks : Record → Option ℕ → ℕ
 end_of_ticks s until = unwrap_or until s.horizon
 
 -- the piece is the picture of the run of the files' scenario
-pub record IsDrawAnswer (input : Option (List ℕ)) (texts : SourceTexts) (named : Picture) (from until : Option ℕ)
-    (word : Option Word) (piece : List ℕ) : Type 0 where
+pub record IsDrawAnswer (input : Option (List ℕ)) (texts : SourceTexts) (words : PictureTexts) (piece : List ℕ)
+    : Type 0 where
   pub of : List ℕ
-  pub are_named : AreNamed named word of
+  pub are_named : AreNamed words.picture (of_word words) of
   pub scenario : Record
   pub is_scenario : IsScenario input texts scenario
-  pub shows : Shows named scenario of (first_tick from) (end_of_ticks scenario until) piece
+  pub shows : Shows words.picture scenario of (first_tick words.from) (end_of_ticks scenario words.until) piece
 
 -- ---- refusals
 
@@ -126,24 +130,22 @@ IsOfPicture path named s of from until Memory = Unit {0}
 IsOfPicture path named s of from until _ = ⊥
 
 -- the picture of the files' scenario with the processes that a word names is refused for this, and the line says why
-pub record IsRefusedPicture (input : Option (List ℕ)) (texts : SourceTexts) (named : Picture) (from until : Option ℕ)
-    (word : Option Word) (error : DrawError) (line : Option (String Global)) : Type 0 where
+pub record IsRefusedPicture (input : Option (List ℕ)) (texts : SourceTexts) (words : PictureTexts)
+    (error : DrawError) (line : Option (String Global)) : Type 0 where
   pub of : List ℕ
-  pub are_named : AreNamed named word of
+  pub are_named : AreNamed words.picture (of_word words) of
   pub scenario : Record
   pub is_scenario : IsScenario input texts scenario
-  pub refused : IsRefused named scenario of (first_tick from) (end_of_ticks scenario until) error
+  pub refused : IsRefused words.picture scenario of (first_tick words.from) (end_of_ticks scenario words.until) error
   pub says : Says line (picture_line texts.path.now scenario error)
 
 -- `draw` stops for its words, for its files, for a picture or a run of their scenario that is refused, because memory
 -- was refused, or at a failed write
-abbrev pub StopsPicture : Option (List ℕ) → SourceTexts → Picture → (from until : Option ℕ) → Option Word → Fault
-    → Type 0
-StopsPicture input texts named from until word (Words line) = NamesNone named word ⊎ SaysNoSources texts no_axes
-StopsPicture input texts named from until word (NotDrawn error line) =
-    IsRefusedPicture input texts named from until word error line
-StopsPicture input texts named from until word Limit =
-    (s : Record) × IsScenario input texts s × IsTooLong s × (refusal s (first_tick from) (end_of_ticks s until) ≡ None)
-StopsPicture input texts named from until word WordsMemory = Unit {0}
-StopsPicture input texts named from until word Write = Unit {0}
-StopsPicture input texts named from until word fault = IsOfFile input texts fault
+abbrev pub StopsPicture : Option (List ℕ) → SourceTexts → PictureTexts → Fault → Type 0
+StopsPicture input texts words (Words line) = NamesNone words.picture (of_word words) ⊎ SaysNoSources texts no_axes
+StopsPicture input texts words (NotDrawn error line) = IsRefusedPicture input texts words error line
+StopsPicture input texts words Limit = (s : Record) × IsScenario input texts s × IsTooLong s
+    × (refusal s (first_tick words.from) (end_of_ticks s words.until) ≡ None)
+StopsPicture input texts words WordsMemory = Unit {0}
+StopsPicture input texts words Write = Unit {0}
+StopsPicture input texts words fault = IsOfFile input texts fault

@@ -1,6 +1,6 @@
 -- What a watcher is told in lines: what may mislead of a scenario or a study, after its scenarios were read, and before
 -- its first run.
-use Rattle.std.specs.Prelude.{◌≡◌, ◌⊎◌, ℕ, List, Option, None, Some}
+use Rattle.std.specs.Prelude.{◌≡◌, ◌⊎◌, ℕ, List, [], Option, None, Some}
 use Rattle.scenario_record.specs.Record.{Record}
 use Rattle.study.specs.Grid.{GridRecord}
 use Rattle.study.specs.Shard.{ShardRecord}
@@ -14,7 +14,9 @@ use Rattle.study_line.specs.declared.order.Order.TheVariants as order
 use Rattle.study_line.specs.declared.order.SourceTexts.{SourceTexts}
 use Rattle.study_line.specs.declared.order.StudyTexts.{StudyTexts}
 use Rattle.sweep.specs.Layout.{LayoutRecord}
-use Rattle.sweep.specs.Watching.{HeardAllRuns, HeardOfAllReading, News}
+use Rattle.sweep.specs.StudyText.{numbers_of}
+use Rattle.sweep.specs.Watching.{HeardLimits}
+use Rattle.trace_laws.specs.Joins.{HaveJoined}
 
 -- a watcher is told of the scenario of the files, and of nothing else
 pub record IsToldOfFile {W : Type 0} (warned : W → List (List ℕ) → W → Type 0) (old new : W)
@@ -23,12 +25,12 @@ pub record IsToldOfFile {W : Type 0} (warned : W → List (List ℕ) → W → T
   pub is_scenario : IsScenario input texts scenario
   pub told : IsWarnedOf warned old new scenario
 
-module _ {W : Type 0} (heard : W → List News → W → Type 0) (warned : W → List (List ℕ) → W → Type 0) where
-  -- it hears that all runs are read, and is told of the study then
+module _ {W : Type 0} (heard : W → List (ℕ × ℕ) → W → Type 0) (warned : W → List (List ℕ) → W → Type 0) where
+  -- it hears of no limit while the runs are read, and is told of the study then
   pub record IsToldAfterReading (old new : W) (sources : SourcesRecord) (g : GridRecord) (shard : ShardRecord)
       : Type 0 where
     pub read : W
-    pub reading : HeardOfAllReading heard old read g shard
+    pub reading : HaveJoined heard old read []
     pub told : IsWarnedOfStudy warned read new sources g shard
 
   module _ (old new : W) (input : Option (List ℕ)) (texts : SourceTexts) where
@@ -42,7 +44,7 @@ module _ {W : Type 0} (heard : W → List News → W → Type 0) (warned : W →
         pub said : IsSaid input texts study sources grid shard layout
         pub told : IsToldAfterReading old new sources grid shard
 
-      -- and where it is swept it hears of its runs after that
+      -- and where it is swept it hears after that of each point of which runs passed their limit
       pub record IsToldOfSweep : Type 0 where
         pub sources : SourcesRecord
         pub grid : GridRecord
@@ -51,7 +53,7 @@ module _ {W : Type 0} (heard : W → List News → W → Type 0) (warned : W →
         pub said : IsSaid input texts study sources grid shard layout
         pub begun : W
         pub told : IsToldAfterReading old begun sources grid shard
-        pub running : HeardAllRuns heard begun new sources grid shard
+        pub running : HeardLimits heard begun new sources grid (numbers_of grid shard)
 
     abbrev pub IsToldOfChecked : Option StudyTexts → Type 0
     IsToldOfChecked None = IsToldOfFile warned old new input texts

@@ -1,5 +1,5 @@
 -- Why an order isn't carried out: which of its words, its files or its runs are refused.
-use Rattle.std.specs.Prelude.{◌≡◌, ◌⊎◌, ◌<◌, ℕ, List, length, false, Option, None, Some, String, option_map}
+use Rattle.std.specs.Prelude.{◌≡◌, ◌⊎◌, ◌<◌, ℕ, List, length, false, Option, None, Some, String}
 use Rattle.std.specs.declared.alloc.Global.{Global}
 use Rattle.study_commands.specs.Draw.{StopsPicture}
 use Rattle.study_commands.specs.File.{AreSources}
@@ -124,7 +124,6 @@ StopsChecked input texts (Some study) fault = StopsSweep input texts study fault
 abbrev pub StopsFor : Option (List ℕ) → Order → Fault → Type 0
 StopsFor input (order.Check texts study) fault = StopsChecked input texts study fault
 StopsFor input (order.Letters texts) fault = StopsLetters input texts fault
-StopsFor input (order.Draw texts words) fault =
-    StopsPicture input texts words.picture words.from words.until (option_map (λ w. w.now) words.of) fault
+StopsFor input (order.Draw texts words) fault = StopsPicture input texts words fault
 StopsFor input (order.Show texts grid point run) fault = StopsShow input texts grid point run fault
 StopsFor input (order.Sweep texts study) fault = StopsSweep input texts study fault

@@ -2,6 +2,7 @@
 ghost use Rattle.std.specs.Prelude.{◌≡◌, ◌++◌, IfOk, OnOk, filter, map};
 ghost use Rattle.study.specs.Grid.{paths_of};
 ghost use Rattle.study.specs.Settings.{path_of};
+ghost use Rattle.study_commands.specs.Inside.Warned.{paths_said};
 ghost use Rattle.study_commands.specs.Warnings.{is_of_link as is_of_link_at, link_keys as link_keys_of};
 
 use std::alloc::{AllocError, Global};
@@ -19,8 +20,8 @@ fn is_of_link(key: &Key) -> bool
 
 /// Adds the keys of an axis that are.
 fn push_axis_keys<'a>(keys: &mut Vec<&'a Key>, axis: &'a Axis) -> Result<(), AllocError>
-    ensures { OnOk result (map (λ k. path_of k.now) keys.new.items
-        ≡ map (λ k. path_of k.now) keys.old.items ++ filter is_of_link_at (map path_of axis.now.keys.items)) }
+    ensures { OnOk result (paths_said keys.new.items
+        ≡ paths_said keys.old.items ++ filter is_of_link_at (map path_of axis.now.keys.items)) }
 {
     for key in &axis.keys {
         if is_of_link(key) {
@@ -32,8 +33,8 @@ fn push_axis_keys<'a>(keys: &mut Vec<&'a Key>, axis: &'a Axis) -> Result<(), All
 
 /// Adds the keys of some axes that are.
 fn push_keys<'a>(keys: &mut Vec<&'a Key>, axes: &'a [Axis]) -> Result<(), AllocError>
-    ensures { OnOk result (map (λ k. path_of k.now) keys.new.items
-        ≡ map (λ k. path_of k.now) keys.old.items ++ filter is_of_link_at (paths_of axes.now)) }
+    ensures { OnOk result (paths_said keys.new.items
+        ≡ paths_said keys.old.items ++ filter is_of_link_at (paths_of axes.now)) }
 {
     for axis in axes {
         push_axis_keys(keys, axis)?;
@@ -43,7 +44,7 @@ fn push_keys<'a>(keys: &mut Vec<&'a Key>, axes: &'a [Axis]) -> Result<(), AllocE
 
 /// The keys of the table `link` that a study sets.
 pub(crate) fn link_keys(alloc: Global, grid: &Grid) -> Result<Vec<&Key>, AllocError>
-    ensures { IfOk result (λ v. map (λ k. path_of k.now) v.items ≡ link_keys_of grid.now) }
+    ensures { IfOk result (λ v. paths_said v.items ≡ link_keys_of grid.now) }
 {
     let mut keys = Vec::new(alloc);
     push_keys(&mut keys, grid.varied())?;

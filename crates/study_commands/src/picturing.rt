@@ -142,10 +142,8 @@ pub(crate) fn serve_draw<R: Files, I: Read>(
     words: &PictureTexts<'_>,
     input: &mut I,
 ) -> Result<Vec<u8>, Fault>
-    ensures text { IfOk result (λ text. IsDrawAnswer (I.remaining input.old) texts.now words.now.picture
-        words.now.from words.now.until (option_map (λ w. w.now) words.now.of) text.items) }
-    ensures refused { IfErr result (IsBefore (StopsPicture (I.remaining input.old) texts.now words.now.picture
-        words.now.from words.now.until (option_map (λ w. w.now) words.now.of))) }
+    ensures text { IfOk result (λ text. IsDrawAnswer (I.remaining input.old) texts.now words.now text.items) }
+    ensures refused { IfErr result (IsBefore (StopsPicture (I.remaining input.old) texts.now words.now)) }
     ensures taken { TakesAtMost (most_bytes + 1) (I.remaining input.old) (I.remaining input.new) }
     ensures untouched { NameNoInput texts.now → input.new ≡ input.old }
 {

@@ -4,10 +4,11 @@ ghost use Rattle.shell.specs.Input.{TakesAtMost, most_bytes};
 ghost use Rattle.study.specs.Sources.{sources_of};
 ghost use Rattle.study_commands.specs.Fault.{IsBefore};
 ghost use Rattle.study_commands.specs.File.{NameNoInput};
-ghost use Rattle.study_commands.specs.Sweep.{IsFaultOf, IsSaid};
+ghost use Rattle.study_commands.specs.Inside.Setting.{CantBeSwept};
+ghost use Rattle.study_commands.specs.Sweep.{IsSaid};
 ghost use Rattle.study_commands.specs.Told.{IsToldAfterReading};
 ghost use Rattle.study_commands.specs.Why.{StopsSweep};
-ghost use Rattle.sweep.specs.Outcome.{AreReady, CantBeRun};
+ghost use Rattle.sweep.specs.Outcome.{AreReady};
 
 use crate::fault::Fault;
 use crate::sweeping::{SaidStudy, fault_of, said_over};
@@ -20,7 +21,7 @@ use std::rt::Files;
 use std::thread::Threads;
 use std::time::Clock;
 use study_line::{SourceTexts, StudyTexts};
-use sweep::{SweepError, check_study};
+use sweep::check_study;
 
 /// Reads the scenarios of all runs of a shard's points, and then tells the watcher what may mislead of the study. The
 /// fault is that of the first run that can't be run, or of memory.
@@ -35,9 +36,7 @@ fn make_ready<R: Threads + Sync + Clock, W: Warned>(
         (AreReady (sources_of said.now.sources) said.now.grid said.now.layout.groups said.now.shard) }
     ensures told { OnOk result (IsToldAfterReading W.heard W.warned watcher.old watcher.new
         (sources_of said.now.sources) said.now.grid said.now.shard) }
-    ensures why { IfErr result (λ f. (e : SweepError)
-        × CantBeRun (sources_of said.now.sources) said.now.grid said.now.layout.groups said.now.shard e
-        × IsFaultOf e f) }
+    ensures why { IfErr result (CantBeSwept said.now) }
     ensures hidden { W.shows watcher.new ≡ false }
 {
     let (shard, threads) = (said.shard, said.threads);

@@ -1,13 +1,12 @@
 //! The command `check` with a study: how many points and runs there are, and about how large they will be.
-ghost use Rattle.std.specs.Prelude.{◌≡◌, ◌+◌, ◌++◌, ℕ, List, false, IfOk, IfErr, OnOk, length, string_bytes};
-ghost use Rattle.study.specs.Grid.{runs};
-ghost use Rattle.study_commands.specs.Check.{IsStudyCheck, study_begin};
+ghost use Rattle.std.specs.Prelude.{◌≡◌, ◌+◌, false, IfOk, IfErr, OnOk, string_bytes};
+ghost use Rattle.study_commands.specs.Check.{IsStudyCheck};
+ghost use Rattle.study_commands.specs.Inside.Setting.{TellsOfStudy};
 ghost use Rattle.study_commands.specs.Told.{IsToldOfCheck};
 ghost use Rattle.study_commands.specs.Why.{StopsSweep};
 ghost use Rattle.study_commands.specs.Fault.{IsBefore};
 ghost use Rattle.study_commands.specs.File.{NameNoInput};
 ghost use Rattle.shell.specs.Input.{TakesAtMost, most_bytes};
-ghost use Rattle.sweep.specs.StudyText.{numbers_of};
 
 use crate::fault::Fault;
 use crate::progress_line::time_of;
@@ -72,8 +71,7 @@ fn reckoned_text(
 
 /// The text of a study that can be run.
 fn text_of<R: Threads + Sync>(rt: &R, alloc: Global, said: &SaidStudy) -> Result<String, AllocError>
-    ensures { IfOk result (λ s. (reckoned : List ℕ) × (string_bytes s
-        ≡ study_begin (length (numbers_of said.now.grid said.now.shard)) (length (runs said.now.grid)) ++ reckoned)) }
+    ensures { IfOk result (λ s. TellsOfStudy said.now (string_bytes s)) }
 {
     let (grid, threads) = (&said.grid, said.threads);
     let runs = grid.runs();

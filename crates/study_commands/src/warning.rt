@@ -1,12 +1,11 @@
 //! The warnings before the runs of a study.
-ghost use Rattle.std.specs.Prelude.{◌≡◌, ◌+◌, ◌++◌, ◌^◌, ◌<◌, List, IfOk, OnOk, length, map, option_map};
-ghost use Rattle.std.specs.List.{AllZip, filter_map, range_with_len};
+ghost use Rattle.std.specs.Prelude.{◌≡◌, ◌+◌, ◌^◌, ◌<◌, IfOk, OnOk, length, map, option_map};
+ghost use Rattle.std.specs.List.{filter_map};
 ghost use Rattle.study.specs.Settings.{path_of};
 ghost use Rattle.study.specs.Sources.{sources_of};
-ghost use Rattle.study_commands.specs.Inside.Warned.{IsRunOf, dealt_of, warning_of};
+ghost use Rattle.study_commands.specs.Inside.Warned.{Gains, OfRuns, dealt_of, paths_said, warning_of};
 ghost use Rattle.study_commands.specs.Warnings.{lates, unevens, unused, warning_of_dealt};
 ghost use Rattle.study_commands.specs.Warnings.{warning_of_key, warning_of_lates, warnings};
-ghost use Rattle.toml.specs.Data.{Members};
 
 use crate::adding::push_some;
 use crate::common_link::unlinked_of;
@@ -61,8 +60,8 @@ fn late_warning<'a>(
     runs: &[FirstRun],
 ) -> Result<Option<Warning<'a>>, AllocError>
     requires { begin + length runs.now < 2 ^ 64 }
-    ensures { IfOk result (λ o. (tables : List Members) → AllZip IsRunOf tables runs.now
-        → option_map warning_of o ≡ warning_of_lates (range_with_len begin (length runs.now)) tables) }
+    ensures { IfOk result (λ o. OfRuns begin runs.now (λ points tables.
+        option_map warning_of o ≡ warning_of_lates points tables)) }
 {
     let lates = lates_of(alloc, runs)?;
     Ok(late_found(first_of(&lates, begin)))
@@ -76,9 +75,8 @@ fn dealt_warning<'a>(
     runs: &[FirstRun],
 ) -> Result<Option<Warning<'a>>, AllocError>
     requires { begin + length runs.now < 2 ^ 64 }
-    ensures { IfOk result (λ o. (tables : List Members) → AllZip IsRunOf tables runs.now
-        → option_map warning_of o
-        ≡ warning_of_dealt (range_with_len begin (length runs.now)) tables (dealt_of dealt.now)) }
+    ensures { IfOk result (λ o. OfRuns begin runs.now (λ points tables.
+        option_map warning_of o ≡ warning_of_dealt points tables (dealt_of dealt.now))) }
 {
     let unevens = unevens_of(alloc, runs, &dealt.ticks)?;
     Ok(uneven_found(dealt.key, first_of(&unevens, begin)))
@@ -93,9 +91,8 @@ fn push_dealt_warnings<'a>(
     runs: &[FirstRun],
 ) -> Result<(), AllocError>
     requires { begin + length runs.now < 2 ^ 64 }
-    ensures { OnOk result ((tables : List Members) → AllZip IsRunOf tables runs.now
-        → map warning_of all.new.items ≡ map warning_of all.old.items
-        ++ filter_map (warning_of_dealt (range_with_len begin (length runs.now)) tables) (map dealt_of dealt.now)) }
+    ensures { OnOk result (OfRuns begin runs.now (λ points tables. Gains all.old all.new
+        (filter_map (warning_of_dealt points tables) (map dealt_of dealt.now)))) }
 {
     for each in dealt {
         push_some(all, dealt_warning(alloc, each, begin, runs)?)?;
@@ -119,8 +116,8 @@ fn push_found<'a>(
     keys: &[&'a Key],
     found: Option<Found<u16>>,
 ) -> Result<(), AllocError>
-    ensures { OnOk result (map warning_of all.new.items ≡ map warning_of all.old.items
-        ++ filter_map (λ key. option_map (unused key) found) (map (λ k. path_of k.now) keys.now)) }
+    ensures { OnOk result (Gains all.old all.new
+        (filter_map (λ key. option_map (unused key) found) (paths_said keys.now))) }
 {
     for key in keys {
         push_some(all, key_warning(key, found))?;
@@ -137,10 +134,8 @@ fn push_key_warnings<'a>(
     runs: &[FirstRun],
 ) -> Result<(), AllocError>
     requires { begin + length runs.now < 2 ^ 64 }
-    ensures { OnOk result ((tables : List Members) → AllZip IsRunOf tables runs.now
-        → map warning_of all.new.items ≡ map warning_of all.old.items
-        ++ filter_map (warning_of_key (range_with_len begin (length runs.now)) tables)
-        (map (λ k. path_of k.now) keys.now)) }
+    ensures { OnOk result (OfRuns begin runs.now (λ points tables. Gains all.old all.new
+        (filter_map (warning_of_key points tables) (paths_said keys.now)))) }
 {
     let unlinked = unlinked_of(alloc, runs)?;
     push_found(all, keys, first_of(&unlinked, begin))
@@ -155,9 +150,8 @@ pub(crate) fn warnings_of<'a>(
     runs: &[FirstRun],
 ) -> Result<Vec<Warning<'a>>, AllocError>
     requires { begin + length runs.now < 2 ^ 64 }
-    ensures { IfOk result (λ v. (tables : List Members) → AllZip IsRunOf tables runs.now
-        → map warning_of v.items
-        ≡ warnings (range_with_len begin (length runs.now)) tables (sources_of sources.now) grid.now) }
+    ensures { IfOk result (λ v. OfRuns begin runs.now (λ points tables.
+        map warning_of v.items ≡ warnings points tables (sources_of sources.now) grid.now)) }
 {
     let mut all = Vec::new(alloc);
     push_some(&mut all, late_warning(alloc, begin, runs)?)?;

@@ -1,12 +1,12 @@
 -- How the count of runs that passed their limit comes on.
-use Rattle.sweep.proofs.Words.{◌≡◌, ℕ, ◌+◌, ◌-◌, ◌*◌, ◌<◌, ◌≤◌, cond, Result, Ok, IfOk, List, [], ◌∷◌, ◌++◌, length, map, take, get_or, sym, ap, ◌∙◌, subst, arith, AllZip, count_by, range_with_len, slice_index_or, lt_of_mul-lt-mul_right, take-length, length-map, sum_by-append, HaveJoined, SourcesRecord, GridRecord, RunRecord, runs, is_limited, LayoutRecord, AreUnderWay, next_counted, IsAnswerAt, AreNumbersAt, AreNumbersFrom, Trial, point_at, IsTrialOf, News, stands, said_of, AreLimited, HeardRunning, HeardSomeRunning, Group, RunNumbers}
+use Rattle.sweep.proofs.Words.{◌≡◌, ℕ, ◌+◌, ◌-◌, ◌*◌, ◌<◌, ◌≤◌, cond, Result, Ok, IfOk, List, [], ◌∷◌, ◌++◌, length, map, take, get_or, sym, ap, ◌∙◌, subst, arith, AllZip, count_by, range_with_len, slice_index_or, lt_of_mul-lt-mul_right, take-length, length-map, sum_by-append, HaveJoined, SourcesRecord, GridRecord, RunRecord, runs, is_limited, LayoutRecord, AreUnderWay, next_counted, IsAnswerAt, AreNumbersAt, AreNumbersFrom, Trial, point_at, IsTrialOf, told_of, AreLimited, HeardLimits, HeardSomeLimits, Group, RunNumbers}
 use Rattle.std.proofs.lemmas.List.{get_or-map}
-use Rattle.sweep.specs.Inside.Limits.{AreCounted}
+use Rattle.sweep.specs.Inside.Limits.{AreCounted, numbers_in}
 use Rattle.sweep.specs.declared.layout.Rows.TheVariants as kind
 use Rattle.sweep.specs.declared.limits.Limits.{Limits}
 use Rattle.sweep.proofs.Advancing.{next_trial}
-use Rattle.sweep.proofs.Heard.{within_all, run, running_begin, running_same, running_more, running_point}
-use Rattle.sweep.proofs.Zipped.{range_more}
+use Rattle.sweep.proofs.Heard.{heard_same, heard_point}
+use Rattle.sweep.proofs.Zipped.{range_more, range_taken}
 
 -- ---- one run
 
@@ -35,18 +35,17 @@ module _ (sources : SourcesRecord) (g : GridRecord) (groups : List Group) (l : L
       record { trials = counted_to.0; each = subst P (take-length (runs g)) (subst (λ k. P (take k (runs g))) whole counted_to.1); counted = counted_to.2 }
 
 -- the next point
-module _ {W : Type 0} (heard : W → List News → W → Type 0) (sources : SourcesRecord) (g : GridRecord) (start old new : W)
-    (points done begin point : ℕ) (order : begin ≤ point) where
-  pub next_told : HeardRunning heard start old sources g points (length (runs g)) done (range_with_len begin (point - begin))
-      → (count : ℕ) → AreLimited sources g point count → HaveJoined heard old new (said_of point count)
-      → HeardRunning heard start new sources g points (length (runs g)) done (range_with_len begin (point + 1 - begin))
+module _ {W : Type 0} (heard : W → List (ℕ × ℕ) → W → Type 0) (sources : SourcesRecord) (g : GridRecord) (start old new : W)
+    (begin point : ℕ) (order : begin ≤ point) where
+  pub next_told : HeardLimits heard start old sources g (range_with_len begin (point - begin))
+      → (count : ℕ) → AreLimited sources g point count → HaveJoined heard old new (told_of ((point, count) ∷ []))
+      → HeardLimits heard start new sources g (range_with_len begin (point + 1 - begin))
   next_told told count are said =
       let here : begin + (point - begin) ≡ point = omega (arith, order) in
       let long : point - begin + 1 ≡ point + 1 - begin = omega (arith, order) in
-      let P : List ℕ → Type 0 = λ l. HeardRunning heard start new sources g points (length (runs g)) done l in
       let more : range_with_len begin (point - begin) ++ point ∷ [] ≡ range_with_len begin (point + 1 - begin) =
       sym (range_more begin (point - begin) ∙ ap (λ k. range_with_len begin (point - begin) ++ k ∷ []) here) ∙ ap (λ n. range_with_len begin n) long in
-      subst P more (running_point heard points (length (runs g)) sources g start old new done (range_with_len begin (point - begin)) told point count are said)
+      subst (HeardLimits heard start new sources g) more (heard_point heard sources g start old new (range_with_len begin (point - begin)) told point count are said)
 
 -- ---- the numbers of a batch, none of which is missing
 
@@ -62,50 +61,27 @@ numbers_from {E} sources g groups first answers all is each i d lt =
 
 -- ---- a sweep's watcher
 
-module _ (sources : SourcesRecord) (g : GridRecord) {W : Type 0} (heard : W → List News → W → Type 0) (old now new : W) (points done begin : ℕ)
-    (l : Limits) (was : AreUnderWay sources g heard old now points done begin l) where
-  pub way_same : HaveJoined heard now new [] → AreUnderWay sources g heard old new points done begin l
-  way_same same = record {
-    told = running_same heard points (length (runs g)) sources g old now new done (range_with_len begin (l.point - begin)) was.told same;
+module _ (sources : SourcesRecord) (g : GridRecord) {W : Type 0} (heard : W → List (ℕ × ℕ) → W → Type 0) (begin : ℕ) (l : Limits) where
+  pub way_same : (old now new : W) → AreUnderWay sources g heard old now begin l → HaveJoined heard now new [] → AreUnderWay sources g heard old new begin l
+  way_same old now new was same = record {
+    told = heard_same heard sources g old now new (range_with_len begin (l.point - begin)) was.told same;
     order = was.order;
     counting = was.counting;
   }
 
-  pub way_more : (each more : ℕ) → each ≡ length (runs g) → done < more
-      → HaveJoined heard now new (stands (run heard points each more) ∷ []) → AreUnderWay sources g heard old new points more begin l
-  way_more each more is lt said = record {
-    told = running_more heard points (length (runs g)) sources g old now new done (range_with_len begin (l.point - begin)) was.told more lt
-        (subst (λ n. HaveJoined heard now new (stands (run heard points n more) ∷ [])) is said);
-    order = was.order;
-    counting = was.counting;
-  }
+  pub way_begin : (old new : W) → l.point ≡ begin → AreCounted sources g l → HaveJoined heard old new [] → AreUnderWay sources g heard old new begin l
+  way_begin old new at counting same =
+      let none : 0 ≡ l.point - begin = omega (arith, at) in
+      record {
+        told = subst (λ n. HeardLimits heard old new sources g (range_with_len begin n)) none (record { counts = []; counted = tt; told = same });
+        order = omega (arith, at);
+        counting = counting;
+      }
 
-pub way_begin : (sources : SourcesRecord) (g : GridRecord) {W : Type 0} (heard : W → List News → W → Type 0) (old new : W) (points each begin : ℕ) (l : Limits)
-    → each ≡ length (runs g) → l.point ≡ begin → AreCounted sources g l
-    → HaveJoined heard old new (stands (run heard points each 0) ∷ []) → AreUnderWay sources g heard old new points 0 begin l
-way_begin sources g heard old new points each begin l is at counting said =
-    let P : ℕ → Type 0 = λ n. HeardRunning heard old new sources g points (length (runs g)) 0 (range_with_len begin n) in
-    let none : 0 ≡ l.point - begin = omega (arith, at) in
-    record {
-      told = subst P none (running_begin heard points (length (runs g)) sources g old new
-          (subst (λ n. HaveJoined heard old new (stands (run heard points n 0) ∷ [])) is said));
-      order = omega (arith, at);
-      counting = counting;
-    }
-
--- what was heard where it breaks off
-pub heard_up_to : (sources : SourcesRecord) (g : GridRecord) {W : Type 0} (heard : W → List News → W → Type 0) (old new : W) (begin end next : ℕ) (l : Limits)
-    → l.run < length (runs g) → l.point * length (runs g) + l.run ≤ end * length (runs g) → next ≤ end * length (runs g)
-    → AreUnderWay sources g heard old new (end - begin) (next - begin * length (runs g)) begin l
-    → HeardSomeRunning heard old new sources g begin end
-heard_up_to sources g heard old new begin end next l low le high way =
-    let up : l.point < end + 1 = lt_of_mul-lt-mul_right (length (runs g)) {m = l.point} {n = end + 1} (omega (arith, low, le)) in
-    (next - begin * length (runs g), l.point - begin, within_all begin end (length (runs g)) next high, omega (arith, up), way.told)
-
--- and where it breaks off at its begin
-pub heard_at_begin : (sources : SourcesRecord) (g : GridRecord) {W : Type 0} (heard : W → List News → W → Type 0) (old new : W) (begin end each : ℕ) (l : Limits)
-    → each ≡ length (runs g) → l.point ≡ begin → AreCounted sources g l
-    → HaveJoined heard old new (stands (run heard (end - begin) each 0) ∷ []) → HeardSomeRunning heard old new sources g begin end
-heard_at_begin sources g heard old new begin end each l is at counting said =
-    let way = way_begin sources g heard old new (end - begin) each begin l is at counting said in
-    (0, l.point - begin, omega arith, omega (arith, at), way.told)
+  -- what was heard where it breaks off
+  pub heard_up_to : (old new : W) (end : ℕ) → l.run < length (runs g) → l.point * length (runs g) + l.run ≤ end * length (runs g)
+      → AreUnderWay sources g heard old new begin l → HeardSomeLimits heard old new sources g (numbers_in (begin, end))
+  heard_up_to old new end low le way =
+      let up : l.point < end + 1 = lt_of_mul-lt-mul_right (length (runs g)) {m = l.point} {n = end + 1} (omega (arith, low, le)) in
+      let first = range_taken begin (end - begin) (l.point - begin) (omega (arith, up)) in
+      (l.point - begin, subst (HeardLimits heard old new sources g) (sym first) way.told)

@@ -1,6 +1,5 @@
 -- The units of points that follow one another, and of points in parts.
-use Rattle.sweep.proofs.Words.{◌≡◌, ℕ, zero, suc, ◌+◌, ◌-◌, ◌*◌, List, [], ◌∷◌, ◌++◌, length, refl, sym, ap, ◌∙◌, arith, flat_map, range_with_len, flat_map-append, GridRecord, runs, unit_count, units_in, Rows}
-use Rattle.sweep.proofs.Heard.{sub_mul}
+use Rattle.sweep.proofs.Words.{◌≡◌, ℕ, zero, suc, ◌+◌, ◌-◌, ◌*◌, List, [], ◌∷◌, ◌++◌, length, refl, sym, ap, ◌∙◌, arith, mul-sub, mul_comm, flat_map, range_with_len, flat_map-append, GridRecord, runs, unit_count, units_in, Rows}
 use Rattle.sweep.specs.declared.layout.Rows.TheVariants as kind
 
 -- numbers that follow one another, in two parts
@@ -55,4 +54,6 @@ module _ (rows : Rows) (g : GridRecord) where
     where
       by : (k : Rows) → unit_count k g (end - begin) ≡ unit_count k g end - unit_count k g begin
       by kind.Points = refl
-      by kind.Runs = sub_mul end begin (length (runs g))
+      by kind.Runs =
+          let w : ℕ = length (runs g) in
+          mul_comm (end - begin) w ∙ mul-sub w end begin ∙ ap (λ m. m - w * begin) (mul_comm w end) ∙ ap (λ m. end * w - m) (mul_comm w begin)

@@ -55,11 +55,11 @@ pub use Rattle.sweep.specs.OneRun.{Finished, counted_of, counted_pairs, counts_o
 pub use Rattle.sweep.specs.Parallel.{AreAnswers, ArePlaces, IsPlaced, with_answers, with_columns}
 pub use Rattle.sweep.specs.Percentile.{IsPercentile, IsRanked, at_most, greater, greatest}
 pub use Rattle.sweep.specs.Inside.Progress.{AreAdded, GoesOn, HeaderFails, IsUnderWay, StopsBelow, WroteFrontUpTo, WroteUpTo, next_run}
-pub use Rattle.sweep.specs.Results.{IsResult, RunResult, Trial, done_run, finished, limited}
+pub use Rattle.sweep.specs.Results.{IsResult, RunResult, Trial, done_run, finished, limited, limited_run}
 pub use Rattle.sweep.specs.RowText.{AreRowsFor, AreRowsOfGroup, Text, header_text, layer_text, number_text, picked}
 pub use Rattle.sweep.specs.StudyText.{AreRowsOf, HasOneText, HasRowsOf, IsStudyText, IsTextOf, IsTrialOf, ShardsMakeWhole, header_of, lead_of, names_of, numbers_of, point_at, run_at, unit_first, unit_point, unit_run, unit_runs, units_in, units_of, values}
 pub use Rattle.sweep.specs.Sums.{AddsOneMore, AddsRun, AreFitting, AreGroupNumbers, AreLayerFindings, AreNumbers, AreSums, AreUnitSums}
-pub use Rattle.sweep.specs.Watching.{AreLimited, HeardAll, HeardAllRuns, HeardOfAllReading, HeardOfReading, HeardOfRuns, HeardReading, HeardRunning, HeardSome, HeardSomeRunning, HeardSomeRuns, News, Rise, limit_in, limits, said_of, standing_in, stands}
+pub use Rattle.sweep.specs.Watching.{AreLimited, HeardLimits, HeardSomeLimits, told_of}
 pub use Rattle.sweep.specs.declared.columns.DecisionSums.{DecisionSums}
 pub use Rattle.sweep.specs.declared.columns.FirstRuns.{FirstRuns}
 pub use Rattle.sweep.specs.declared.columns.LayerSums.{LayerSums}

@@ -30,10 +30,13 @@ number_text (Some n) = decimal n
 unfoldable pub header_text : (picks : List ℕ) (names : List Text) → Text
 header_text picks names = line_text (picked picks names)
 
--- a row on a layer: of its lead, which says what it tells of, its group's word and the columns those that are picked
+-- all fields of a row on a layer: its lead, which says what it tells of, its group's word and the columns
+abbrev pub layer_fields : (lead : List Text) → Group → (layer : ℕ) → Columns → List Text
+layer_fields lead group layer c = lead ++ (group_word group ++ map number_text (numbers_of layer c))
+
+-- the row: those of them that are picked
 unfoldable pub layer_text : (picks : List ℕ) (lead : List Text) → Group → (layer : ℕ) → Columns → Text
-layer_text picks lead group layer c =
-    line_text (picked picks (lead ++ (group_word group ++ map number_text (numbers_of layer c))))
+layer_text picks lead group layer c = line_text (picked picks (layer_fields lead group layer c))
 
 module _ (picks : List ℕ) (lead : List Text) where
   -- the rows of a group that tell of these runs, which are numbered from the first on: that of layer 1, and that of

@@ -1,5 +1,5 @@
 -- What it is that runs were added up.
-use Rattle.std.specs.Prelude.{◌≡◌, ℕ, ◌+◌, ◌*◌, ◌^◌, ◌<◌, ◌≤◌, List, [], ◌∷◌, ◌++◌, length, true}
+use Rattle.std.specs.Prelude.{◌≡◌, ℕ, ◌+◌, ◌*◌, ◌^◌, ◌<◌, ◌≤◌, List, [], ◌∷◌, ◌++◌, length, false, true}
 use Rattle.std.specs.List.{All, AllZip, cons_option}
 use Rattle.judges.specs.Verdicts.{verdicts}
 use Rattle.judges.specs.declared.verdicts.Verdicts.{Verdicts}
@@ -9,22 +9,22 @@ use Rattle.runs.specs.Grounds.{HasGrounds}
 use Rattle.reporting.specs.Measures.{layer_measures}
 use Rattle.reporting.specs.Summary.{IsSummary}
 use Rattle.runs.specs.Trusts.{AreTrusts}
-use Rattle.reporting.specs.declared.durations.Durations.{Durations}
 use Rattle.reporting.specs.declared.pair_measures.PairMeasures.{PairMeasures}
 use Rattle.reporting.specs.declared.summary.Summary.{Summary}
-use Rattle.runs.specs.declared.trusts.Trusts.{Trusts}
 use Rattle.scenario_record.specs.Ranges.{IsInRange}
 use Rattle.scenario_record.specs.Record.{Record}
-use Rattle.sweep.specs.Columns.{done_on, has_layer, AreLayerSums, AreFirstRuns, all_durations, all_detections, is_limited, last_decisions, top_rounds}
+use Rattle.sweep.specs.Columns.{done_on, has_layer, AreColumns, AreLayerSums, AreFirstRuns, all_durations, all_detections, is_limited, last_decisions, top_rounds}
 use Rattle.sweep.specs.Counted.{AreCounted}
 use Rattle.sweep.specs.Fitting.{IsLayerWithin, most_runs, most_of, most_pairs, most_mistakes}
-use Rattle.sweep.specs.Results.{Trial, done_run}
+use Rattle.sweep.specs.Results.{Trial, done_run, limited_run}
+use Rattle.sweep.specs.declared.columns.Columns.{Columns}
 use Rattle.sweep.specs.declared.columns.LayerSums.{LayerSums}
 use Rattle.sweep.specs.declared.group.Group.{Group}
 use Rattle.sweep.specs.declared.point_sums.LayerTotals.{LayerTotals}
 use Rattle.sweep.specs.declared.point_sums.LayerValues.{LayerValues}
 use Rattle.sweep.specs.declared.point_sums.PointSums.{PointSums}
 use Rattle.sweep.specs.declared.run_numbers.GroupNumbers.{GroupNumbers}
+use Rattle.sweep.specs.declared.run_numbers.LayerFindings.{LayerFindings}
 use Rattle.sweep.specs.declared.run_numbers.LayerNumbers.{LayerNumbers}
 use Rattle.sweep.specs.declared.run_numbers.RunNumbers.{RunNumbers}
 use Rattle.sweep.specs.declared.unit_sums.UnitSums.{UnitSums}
@@ -97,12 +97,21 @@ AreUnitSums groups first trials s = AllZip (λ group sums. AreSums group first t
 -- ---- one more run
 
 -- of a run that is done these are the numbers on a layer, if the rest was found of its trace
-abbrev pub AreOfFindings : Group → (layer : ℕ) → Record → Summary → Verdicts → List PairMeasures → Durations
-    → Trusts → LayerNumbers → Type 0
-AreOfFindings group layer S summary found pairs lasted trusts n = (trace : List EntryRecord) → has_layer layer S ≡ true
-    → AreLayerFindings layer S trace summary found pairs → AreDurations S layer trace lasted
-    → AreTrusts S.processes trace trusts
+abbrev pub AreOfFindings : Group → (layer : ℕ) → Record → LayerFindings → LayerNumbers → Type 0
+AreOfFindings group layer S f n = (trace : List EntryRecord) → has_layer layer S ≡ true
+    → AreLayerFindings layer S trace f.summary.now f.verdicts.now f.pairs.now
+    → AreDurations S layer trace f.durations.now → AreTrusts S.processes trace f.trusts.now
     → AreLayerNumbers group layer (done_run S trace ∷ []) n
+
+-- these are the numbers of a run that passed its limit, on each layer that it has
+abbrev pub AreOfLimited : LayerNumbers → Type 0
+AreOfLimited n = (group : Group) (layer : ℕ) (S : Record) → has_layer layer S ≡ true
+    → AreLayerNumbers group layer (limited_run S ∷ []) n
+
+-- and of any run on a layer that it hasn't
+abbrev pub AreOfNoLayer : LayerNumbers → Type 0
+AreOfNoLayer n = (group : Group) (layer : ℕ) (trial : Trial) → has_layer layer trial.scenario ≡ false
+    → AreLayerNumbers group layer (trial ∷ []) n
 
 -- the old counts of any runs, as long as they aren't too many, give the new counts of these runs and of one more
 abbrev pub CountsOneMore : LayerNumbers → (old new : LayerValues) → Type 0
@@ -117,7 +126,12 @@ TotalsOneMore number run old new = (group : Group) (layer first : ℕ) (trials :
     → length trials < most_runs → number ≡ first + length trials → AreLayerTotals group layer trials first old
     → AreLayerNumbers group layer (trial ∷ []) run → AreLayerTotals group layer (trials ++ trial ∷ []) first new
 
--- and on both
+-- and these columns tell of any runs that were added up to them
+abbrev pub AreColumnsOf : LayerTotals → Columns → Type 0
+AreColumnsOf totals c = (group : Group) (layer first : ℕ) (trials : List Trial)
+    → AreLayerTotals group layer trials first totals → AreColumns group layer first trials c
+
+-- the same of both layers
 abbrev pub AddsOneMore : GroupNumbers → (old new : PointSums) → Type 0
 AddsOneMore numbers old new = (group : Group) (first : ℕ) (trials : List Trial) (trial : Trial)
     → length trials < most_runs → AreSums group first trials old → AreGroupNumbers group trial numbers

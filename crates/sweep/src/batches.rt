@@ -18,10 +18,12 @@ const LONG: u128 = 2_000;
 /// How many runs a batch has at most for each thread.
 const MOST_EACH: u64 = 256;
 
-/// Batches of runs by so many threads. The first has one for each thread. After one that was short the next has twice
-/// as many, and after a long one half as many.
+/// Batches of runs by so many threads of a host. The first has one for each thread. After one that was short the next
+/// has twice as many, and after a long one half as many.
 #[derive(Drop)]
-pub(crate) struct Batches {
+pub(crate) struct Batches<'a, R> {
+    rt: &'a R,
+    pub alloc: Global,
     threads: u8,
     size: u64,
     ghost some: { 1 ≤ size },
@@ -35,11 +37,13 @@ fn millis_since<C: Clock>(clock: &C, began: io::Result<Instant>) -> Option<u128>
     Some(now.duration_since(began).as_millis())
 }
 
-impl Batches {
+impl<'a, R: Threads + Sync + Clock> Batches<'a, R> {
     /// Batches by so many threads.
-    pub fn new(threads: u8) -> Batches {
+    pub fn new(rt: &'a R, alloc: Global, threads: u8) -> Batches<'a, R> {
         let threads = threads.max(1);
         Batches {
+            rt,
+            alloc,
             threads,
             size: u64::from(threads),
         }
@@ -65,10 +69,8 @@ impl Batches {
     /// # Errors
     ///
     /// `AllocError` where memory was refused.
-    pub fn run<R: Threads + Sync + Clock, T: Send + Drop, F: Fn(u64) -> T + Sync>(
+    pub fn run<T: Send + Drop, F: Fn(u64) -> T + Sync>(
         &mut self,
-        rt: &R,
-        alloc: Global,
         first: u64,
         end: u64,
         job: &F,
@@ -82,9 +84,9 @@ impl Batches {
         ensures answers { IfOk result (λ v. AreAnswers F.Fn job.now first (length v.items) v.items) }
     {
         let count = self.size.min(end - first);
-        let began = Instant::now(rt);
-        let answers = in_parallel(rt, alloc, first, count, self.threads, job)?;
-        self.adapt(millis_since(rt, began));
+        let began = Instant::now(self.rt);
+        let answers = in_parallel(self.rt, self.alloc, first, count, self.threads, job)?;
+        self.adapt(millis_since(self.rt, began));
         Ok(answers)
     }
 }

@@ -1,13 +1,13 @@
 //! Reads every run's scenario, before the first run starts.
-ghost use Rattle.std.specs.Prelude.{◌≡◌, ℕ, ◌-◌, ◌*◌, ◌^◌, ◌<◌, ◌≤◌, true, false, length, slice_index_or};
+ghost use Rattle.std.specs.Prelude.{◌≡◌, ℕ, ◌*◌, ◌^◌, ◌<◌, ◌≤◌, [], true, false, length, slice_index_or};
 ghost use Rattle.std.specs.Prelude.{OnOk, IfErr, IfNone, IfSome};
+ghost use Rattle.trace_laws.specs.Joins.{HaveJoined};
 ghost use Rattle.study.specs.Sources.{sources_of};
 ghost use Rattle.study.specs.Grid.{points, runs};
 ghost use Rattle.study.specs.Runs.{is_memory};
-ghost use Rattle.sweep.specs.Inside.Numbering.{point_of, IsLack, IsReadyAt, IsRefusalAt, IsFirstRefusal};
+ghost use Rattle.sweep.specs.Inside.Numbering.{point_of, ArePointsReady, IsLack, IsReadyAt, IsRefusalAt, IsFirstRefusal};
 ghost use Rattle.sweep.specs.Groups.{first_above};
 ghost use Rattle.sweep.specs.Outcome.{AreReady, CantBeRun};
-ghost use Rattle.sweep.specs.Watching.{HeardReading, HeardSomeReading, HeardOfReading, HeardOfAllReading};
 
 use crate::batches::Batches;
 use crate::error::SweepError;
@@ -101,39 +101,33 @@ fn first_false(all: &[bool]) -> Option<usize>
     all.iter().position(|is_true| !is_true)
 }
 
-/// Reads the scenarios of all runs of the points from one number up to another, by so many threads. The watcher hears
-/// of the beginning, and whenever more are read.
+/// Reads the scenarios of all runs of the points from one number up to another, in batches. The watcher hears of the
+/// beginning, and whenever more are read.
 ///
 /// # Errors
 ///
 /// `Refused` or `NoSuchProcess` for the first run that can't be run, or `Memory`.
 fn check_runs<R: Threads + Sync + Clock, W: Watcher>(
-    rt: &R,
-    alloc: Global,
+    mut batches: Batches<'_, R>,
     sources: &Sources,
     grid: &Grid,
     groups: &[Group],
     begin: u64,
     end: u64,
-    threads: u8,
     watcher: &mut W,
 ) -> Result<(), SweepError>
     requires some { 1 ≤ length (runs grid.now) }
     requires order { begin ≤ end }
     requires within { end ≤ length (points grid.now) }
     requires room { length (points grid.now) * length (runs grid.now) < 2 ^ 64 }
-    ensures ok { OnOk result ((n : ℕ) → begin * length (runs grid.now) ≤ n → n < end * length (runs grid.now)
-        → IsReadyAt (sources_of sources.now) grid.now groups.now n) }
+    ensures ok { OnOk result (ArePointsReady (sources_of sources.now) grid.now groups.now begin end) }
     ensures err { IfErr result (IsFirstRefusal (sources_of sources.now) grid.now groups.now
         (begin * length (runs grid.now)) (end * length (runs grid.now))) }
-    ensures heard { OnOk result (HeardReading W.heard watcher.old watcher.new (end - begin) (length (runs grid.now))
-        ((end - begin) * length (runs grid.now))) }
-    ensures heard_some { IfErr result
-        (λ _. HeardSomeReading W.heard watcher.old watcher.new (end - begin) (length (runs grid.now))) }
+    ensures heard { HaveJoined W.heard watcher.old watcher.new [] }
 {
+    let alloc = batches.alloc;
     let runs = grid.runs();
     let points = end - begin;
-    let mut batches = Batches::new(threads);
     let (first, past) = (begin * runs, end * runs);
     let mut next = first;
     let begun = Standing {
@@ -145,8 +139,6 @@ fn check_runs<R: Threads + Sync + Clock, W: Watcher>(
     watcher.hear(begun);
     while next < past {
         let are_read = batches.run(
-            rt,
-            alloc,
             next,
             past,
             &|number| is_ready(alloc, sources, grid, groups, number),
@@ -162,8 +154,7 @@ fn check_runs<R: Threads + Sync + Clock, W: Watcher>(
 }
 
 /// Reads the scenarios of all runs of a shard's points, by so many threads. They have the processes that the layout's
-/// groups name. The watcher hears how many are read: none, and then ever more, up to all of them. At the end it takes
-/// away what it shows.
+/// groups name. The watcher hears how many are read. At the end it takes away what it shows.
 ///
 /// # Errors
 ///
@@ -181,23 +172,13 @@ pub fn check_study<R: Threads + Sync + Clock, W: Watcher>(
 ) -> Result<(), SweepError>
     ensures ok { OnOk result (AreReady (sources_of sources.now) grid.now layout.now.groups shard) }
     ensures err { IfErr result (CantBeRun (sources_of sources.now) grid.now layout.now.groups shard) }
-    ensures heard { OnOk result (HeardOfAllReading W.heard watcher.old watcher.new grid.now shard) }
-    ensures heard_some { IfErr result (λ _. HeardOfReading W.heard watcher.old watcher.new grid.now shard) }
+    ensures heard { HaveJoined W.heard watcher.old watcher.new [] }
     ensures hidden { W.shows watcher.new ≡ false }
 {
     let _runs = grid.runs();
     let (begin, end) = points_of(grid, shard);
-    let answer = check_runs(
-        rt,
-        alloc,
-        sources,
-        grid,
-        layout.groups(),
-        begin,
-        end,
-        threads,
-        watcher,
-    );
+    let batches = Batches::new(rt, alloc, threads);
+    let answer = check_runs(batches, sources, grid, layout.groups(), begin, end, watcher);
     watcher.hide();
     answer
 }

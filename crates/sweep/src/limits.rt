@@ -3,7 +3,7 @@ ghost use Rattle.std.specs.Prelude.{◌≡◌, ◌+◌, ◌*◌, ◌^◌, ◌<�
 ghost use Rattle.trace_laws.specs.Joins.{HaveJoined};
 ghost use Rattle.study.specs.Sources.{SourcesRecord};
 ghost use Rattle.study.specs.Grid.{GridRecord, points, runs};
-ghost use Rattle.sweep.specs.Watching.{said_of};
+ghost use Rattle.sweep.specs.Watching.{told_of};
 
 use crate::run_numbers::RunNumbers;
 use crate::watcher::Watcher;
@@ -12,7 +12,7 @@ use study::{Grid, Sources};
 /// Says of a point, whose runs are in, how many of them passed their limit, if one did.
 fn say<W: Watcher>(sources: &Sources, grid: &Grid, point: u64, count: u64, watcher: &mut W)
     requires { point < length (points grid.now) }
-    ensures { HaveJoined W.heard watcher.old watcher.new (said_of point count) }
+    ensures { HaveJoined W.heard watcher.old watcher.new (told_of ((point, count) ∷ [])) }
 {
     if count == 0 {
         return;

@@ -69,14 +69,12 @@ fn measure_run(
 ///
 /// `AllocError` where memory was refused.
 pub(crate) fn measure_batch<R: Threads + Sync + Clock>(
-    rt: &R,
-    alloc: Global,
+    batches: &mut Batches<'_, R>,
     sources: &Sources,
     grid: &Grid,
     groups: &[Group],
     first: u64,
     end: u64,
-    batches: &mut Batches,
 ) -> Result<Vec<RunNumbers>, AllocError>
     requires some { 1 ≤ length (runs grid.now) }
     requires order { first < end }
@@ -86,9 +84,8 @@ pub(crate) fn measure_batch<R: Threads + Sync + Clock>(
     ensures within { IfOk result (λ v. first + length v.items ≤ end) }
     ensures numbers { IfOk result (λ v. AreNumbersFrom (sources_of sources.now) grid.now groups.now first v.items) }
 {
+    let alloc = batches.alloc;
     let answers = batches.run(
-        rt,
-        alloc,
         first,
         end,
         &|number| measure_run(alloc, sources, grid, groups, number),

@@ -65,7 +65,7 @@ pub(crate) struct LayerTotals {
 }
 
 impl LayerTotals {
-    ghost use Rattle.sweep.specs.Sums.{AreLayerTotals, TotalsOneMore};
+    ghost use Rattle.sweep.specs.Sums.{AreColumnsOf, AreLayerTotals, TotalsOneMore};
 
     /// No run is added up.
     fn new(alloc: Global) -> LayerTotals
@@ -91,8 +91,7 @@ impl LayerTotals {
     }
 
     fn columns(&self) -> Columns
-        ensures { (group : Group) (layer first : ℕ) (trials : List Trial)
-            → AreLayerTotals group layer trials first self.now → AreColumns group layer first trials result }
+        ensures { AreColumnsOf self.now result }
     {
         let sums = self.sums;
         let undecided = u128::from(sums.counts.undecided);

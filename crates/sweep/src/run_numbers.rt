@@ -1,14 +1,12 @@
 //! The numbers that one run adds to the sums of its point.
-ghost use Rattle.std.specs.Prelude.{◌≡◌, ◌∷◌, [], ℕ, List, IfOk, is_some, true, false};
+ghost use Rattle.std.specs.Prelude.{◌≡◌, List, IfOk, is_some};
 ghost use Rattle.judges.specs.declared.outcomes.Outcome.{Outcome as OutcomeRecord};
-ghost use Rattle.runs.specs.Finishing.{MeasuresRun};
 ghost use Rattle.scenario_record.specs.Ranges.{IsInRange};
-ghost use Rattle.scenario_record.specs.Record.{Record};
 ghost use Rattle.sweep.specs.Inside.Adding.{of_verdicts};
-ghost use Rattle.sweep.specs.Columns.{AreDecisionSums, has_layer};
+ghost use Rattle.sweep.specs.Columns.{AreDecisionSums};
 ghost use Rattle.sweep.specs.Inside.OwnSums.{AreOwnSums};
 ghost use Rattle.sweep.specs.declared.group.Group.{Group as GroupRecord};
-ghost use Rattle.sweep.specs.Results.{Trial, limited as limited_result, done_run};
+ghost use Rattle.sweep.specs.Results.{ForMeasured, limited_run};
 
 use crate::bounds::bounds_on;
 use crate::columns::{
@@ -77,6 +75,17 @@ fn sums_of_run(
     }
 }
 
+/// What was found of a run that is done: its summary, its trusts, and on a layer its verdicts, its measures and how
+/// long its mistakes were.
+#[derive(Clone, Copy)]
+struct LayerFindings<'a> {
+    summary: &'a Summary,
+    verdicts: &'a Verdicts,
+    pairs: &'a [PairMeasures],
+    durations: &'a Durations,
+    trusts: &'a Trusts,
+}
+
 /// What one run gives on a layer: the sums over it alone, and what of it is counted value by value.
 #[derive(Drop)]
 pub(crate) struct LayerNumbers {
@@ -92,14 +101,12 @@ pub(crate) struct LayerNumbers {
 }
 
 impl LayerNumbers {
-    ghost use Rattle.sweep.specs.Sums.{AreLayerNumbers, AreOfFindings};
+    ghost use Rattle.sweep.specs.Sums.{AreOfFindings, AreOfLimited, AreOfNoLayer};
 
     /// Of a run that adds nothing: it passed its limit, which is counted, or it hasn't this layer.
     fn of_nothing(alloc: Global, limited: u64) -> LayerNumbers
-        ensures limited { limited ≡ 1 → (group : GroupRecord) (layer : ℕ) (S : Record) → has_layer layer S ≡ true
-            → AreLayerNumbers group layer (record { scenario = S; result = limited_result } ∷ []) result }
-        ensures none { limited ≡ 0 → (group : GroupRecord) (layer : ℕ) (trial : Trial)
-            → has_layer layer trial.scenario ≡ false → AreLayerNumbers group layer (trial ∷ []) result }
+        ensures limited { limited ≡ 1 → AreOfLimited result }
+        ensures none { limited ≡ 0 → AreOfNoLayer result }
     {
         LayerNumbers {
             sums: LayerSums {
@@ -114,27 +121,22 @@ impl LayerNumbers {
         }
     }
 
-    /// Of a run that is done: its summary, its verdicts, its measures and how long its mistakes were on this layer, and
-    /// its trusts. The pairs of the group count.
+    /// Of a run that is done. The pairs of the group count.
     fn of_run(
         alloc: Global,
         scenario: &Scenario,
         group: &Group,
         layer: u8,
-        summary: &Summary,
-        verdicts: &Verdicts,
-        pairs: &[PairMeasures],
-        durations: &Durations,
-        trusts: &Trusts,
+        found: &LayerFindings<'_>,
     ) -> Result<LayerNumbers, AllocError>
-        ensures { IfOk result (AreOfFindings group.now layer scenario.now summary.now verdicts.now pairs.now
-            durations.now trusts.now) }
+        ensures { IfOk result (AreOfFindings group.now layer scenario.now found.now) }
     {
-        let counted = counted_of(alloc, scenario, group, layer, pairs)?;
+        let (summary, verdicts) = (found.summary, found.verdicts);
+        let counted = counted_of(alloc, scenario, group, layer, found.pairs)?;
         let deciding = deciding_of(alloc, scenario, &summary.outcomes)?;
-        let durations = durations_of(alloc, &counted, durations)?;
+        let durations = durations_of(alloc, &counted, found.durations)?;
         let detections = detection_times(alloc, &counted)?;
-        let bounds = bounds_on(scenario, layer, trusts, &counted);
+        let bounds = bounds_on(scenario, layer, found.trusts, &counted);
         let decisions = sum_decisions(&deciding);
         Ok(LayerNumbers {
             sums: sums_of_run(scenario, summary, verdicts, &counted, bounds, decisions),
@@ -173,37 +175,42 @@ impl GroupNumbers {
         durations: &RunDurations,
         trusts: &Trusts,
     ) -> Result<GroupNumbers, AllocError>
-        ensures { IfOk result (λ n. (found : MeasuresRun scenario.now findings.now durations.now trusts.now)
-            → AreGroupNumbers group.now (done_run scenario.now found.trace) n) }
+        ensures { IfOk result (λ n. ForMeasured scenario.now findings.now durations.now trusts.now
+            (λ run. AreGroupNumbers group.now run n)) }
     {
         let _shared = is_shared(scenario);
-        let (summary, pairs) = (&findings.summary, &findings.measures);
-        let (own, lasted) = (&findings.first, &durations.first);
+        let pairs = &findings.measures;
+        let own = LayerFindings {
+            summary: &findings.summary,
+            verdicts: &findings.first,
+            pairs,
+            durations: &durations.first,
+            trusts,
+        };
         let verdicts = match &findings.second {
             Some(verdicts) => verdicts,
             None => {
-                let first = LayerNumbers::of_run(
-                    alloc, scenario, group, 1, summary, own, pairs, lasted, trusts,
-                )?;
+                let first = LayerNumbers::of_run(alloc, scenario, group, 1, &own)?;
                 let second = LayerNumbers::of_nothing(alloc, 0);
                 return Ok(GroupNumbers { first, second });
             }
         };
-        let (first, second) = pairs.split_at(pairs.len() / 2);
-        let first = LayerNumbers::of_run(
-            alloc, scenario, group, 1, summary, own, first, lasted, trusts,
-        )?;
-        let lasted = &durations.second;
-        let second = LayerNumbers::of_run(
-            alloc, scenario, group, 2, summary, verdicts, second, lasted, trusts,
-        )?;
+        let (pairs, shared) = pairs.split_at(pairs.len() / 2);
+        let own = LayerFindings { pairs, ..own };
+        let shared = LayerFindings {
+            verdicts,
+            pairs: shared,
+            durations: &durations.second,
+            ..own
+        };
+        let first = LayerNumbers::of_run(alloc, scenario, group, 1, &own)?;
+        let second = LayerNumbers::of_run(alloc, scenario, group, 2, &shared)?;
         Ok(GroupNumbers { first, second })
     }
 
     /// What a run gives that passed its limit, whatever the group.
     fn of_limited(alloc: Global, scenario: &Scenario) -> GroupNumbers
-        ensures { (group : GroupRecord)
-            → AreGroupNumbers group (record { scenario = scenario.now; result = limited_result }) result }
+        ensures { (group : GroupRecord) → AreGroupNumbers group (limited_run scenario.now) result }
     {
         GroupNumbers {
             first: LayerNumbers::of_nothing(alloc, 1),
@@ -236,8 +243,8 @@ impl RunNumbers {
         durations: &RunDurations,
         trusts: &Trusts,
     ) -> Result<RunNumbers, AllocError>
-        ensures { IfOk result (λ n. (found : MeasuresRun scenario.now findings.now durations.now trusts.now)
-            → AreNumbers groups.now (done_run scenario.now found.trace) n) }
+        ensures { IfOk result (λ n. ForMeasured scenario.now findings.now durations.now trusts.now
+            (λ run. AreNumbers groups.now run n)) }
     {
         let mut numbers = Vec::new(alloc);
         for group in groups {
@@ -260,7 +267,7 @@ impl RunNumbers {
         scenario: &Scenario,
         groups: &[Group],
     ) -> Result<RunNumbers, AllocError>
-        ensures { IfOk result (AreNumbers groups.now (record { scenario = scenario.now; result = limited_result })) }
+        ensures { IfOk result (AreNumbers groups.now (limited_run scenario.now)) }
     {
         let mut numbers = Vec::new(alloc);
         for _group in groups {

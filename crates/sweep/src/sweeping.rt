@@ -4,8 +4,9 @@ ghost use Rattle.study.specs.Sources.{sources_of};
 ghost use Rattle.study.specs.Grid.{points, runs};
 ghost use Rattle.sweep.specs.Outcome.{WroteStudy, BreaksOff};
 ghost use Rattle.sweep.specs.Inside.Progress.{WrotePoints, StopsInPoints};
-ghost use Rattle.sweep.specs.Watching.{HeardAllRunning, HeardSomeRunning};
-ghost use Rattle.sweep.specs.Watching.{HeardAll, HeardAllRuns, HeardSome, HeardSomeRuns};
+ghost use Rattle.sweep.specs.Inside.Limits.{numbers_in};
+ghost use Rattle.sweep.specs.StudyText.{numbers_of};
+ghost use Rattle.sweep.specs.Watching.{HeardLimits, HeardSomeLimits};
 
 use crate::batches::Batches;
 use crate::checking::check_study;
@@ -24,37 +25,35 @@ use std::thread::Threads;
 use std::time::Clock;
 use study::{Grid, Shard, Sources};
 
-/// Runs all runs of the points from one number up to another, and writes the rows of each unit when its last run is
-/// in. The watcher hears of the beginning, and whenever more runs are in.
+/// Runs all runs of the points from one number up to another, in batches, and writes the rows of each unit when its
+/// last run is in. The watcher hears of the beginning, and whenever more runs are in.
 fn write_points<R: Threads + Sync + Clock, O: Outlet, W: Watcher>(
-    rt: &R,
-    alloc: Global,
+    mut batches: Batches<'_, R>,
     sources: &Sources,
     grid: &Grid,
     layout: &Layout,
-    begin: u64,
-    end: u64,
-    threads: u8,
+    swept: (u64, u64),
     outlet: &mut O,
     watcher: &mut W,
 ) -> Result<(), SweepError>
     requires failures { O.failed outlet.old < 2 ^ 64 - 1 }
     requires some { 1 ≤ length (runs grid.now) }
-    requires order { begin ≤ end }
-    requires within { end ≤ length (points grid.now) }
+    requires order { swept.0 ≤ swept.1 }
+    requires within { swept.1 ≤ length (points grid.now) }
     requires room { length (points grid.now) * length (runs grid.now) < 2 ^ 64 }
     ensures done { OnOk result (WrotePoints grid.now layout.now O.told O.failed outlet.old outlet.new
-        (sources_of sources.now) begin end) }
+        (sources_of sources.now) swept.0 swept.1) }
     ensures stops { IfErr result (StopsInPoints grid.now layout.now O.told O.failed outlet.old outlet.new
-        (sources_of sources.now) begin end) }
+        (sources_of sources.now) swept.0 swept.1) }
     ensures heard { OnOk result
-        (HeardAllRunning W.heard watcher.old watcher.new (sources_of sources.now) grid.now begin end) }
+        (HeardLimits W.heard watcher.old watcher.new (sources_of sources.now) grid.now (numbers_in swept)) }
     ensures heard_some { IfErr result
-        (λ _. HeardSomeRunning W.heard watcher.old watcher.new (sources_of sources.now) grid.now begin end) }
+        (λ _. HeardSomeLimits W.heard watcher.old watcher.new (sources_of sources.now) grid.now (numbers_in swept)) }
 {
+    let alloc = batches.alloc;
+    let (begin, end) = swept;
     let runs = grid.runs();
     let points = end - begin;
-    let mut batches = Batches::new(threads);
     let mut limits = Limits::at(begin);
     let (first, past) = (begin * runs, end * runs);
     let mut next = first;
@@ -67,16 +66,7 @@ fn write_points<R: Threads + Sync + Clock, O: Outlet, W: Watcher>(
     watcher.hear(begun);
     let mut progress = Progress::at(alloc, grid, layout, layout.unit_count(grid, begin))?;
     while next < past {
-        let numbers = measure_batch(
-            rt,
-            alloc,
-            sources,
-            grid,
-            layout.groups(),
-            next,
-            past,
-            &mut batches,
-        )?;
+        let numbers = measure_batch(&mut batches, sources, grid, layout.groups(), next, past)?;
         watcher.make_way();
         limits.add_all(sources, grid, &numbers, watcher);
         progress.take_all(alloc, grid, layout, &numbers, outlet)?;
@@ -109,17 +99,17 @@ pub fn run_study<R: Threads + Sync + Clock, O: Outlet, W: Watcher>(
         (WroteStudy (sources_of sources.now) grid.now shard layout.now O.told O.failed outlet.old outlet.new) }
     ensures breaks_off { IfErr result
         (BreaksOff (sources_of sources.now) grid.now shard layout.now O.told O.failed outlet.old outlet.new) }
-    ensures heard { OnOk result (HeardAllRuns W.heard watcher.old watcher.new (sources_of sources.now) grid.now shard) }
-    ensures heard_some { IfErr result
-        (λ _. HeardSomeRuns W.heard watcher.old watcher.new (sources_of sources.now) grid.now shard) }
+    ensures heard { OnOk result (HeardLimits W.heard watcher.old watcher.new (sources_of sources.now) grid.now
+        (numbers_of grid.now shard)) }
+    ensures heard_some { IfErr result (λ _. HeardSomeLimits W.heard watcher.old watcher.new (sources_of sources.now)
+        grid.now (numbers_of grid.now shard)) }
     ensures hidden { W.shows watcher.old ≡ false → W.shows watcher.new ≡ false }
 {
     let _runs = grid.runs();
     write_header(alloc, grid, shard, layout, outlet)?;
-    let (begin, end) = points_of(grid, shard);
-    let answer = write_points(
-        rt, alloc, sources, grid, layout, begin, end, threads, outlet, watcher,
-    );
+    let swept = points_of(grid, shard);
+    let batches = Batches::new(rt, alloc, threads);
+    let answer = write_points(batches, sources, grid, layout, swept, outlet, watcher);
     watcher.hide();
     answer
 }
@@ -133,9 +123,9 @@ pub fn run_study<R: Threads + Sync + Clock, O: Outlet, W: Watcher>(
 /// the runs: what is held is what a batch gives, of 256 runs for each thread at most, with the length of each mistake
 /// in them for each group, and the sums of a point.
 ///
-/// The watcher hears of how many of the shard's runs the scenarios are read, from none up to all of them, and then how
-/// many are run. It is told when rows are to go out, and before that of each point of whose runs some passed their
-/// limit. It takes away what it shows as the sweep ends.
+/// The watcher hears of how many of the shard's runs the scenarios are read, and then how many are run. It is told when
+/// rows are to go out, and before that of each point of whose runs some passed their limit. It takes away what it shows
+/// as the sweep ends.
 ///
 /// # Errors
 ///
@@ -158,9 +148,10 @@ pub fn sweep<R: Threads + Sync + Clock, O: Outlet, W: Watcher>(
         (WroteStudy (sources_of sources.now) grid.now shard layout.now O.told O.failed outlet.old outlet.new) }
     ensures breaks_off { IfErr result
         (BreaksOff (sources_of sources.now) grid.now shard layout.now O.told O.failed outlet.old outlet.new) }
-    ensures heard { OnOk result (HeardAll W.heard watcher.old watcher.new (sources_of sources.now) grid.now shard) }
-    ensures heard_some { IfErr result
-        (λ _. HeardSome W.heard watcher.old watcher.new (sources_of sources.now) grid.now shard) }
+    ensures heard { OnOk result (HeardLimits W.heard watcher.old watcher.new (sources_of sources.now) grid.now
+        (numbers_of grid.now shard)) }
+    ensures heard_some { IfErr result (λ _. HeardSomeLimits W.heard watcher.old watcher.new (sources_of sources.now)
+        grid.now (numbers_of grid.now shard)) }
     ensures hidden { W.shows watcher.new ≡ false }
 {
     check_study(rt, alloc, sources, grid, shard, layout, threads, watcher)?;

@@ -4,7 +4,7 @@ ghost use Rattle.study.specs.Grid.{points};
 ghost use Rattle.csv.specs.Records.{fields_of};
 ghost use Rattle.sweep.specs.ColumnTable.{number_of, numbers_of};
 ghost use Rattle.sweep.specs.Groups.{group_word};
-ghost use Rattle.sweep.specs.RowText.{number_text, header_text, layer_text, line_text, picked};
+ghost use Rattle.sweep.specs.RowText.{number_text, header_text, layer_fields, line_text, picked};
 ghost use Rattle.sweep.specs.StudyText.{names_of as names_in, unit_point, lead_of};
 
 use crate::column_table::{
@@ -89,6 +89,27 @@ fn push_word(fields: &mut StringRecord, group: &Group) -> Result<(), AllocError>
     }
 }
 
+/// All fields of a unit's row, for a group on a layer.
+fn layer_fields(
+    alloc: Global,
+    grid: &Grid,
+    layout: &Layout,
+    unit: u64,
+    group: &Group,
+    layer: u8,
+    columns: &Columns,
+) -> Result<StringRecord, AllocError>
+    requires { unit_point layout.now.rows grid.now unit < length (points grid.now) }
+    ensures { IfOk result
+        (λ all. fields_of all ≡ layer_fields (lead_of layout.now.rows grid.now unit) group.now layer columns.now) }
+{
+    let mut all = StringRecord::new(alloc);
+    push_lead(alloc, &mut all, grid, layout.rows(), unit)?;
+    push_word(&mut all, group)?;
+    push_columns(&mut all, layer, columns)?;
+    Ok(all)
+}
+
 /// The text of a study, as its rows are formed. Its lines have the same number of fields.
 #[derive(Drop)]
 pub struct Table {
@@ -151,30 +172,6 @@ impl Table {
         self.push_fields(alloc, layout, &all)
     }
 
-    #[tactic(auto, unfolding(crate::specs::RowText::layer_text))]
-    fn push_layer(
-        &mut self,
-        alloc: Global,
-        grid: &Grid,
-        layout: &Layout,
-        unit: u64,
-        group: &Group,
-        layer: u8,
-        columns: &Columns,
-    ) -> Result<(), AllocError>
-        requires between { IsBetweenLines self.old }
-        requires within { unit_point layout.now.rows grid.now unit < length (points grid.now) }
-        ensures between { OnOk result (IsBetweenLines self.new) }
-        ensures text { OnOk result (text_of self.new ≡ text_of self.old
-            ++ layer_text layout.now.picks (lead_of layout.now.rows grid.now unit) group.now layer columns.now) }
-    {
-        let mut all = StringRecord::new(alloc);
-        push_lead(alloc, &mut all, grid, layout.rows(), unit)?;
-        push_word(&mut all, group)?;
-        push_columns(&mut all, layer, columns)?;
-        self.push_fields(alloc, layout, &all)
-    }
-
     /// Adds the rows of a unit for a group: that of layer 1, and that of layer 2 where some run has a reduction.
     fn push_group(
         &mut self,
@@ -191,11 +188,13 @@ impl Table {
         ensures text { OnOk result (AddsRowsOfGroup layout.now grid.now unit group.now sums.now self.old self.new) }
     {
         let (first, second) = (sums.first(), sums.second());
-        self.push_layer(alloc, grid, layout, unit, group, 1, &first)?;
-        if sums.has_second() {
-            self.push_layer(alloc, grid, layout, unit, group, 2, &second)?;
+        let row = layer_fields(alloc, grid, layout, unit, group, 1, &first)?;
+        self.push_fields(alloc, layout, &row)?;
+        if !sums.has_second() {
+            return Ok(());
         }
-        Ok(())
+        let row = layer_fields(alloc, grid, layout, unit, group, 2, &second)?;
+        self.push_fields(alloc, layout, &row)
     }
 
     /// Adds the rows of a point, from 0, whose runs were added up: for each group of the layout that of layer 1, and

@@ -1,5 +1,5 @@
 //! Values, each with how often it came.
-ghost use Rattle.std.specs.Prelude.{◌≡◌, ◌<◌, ◌≤◌, ◌^◌, ◌+◌, ◌++◌, ◌∷◌, [], ℕ, List, length, OnOk};
+ghost use Rattle.std.specs.Prelude.{◌≡◌, ◌<◌, ◌≤◌, ◌^◌, ◌∷◌, [], ℕ, List, length, OnOk};
 ghost use Rattle.std.specs.List.{cons_option};
 ghost use Rattle.sweep.specs.Inside.Adding.{is_above};
 ghost use Rattle.sweep.specs.Columns.{IsDistribution};
@@ -39,7 +39,7 @@ pub(crate) struct ValueCounts {
 }
 
 impl ValueCounts {
-    ghost use Rattle.sweep.specs.Counted.{AreCounted};
+    ghost use Rattle.sweep.specs.Counted.{AreCounted, CountsMore};
 
     /// No value came.
     pub(crate) fn new(alloc: Global) -> ValueCounts
@@ -54,8 +54,7 @@ impl ValueCounts {
 
     /// One more value.
     fn add(&mut self, value: u64) -> Result<(), AllocError>
-        ensures { OnOk result ((values : List ℕ) → length values < most_values → AreCounted values self.old
-            → AreCounted (values ++ value ∷ []) self.new) }
+        ensures { OnOk result (CountsMore (value ∷ []) self.old self.new) }
     {
         let had = self.counts.get(&value).copied().unwrap_or(0);
         self.counts.insert(value, had.saturating_add(1))?;
@@ -66,8 +65,7 @@ impl ValueCounts {
 
     /// More values.
     pub(crate) fn add_all(&mut self, more: &[u32]) -> Result<(), AllocError>
-        ensures { OnOk result ((values : List ℕ) → length values + length more.now < most_values
-            → AreCounted values self.old → AreCounted (values ++ more.now) self.new) }
+        ensures { OnOk result (CountsMore more.now self.old self.new) }
     {
         for value in more {
             self.add(u64::from(*value))?;
@@ -77,8 +75,7 @@ impl ValueCounts {
 
     /// One more value, if there is one.
     pub(crate) fn add_if_any(&mut self, value: Option<u64>) -> Result<(), AllocError>
-        ensures { OnOk result ((values : List ℕ) → length values < most_values → AreCounted values self.old
-            → AreCounted (values ++ cons_option value []) self.new) }
+        ensures { OnOk result (CountsMore (cons_option value []) self.old self.new) }
     {
         match value {
             None => Ok(()),

@@ -1,5 +1,5 @@
 //! Who is told how far a sweep has come.
-ghost use Rattle.std.specs.Prelude.{◌≡◌, ◌<◌, ◌∷◌, [], false, Bool, List, length};
+ghost use Rattle.std.specs.Prelude.{◌≡◌, ◌<◌, ◌∷◌, [], ℕ, false, Bool, List, length};
 ghost use Rattle.trace_laws.specs.Joins.{HaveJoined};
 ghost use Rattle.study.specs.Grid.{points};
 
@@ -29,23 +29,22 @@ pub struct Standing {
 
 /// Is told how far a sweep has come, and may show it. Whatever it does, the sweep answers and writes the same.
 pub trait Watcher {
-    ghost use Rattle.sweep.specs.Watching.{News, stands, limits};
-
-    /// The first, after it heard of these in this order, is the second.
-    ghost heard: { Self → List News → Self → Type 0 };
+    /// The first, after it was told of these points' limits in this order, is the second: of a point, from 0, and of how
+    /// many of its runs passed theirs.
+    ghost heard: { Self → List (ℕ × ℕ) → Self → Type 0 };
 
     /// Whether something that it has shown still stands there.
     ghost shows: { Self → Bool };
 
     /// The sweep has come so far.
     fn hear(&mut self, standing: Standing)
-        ensures { HaveJoined heard self.old self.new (stands standing ∷ []) };
+        ensures { HaveJoined heard self.old self.new [] };
 
     /// The last run of a point of this study, from 0, is in, and so many of the point's runs passed their limit. The
     /// watcher takes away what it shows before it tells that.
     fn limited(&mut self, sources: &Sources, grid: &Grid, point: u64, count: u64)
         requires { point < length (points grid.now) }
-        ensures told { HaveJoined heard self.old self.new (limits point count ∷ []) }
+        ensures told { HaveJoined heard self.old self.new ((point, count) ∷ []) }
         ensures hidden { shows self.new ≡ false };
 
     /// Rows are to go out now, maybe where it shows something.

@@ -1,5 +1,5 @@
 -- What a sink leaves that writes the rows of a run's entries as its windows close.
-use Rattle.std.specs.Prelude.{◌≡◌, ◌⊎◌, ℕ, Bool, true, false, List, [], ◌++◌, Option, IsTrue}
+use Rattle.std.specs.Prelude.{◌≡◌, ◌⊎◌, ℕ, Bool, true, false, List, [], ◌∷◌, ◌++◌, Option, IsTrue}
 use Rattle.trace_laws.specs.ScenarioSetting.{setting_of}
 use Rattle.trace_laws.specs.World.{IsTrace}
 use Rattle.process_api.specs.EntryRecord.{EntryRecord}
@@ -39,6 +39,11 @@ module _ {O : Type 0} (told : O → Option (List ℕ)) (failed : O → ℕ) wher
     WroteFront asked entries =
         WroteFirst asked entries ⊎ (IsTrue asked × WrotePart told failed old new (rows_text entries))
 
+  -- whatever rows were under way, this is so with the row of one entry more
+  abbrev pub WithRow : EntryRecord → (old : O) (kept : TraceText) → ((first : O) → List EntryRecord → Type 0) → Type 0
+  WithRow entry old kept Is = (first : O) (entries : List EntryRecord)
+      → AreUnderWay first old entries kept → Is first (entries ++ entry ∷ [])
+
   -- the outlet is the same, and still asked for rows or not
   pub record IsSame (old new : Streaming O) : Type 0 where
     pub outlet : new.outlet.ghost_name ≡ old.outlet.ghost_name
@@ -68,3 +73,9 @@ module _ (S : Record) {O : Type 0} (told : O → Option (List ℕ)) (failed : O 
   abbrev pub StreamedFront : (old new : O) → Type 0
   StreamedFront old new =
       (trace : List EntryRecord) → IsTrace (setting_of S) trace → WroteFront told failed old new asked trace
+
+-- the same of a sink that streams
+abbrev pub HasStreamed : Record → {O : Type 0} (told : O → Option (List ℕ)) (failed : O → ℕ) (old new : Streaming O)
+    → Type 0
+HasStreamed S told failed old new =
+    StreamedTrace S told failed old.is_traced old.running old.outlet.now new.running new.outlet.now

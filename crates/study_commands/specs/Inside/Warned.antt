@@ -1,13 +1,16 @@
 -- What the functions that find warnings have in hand.
-use Rattle.std.specs.Prelude.{◌≡◌, ◌+◌, ◌<◌, ◌==◌, ◌&&◌, not, ℕ, List, [], length, map, filter}
+use Rattle.std.specs.Prelude.{◌≡◌, ◌+◌, ◌++◌, ◌<◌, ◌==◌, ◌&&◌, not, ℕ, List, [], length, map, filter}
 use Rattle.std.specs.Prelude.{slice_get, slice_index_or, Bool, Option, option_and_then, option_map, if◌then◌else◌}
-use Rattle.std.specs.List.{list_any}
+use Rattle.std.specs.Borrow.{Bor}
+use Rattle.std.specs.Global.{Vec}
+use Rattle.std.specs.List.{AllZip, list_any, range_with_len}
 use Rattle.std.specs.Option.{option_map_or}
 use Rattle.scenario.specs.Table.{all_items, is_table, the_tables}
 use Rattle.scenario.specs.Text.{pair_of, processes_of, record_of}
 use Rattle.study.specs.Grid.{GridRecord}
-use Rattle.study.specs.Settings.{Given, path_of}
+use Rattle.study.specs.Settings.{Given, Path, path_of}
 use Rattle.study.specs.Sources.{SourcesRecord}
+use Rattle.study.specs.declared.key.Key.{Key}
 use Rattle.study_commands.specs.Warnings.{Dealt, IsFirst, Warning, lates, outages, tick_of, unevens, unused, uses_link}
 use Rattle.study_commands.specs.declared.dealt_ticks.DealtTicks.{DealtTicks}
 use Rattle.study_commands.specs.declared.first_run.FirstRun.{FirstRun}
@@ -17,6 +20,9 @@ use Rattle.toml.specs.Data.{Data, Members, as_array, as_table}
 
 abbrev pub dealt_of : DealtTicks → Dealt
 dealt_of d = record { key = path_of d.key.now; ticks = d.ticks.items }
+
+abbrev pub paths_said : List (Bor Key) → List Path
+paths_said keys = map (λ k. path_of k.now) keys
 
 -- the tick at a place among what keys are set to
 abbrev pub tick_said : (place : ℕ) → List Given → Option ℕ
@@ -59,3 +65,12 @@ warning_of (found.Late its) = lates its
 warning_of (found.Uneven key its) = unevens (path_of key.now) its
 warning_of (found.Unused key its) = unused (path_of key.now) its
 warning_of found.Outages = outages
+
+-- they are found besides
+abbrev pub Gains : (old new : Vec Found) → List Warning → Type 0
+Gains old new more = map warning_of new.items ≡ map warning_of old.items ++ more
+
+-- this holds of the points from a number on, whatever tables have these first runs
+abbrev pub OfRuns : (begin : ℕ) → List FirstRun → ((points : List ℕ) → List Members → Type 0) → Type 0
+OfRuns begin runs Holds =
+    (tables : List Members) → AllZip IsRunOf tables runs → Holds (range_with_len begin (length runs)) tables

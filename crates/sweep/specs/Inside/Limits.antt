@@ -7,7 +7,7 @@ use Rattle.sweep.specs.Columns.{is_limited}
 use Rattle.sweep.specs.Inside.Numbering.{AreNumbersFrom}
 use Rattle.sweep.specs.Results.{Trial}
 use Rattle.sweep.specs.StudyText.{point_at, IsTrialOf}
-use Rattle.sweep.specs.Watching.{News, HeardRunning}
+use Rattle.sweep.specs.Watching.{HeardLimits}
 use Rattle.sweep.specs.declared.group.Group.{Group}
 use Rattle.sweep.specs.declared.limits.Limits.{Limits}
 use Rattle.sweep.specs.declared.run_numbers.RunNumbers.{RunNumbers}
@@ -16,6 +16,10 @@ use Rattle.sweep.specs.declared.run_numbers.RunNumbers.{RunNumbers}
 abbrev pub next_counted : GridRecord → Limits → ℕ
 next_counted g l = l.point * length (runs g) + l.run
 
+-- the points from one number up to another
+abbrev pub numbers_in : (swept : ℕ × ℕ) → List ℕ
+numbers_in swept = range_with_len swept.0 (swept.1 - swept.0)
+
 module _ (sources : SourcesRecord) (g : GridRecord) where
   -- the first runs of the point are counted
   pub record AreCounted (l : Limits) : Type 0 where
@@ -23,19 +27,18 @@ module _ (sources : SourcesRecord) (g : GridRecord) where
     pub each : AllZip (IsTrialOf sources (point_at g l.point)) (take l.run (runs g)) trials
     pub counted : l.count ≡ count_by (λ t. is_limited t.result) trials
 
-  module _ {W : Type 0} (heard : W → List News → W → Type 0) (old new : W) (points done begin : ℕ) where
+  module _ {W : Type 0} (heard : W → List (ℕ × ℕ) → W → Type 0) (old new : W) (begin : ℕ) where
     -- and of all points from the first up to this one it was told
     pub record AreUnderWay (l : Limits) : Type 0 where
-      pub told : HeardRunning heard old new sources g points (length (runs g)) done
-          (range_with_len begin (l.point - begin))
+      pub told : HeardLimits heard old new sources g (range_with_len begin (l.point - begin))
       pub order : begin ≤ l.point
       pub counting : AreCounted l
 
 -- with these runs, which come next, a watcher that was told of all points before one place, of whatever files and with
 -- whatever groups of pairs, is told of all before another
-abbrev pub TellsOn : GridRecord → {W : Type 0} (heard : W → List News → W → Type 0) (old new : W) → List RunNumbers
-    → (from to : Limits) → Type 0
-TellsOn g {W} heard old new all from to = (sources : SourcesRecord) (groups : List Group) (start : W)
-    (points done begin : ℕ) → AreNumbersFrom sources g groups (next_counted g from) all
-    → AreUnderWay sources g heard start old points done begin from
-    → AreUnderWay sources g heard start new points done begin to
+abbrev pub TellsOn : GridRecord → {W : Type 0} (heard : W → List (ℕ × ℕ) → W → Type 0) (old new : W)
+    → List RunNumbers → (from to : Limits) → Type 0
+TellsOn g {W} heard old new all from to = (sources : SourcesRecord) (groups : List Group) (start : W) (begin : ℕ)
+    → AreNumbersFrom sources g groups (next_counted g from) all
+    → AreUnderWay sources g heard start old begin from
+    → AreUnderWay sources g heard start new begin to

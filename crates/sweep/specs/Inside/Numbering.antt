@@ -60,6 +60,10 @@ module _ (sources : SourcesRecord) (g : GridRecord) (groups : List Group) where
       (number : ℕ) × (first ≤ number) × (number < end) × IsRefusalAt number e
       × ((m : ℕ) → first ≤ m → m < number → IsReadyAt m)
 
+  -- all runs of the points from one up to another can be run
+  abbrev pub ArePointsReady : (begin end : ℕ) → Type 0
+  ArePointsReady begin end = (n : ℕ) → begin * length (runs g) ≤ n → n < end * length (runs g) → IsReadyAt n
+
   -- the numbers of the run of a run's number
   pub record AreNumbersAt (number : ℕ) (n : RunNumbers) : Type 0 where
     pub trial : Trial

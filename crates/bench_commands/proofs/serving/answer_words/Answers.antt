@@ -1,9 +1,10 @@
 use Rattle.std.proofs.Common.{map, inl, inr}
 use Rattle.std.proofs.lemmas.Result.{IfErr-weaker}
-use Rattle.command_line.specs.Order.{States}
-use Rattle.command_line.specs.Told.{AsksHelp, IsHelp}
+use Rattle.command_line.specs.Order.{AsksHelp, States}
 use Rattle.bench_commands.specs.Answer.{Answers, Leaves, Writes}
 use Rattle.bench_commands.specs.Fault.{end_of}
+use Rattle.bench_commands.specs.Serve.{IsHelp}
+use Rattle.bench_commands.proofs.Stopping.{answered}
 use Rattle.shell.proofs.Going.{for_help, for_order}
 use Rattle.bench_commands.proofs.serving.answer_words.Goals as goal
 
@@ -23,15 +24,11 @@ returns-in-Err-clause-text g c =
     let input = g.I.Read.remaining c.args.input.now in
     let words = map (λ w. w.now) c.args.words.now in
     for_help _ _ _ _ end_of c.tell.result (States words) (λ _. AsksHelp words) (Answers input) (Writes input)
-    (Leaves input) (λ _. IsHelp c.told_of.result) (λ _ is. c.told_of.ensures.help is words c.in-Err.ensures.refused)
+    (Leaves input) (λ _. IsHelp c.in-Err.error) (λ _. answered words c.in-Err.error c.in-Err.ensures.refused)
     c.tell.ensures.text
 
 pub returns-in-Err-clause-why : goal.returns-in-Err-clause-why
 returns-in-Err-clause-why g c =
     IfErr-weaker c.tell.result _ _
-    (λ fault is. inl (record {
-      reason = c.in-Err.error;
-      explains = c.in-Err.ensures.refused;
-      tells = (c.told_of.result, c.told_of.ensures.told, is);
-    }))
+    (λ fault is. inl (record { reason = c.in-Err.error; explains = c.in-Err.ensures.refused; tells = is }))
     c.tell.ensures.why

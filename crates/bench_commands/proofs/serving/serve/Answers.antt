@@ -1,10 +1,9 @@
 use Rattle.std.proofs.Common.{◌∙◌, map, sym, arith}
-use Rattle.command_line.specs.Order.{Explains, States}
-use Rattle.command_line.specs.Told.{AsksHelp}
+use Rattle.command_line.specs.Order.{AsksHelp, Explains, States}
 use Rattle.bench_commands.specs.Answer.{Answers, Leaves, Writes}
 use Rattle.bench_commands.specs.Fault.{end_of, line_of, status_of}
 use Rattle.bench_commands.specs.Inside.Statuses.{has_status}
-use Rattle.bench_commands.specs.Serve.{IsReason, TellsFor}
+use Rattle.bench_commands.specs.Serve.{IsReason, TellsOf}
 use Rattle.bench_commands.specs.Why.{StopsFor}
 use Rattle.bench_commands.proofs.Stopping.{run_asked, unasked_status}
 use Rattle.shell.proofs.Serving.{ends, failure_of}
@@ -16,7 +15,7 @@ returns g c =
     let words = map (λ w. w.now) c.args.words.now in
     let outcome = c.answer_words-outcome in
     let ended =
-    ends status_of end_of has_status (States words) (Explains words) TellsFor (StopsFor input) unasked_status line_of
+    ends status_of end_of has_status (States words) (Explains words) TellsOf (StopsFor input) unasked_status line_of
     (λ _. AsksHelp words) (Answers input) (Writes input) (Leaves input) g.O.Outlet.told g.O.Outlet.failed _ _
     g.F.Outlet.told g.F.Outlet.failed _ _ c.ended.result outcome.result c.ended.ensures.done c.ended.ensures.failed
     outcome.ensures.text outcome.ensures.why in

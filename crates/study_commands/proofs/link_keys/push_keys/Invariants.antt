@@ -1,10 +1,9 @@
-use Rattle.std.proofs.Common.{◌≡◌, ◌++◌, filter, map, take}
+use Rattle.std.proofs.Common.{◌≡◌, ◌++◌, filter, take}
 use Rattle.study.specs.Grid.{paths_of}
-use Rattle.study.specs.Settings.{path_of}
+use Rattle.study_commands.specs.Inside.Warned.{paths_said}
 use Rattle.study_commands.specs.Warnings.{is_of_link}
 use Rattle.study_commands.proofs.link_keys.push_keys.Given as goal
 
 abbrev pub invariant-loop-axis : goal.invariant-loop-axis
 invariant-loop-axis l =
-    map (λ k. path_of k.now) l.keys.items
-    ≡ map (λ k. path_of k.now) l.fn.keys.items ++ filter is_of_link (paths_of (take l.axis-index l.axes))
+    paths_said l.keys.items ≡ paths_said l.fn.keys.items ++ filter is_of_link (paths_of (take l.axis-index l.axes))

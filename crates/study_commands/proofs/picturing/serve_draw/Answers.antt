@@ -1,4 +1,4 @@
-use Rattle.std.proofs.Common.{rules, option_map}
+use Rattle.std.proofs.Common.{rules}
 use Rattle.std.proofs.lemmas.Result.{IfErr-weaker, IfOk-weaker}
 use Rattle.study_commands.specs.Draw.{IsOfPicture}
 use Rattle.study_commands.proofs.Refusing.{picture_stops}
@@ -21,8 +21,7 @@ pub returns-in-Ok-clause-refused : goal.returns-in-Ok-clause-refused
 returns-in-Ok-clause-refused g c =
     IfErr-weaker c.picture_of.result _ _
     (λ fault is.
-    picture_stops (g.I.Read.remaining c.args.input.now) c.args.texts.now c.args.words.now.picture c.args.words.now.from c.args.words.now.until
-    (option_map (λ w. w.now) c.args.words.now.of) c.in_ok-scenario.scenario c.in_ok-of.of.items fault
+    picture_stops (g.I.Read.remaining c.args.input.now) c.args.texts.now c.args.words.now c.in_ok-scenario.scenario c.in_ok-of.of.items fault
     c.in_ok-scenario.ensures.scenario c.in_ok-of.ensures.named
     (rw (c.deref.ensures.value, c.unwrap_or-from.ensures, c.unwrap_or-until.ensures, c.horizon.ensures.value) at is))
     c.picture_of.ensures.refused
@@ -34,7 +33,6 @@ returns-clause-refused g c =
     let is : IsOfPicture c.args.texts.now.path.now c.args.words.now.picture s of c.unwrap_or-from.result c.unwrap_or-until.result
     c.fault_of.result =
     search rules in
-    picture_stops (g.I.Read.remaining c.args.input.now) c.args.texts.now c.args.words.now.picture c.args.words.now.from c.args.words.now.until
-    (option_map (λ w. w.now) c.args.words.now.of) s of c.fault_of.result c.in_ok-scenario.ensures.scenario
+    picture_stops (g.I.Read.remaining c.args.input.now) c.args.texts.now c.args.words.now s of c.fault_of.result c.in_ok-scenario.ensures.scenario
     c.in_ok-of.ensures.named
     (rw (c.unwrap_or-from.ensures, c.unwrap_or-until.ensures, c.horizon.ensures.value) at is)

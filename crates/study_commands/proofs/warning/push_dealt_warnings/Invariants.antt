@@ -1,13 +1,10 @@
-use Rattle.std.proofs.Common.{◌≡◌, ◌++◌, List, length, map, take}
-use Rattle.std.specs.List.{AllZip, filter_map, range_with_len}
-use Rattle.study_commands.specs.Inside.Warned.{IsRunOf, dealt_of, warning_of}
+use Rattle.std.proofs.Common.{map, take}
+use Rattle.std.specs.List.{filter_map}
+use Rattle.study_commands.specs.Inside.Warned.{Gains, OfRuns, dealt_of}
 use Rattle.study_commands.specs.Warnings.{warning_of_dealt}
-use Rattle.toml.specs.Data.{Members}
 use Rattle.study_commands.proofs.warning.push_dealt_warnings.Given as goal
 
 abbrev pub invariant-loop-each : goal.invariant-loop-each
 invariant-loop-each l =
-    (tables : List Members) → AllZip IsRunOf tables l.runs
-    → map warning_of l.all.items ≡ map warning_of l.fn.all.items
-    ++ filter_map (warning_of_dealt (range_with_len l.begin (length l.runs)) tables)
-    (map dealt_of (take l.each-index l.dealt))
+    OfRuns l.begin l.runs (λ points tables.
+    Gains l.fn.all l.all (filter_map (warning_of_dealt points tables) (map dealt_of (take l.each-index l.dealt))))

@@ -3,9 +3,8 @@ use Rattle.std.proofs.lemmas.List.{length-map}
 use Rattle.std.proofs.lemmas.Result.{on_ok_weaker}
 use Rattle.std.specs.List.{filter_map}
 use Rattle.std.specs.Option.{option_map}
-use Rattle.study.specs.Settings.{path_of}
 use Rattle.study_commands.proofs.FirstRuns.{found_at, same_unlinked}
-use Rattle.study_commands.specs.Inside.Warned.{warning_of}
+use Rattle.study_commands.specs.Inside.Warned.{paths_said, warning_of}
 use Rattle.study_commands.specs.Warnings.{unlinked_where, unused}
 use Rattle.study_commands.proofs.warning.push_key_warnings.Goals as goal
 
@@ -13,7 +12,7 @@ pub returns : goal.returns
 returns c =
     let runs = c.args.runs.now in
     let before = map warning_of c.args.all.now.items in
-    let paths = map (λ k. path_of k.now) c.args.keys.now in
+    let paths = paths_said c.args.keys.now in
     let taken : c.deref.result.now ≡ map (λ r. unlinked_where r.uses_link r.processes) runs =
     c.deref.ensures.value ∙ c.in_ok-unlinked.ensures in
     let long : length c.deref.result.now ≡ length runs = ap length taken ∙ length-map runs _ in

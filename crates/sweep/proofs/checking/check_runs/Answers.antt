@@ -1,15 +1,13 @@
-use Rattle.sweep.proofs.Words.{rules, ◌≡◌, ◌≤◌, ◌<◌, ◌+◌, ◌-◌, ◌*◌, ℕ, Bool, true, length, arith, subst, slice_index_or, mul-le-mul_right, sources_of, points, runs, IsReadyAt, IsFirstRefusal, HeardReading}
-use Rattle.sweep.proofs.Heard.{reading_begin, reading_more, all_done, within_all}
+use Rattle.sweep.proofs.Words.{rules, ◌≡◌, ◌≤◌, ◌<◌, ◌+◌, ◌*◌, ℕ, [], Bool, true, length, arith, subst, slice_index_or, mul-le-mul_right, sources_of, points, runs, IsReadyAt, IsFirstRefusal, joined_then}
 use Rattle.sweep.proofs.Numbered.{number_below}
-use Rattle.sweep.proofs.Reading.{if_any_err, read_more, first_refusal}
+use Rattle.sweep.proofs.Reading.{read_more, first_refusal}
 use Rattle.sweep.proofs.checking.check_runs.Goals as goal
 
 pub loop-next-init : goal.loop-next-init
 loop-next-init g c = record {
   low = omega arith;
   high = mul-le-mul_right {m = c.args.begin} {n = c.args.end} c.runs-runs.result c.requires.order;
-  heard = subst (HeardReading g.W.Watcher.heard c.args.watcher.now c.hear.new.self (c.args.end - c.args.begin) c.runs-runs.result) (omega arith)
-      (reading_begin g.W.Watcher.heard (c.args.end - c.args.begin) c.runs-runs.result c.args.watcher.now c.hear.new.self c.hear.ensures);
+  heard = c.hear.ensures;
   read = λ n low high. absurd (omega (arith, low, high));
 }
 
@@ -53,8 +51,7 @@ loop-next-preserved g c =
     record {
       low = search rules;
       high = search rules;
-      heard = reading_more g.W.Watcher.heard (c.args.end - c.args.begin) c.runs-runs.result c.args.watcher.now c.loop-next.watcher c.hear-in-loop-next.new.self _ _
-          inv.heard (search rules) c.hear-in-loop-next.ensures;
+      heard = joined_then g.W.Watcher.heard c.args.watcher.now c.loop-next.watcher c.hear-in-loop-next.new.self [] [] inv.heard c.hear-in-loop-next.ensures;
       read = read_more sources c.args.grid.now groups (c.args.begin * c.runs-runs.result) c.loop-next.next c.len.result items inv.read each all;
     }
 
@@ -66,25 +63,3 @@ returns-clause-ok g c =
     let inv = c.loop-next.invariant in
     let P : ℕ → Type 0 = λ w. (n : ℕ) → c.args.begin * w ≤ n → n < c.args.end * w → IsReadyAt sources grid groups n in
     subst P c.runs-runs.ensures.value (λ n low high. inv.read n low (omega (arith, high, c.loop-next-test.false)))
-
-pub returns-clause-heard : goal.returns-clause-heard
-returns-clause-heard g c =
-    let told = rw c.runs-runs.ensures.value at c.loop-next.invariant.heard in
-    let high = rw c.runs-runs.ensures.value at c.loop-next.invariant.high in
-    let past = rw c.runs-runs.ensures.value at c.loop-next-test.false in
-    rw (← all_done c.args.begin c.args.end (length (runs c.args.grid.now)) c.loop-next.next (omega (arith, high, past))) told
-
-pub returns-in_err-are_read-clause-heard_some : goal.returns-in_err-are_read-clause-heard_some
-returns-in_err-are_read-clause-heard_some g c =
-    let told = rw c.runs-runs.ensures.value at c.loop-next.invariant.heard in
-    let high = rw c.runs-runs.ensures.value at c.loop-next.invariant.high in
-    if_any_err c.from_residual.result _ (_, within_all c.args.begin c.args.end _ c.loop-next.next high, told)
-
-pub returns-in-Some-clause-heard_some : goal.returns-in-Some-clause-heard_some
-returns-in-Some-clause-heard_some g c =
-    let told = rw c.runs-runs.ensures.value at c.loop-next.invariant.heard in
-    let high = rw c.runs-runs.ensures.value at c.loop-next.invariant.high in (
-      _,
-      within_all c.args.begin c.args.end _ c.loop-next.next high,
-      told,
-    )

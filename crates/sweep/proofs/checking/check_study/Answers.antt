@@ -1,6 +1,5 @@
-use Rattle.sweep.proofs.Words.{◌≤◌, length, arith, IfOk-weaker, MatchResult-weaker, sources_of, runs}
+use Rattle.sweep.proofs.Words.{◌≤◌, [], length, arith, joined_then, IfOk-weaker, MatchResult-weaker, sources_of, runs}
 use Rattle.sweep.proofs.Ending.{cant_be_run, are_ready}
-use Rattle.sweep.proofs.Heard.{read_all, read_some}
 use Rattle.sweep.proofs.checking.check_study.Goals as goal
 
 pub returns-clause-ok : goal.returns-clause-ok
@@ -17,11 +16,4 @@ returns-clause-err g c =
 
 pub returns-clause-heard : goal.returns-clause-heard
 returns-clause-heard g c =
-    IfOk-weaker c.check_runs-answer.result _ _
-    (λ u up. read_all g.W.Watcher.heard c.args.grid.now c.args.shard c.points_of-begin.result.0 c.points_of-begin.result.1 c.points_of-begin.ensures.numbers c.args.watcher.now c.check_runs-answer.new.watcher c.hide.new.self c.hide.ensures.same up)
-    c.check_runs-answer.ensures.heard
-
-pub returns-clause-heard_some : goal.returns-clause-heard_some
-returns-clause-heard_some g c =
-    MatchResult-weaker c.check_runs-answer.result c.check_runs-answer.ensures.heard_some (λ u h. h)
-    (λ e some. read_some g.W.Watcher.heard c.args.grid.now c.args.shard c.points_of-begin.result.0 c.points_of-begin.result.1 c.points_of-begin.ensures.numbers c.args.watcher.now c.check_runs-answer.new.watcher c.hide.new.self c.hide.ensures.same some)
+    joined_then g.W.Watcher.heard c.args.watcher.now c.check_runs-answer.new.watcher c.hide.new.self [] [] c.check_runs-answer.ensures.heard c.hide.ensures.same

@@ -1,6 +1,7 @@
-use Rattle.sweep.proofs.Words.{rules, inl, refl, IfOk-weaker, MatchResult-weaker, sources_of}
+use Rattle.sweep.proofs.Words.{rules, take, IfOk-weaker, MatchResult-weaker, none_joined, numbers_of, sources_of}
+use Rattle.sweep.specs.Inside.Limits.{numbers_in}
 use Rattle.sweep.proofs.Reading.{if_err, if_any_err}
-use Rattle.sweep.proofs.Heard.{run_all, run_some}
+use Rattle.sweep.proofs.Heard.{heard_none, heard_same}
 use Rattle.sweep.proofs.Ending.{breaks_at_header, wrote_study, breaks_at_points}
 use Rattle.sweep.proofs.sweeping.run_study.Goals as goal
 
@@ -13,30 +14,38 @@ returns-in_err-write_header-clause-breaks_off g c =
 
 pub returns-in_err-write_header-clause-heard_some :
     goal.returns-in_err-write_header-clause-heard_some
-returns-in_err-write_header-clause-heard_some g c = if_any_err c.from_residual.result _ (inl refl)
+returns-in_err-write_header-clause-heard_some g c =
+    if_any_err c.from_residual.result _ (heard_none g.W.Watcher.heard (sources_of c.args.sources.now) c.args.grid.now c.args.watcher.now c.args.watcher.now
+    (numbers_of c.args.grid.now c.args.shard) (none_joined g.W.Watcher.heard c.args.watcher.now))
 
 pub returns-clause-done : goal.returns-clause-done
 returns-clause-done g c =
     IfOk-weaker c.write_points-answer.result _ _
-    (λ u up. wrote_study (sources_of c.args.sources.now) c.args.grid.now c.args.shard c.points_of-begin.result.0 c.points_of-begin.result.1 c.points_of-begin.ensures.numbers c.args.layout.now g.O.Outlet.told g.O.Outlet.failed c.args.outlet.now
+    (λ u up. wrote_study (sources_of c.args.sources.now) c.args.grid.now c.args.shard c.points_of-swept.result.0 c.points_of-swept.result.1 c.points_of-swept.ensures.numbers c.args.layout.now g.O.Outlet.told g.O.Outlet.failed c.args.outlet.now
     c.write_header.new.outlet c.write_points-answer.new.outlet c.in_ok-write_header.ensures.whole up)
     c.write_points-answer.ensures.done
 
 pub returns-clause-breaks_off : goal.returns-clause-breaks_off
 returns-clause-breaks_off g c =
     MatchResult-weaker c.write_points-answer.result c.write_points-answer.ensures.stops (λ u h. h)
-    (λ e stops. breaks_at_points (sources_of c.args.sources.now) c.args.grid.now c.args.shard c.points_of-begin.result.0 c.points_of-begin.result.1 c.points_of-begin.ensures.numbers c.args.layout.now g.O.Outlet.told g.O.Outlet.failed c.args.outlet.now
+    (λ e stops. breaks_at_points (sources_of c.args.sources.now) c.args.grid.now c.args.shard c.points_of-swept.result.0 c.points_of-swept.result.1 c.points_of-swept.ensures.numbers c.args.layout.now g.O.Outlet.told g.O.Outlet.failed c.args.outlet.now
     c.write_header.new.outlet c.write_points-answer.new.outlet c.in_ok-write_header.ensures.whole e stops)
 
 pub returns-clause-heard : goal.returns-clause-heard
 returns-clause-heard g c =
-    IfOk-weaker c.write_points-answer.result _ _
-    (λ u up. run_all g.W.Watcher.heard c.args.grid.now c.args.shard c.points_of-begin.result.0 c.points_of-begin.result.1 c.points_of-begin.ensures.numbers (sources_of c.args.sources.now) c.args.watcher.now
-    c.write_points-answer.new.watcher c.hide.new.self c.hide.ensures.same up)
-    c.write_points-answer.ensures.heard
+    let heard = g.W.Watcher.heard in
+    let sources = sources_of c.args.sources.now in
+    rw c.points_of-swept.ensures.numbers (IfOk-weaker c.write_points-answer.result _ _
+    (λ u up. heard_same heard sources c.args.grid.now c.args.watcher.now c.write_points-answer.new.watcher c.hide.new.self (numbers_in c.points_of-swept.result) up c.hide.ensures.same)
+    c.write_points-answer.ensures.heard)
 
 pub returns-clause-heard_some : goal.returns-clause-heard_some
 returns-clause-heard_some g c =
-    MatchResult-weaker c.write_points-answer.result c.write_points-answer.ensures.heard_some (λ u h. h)
-    (λ e some. run_some g.W.Watcher.heard c.args.grid.now c.args.shard c.points_of-begin.result.0 c.points_of-begin.result.1 c.points_of-begin.ensures.numbers (sources_of c.args.sources.now) c.args.watcher.now
-    c.write_points-answer.new.watcher c.hide.new.self c.hide.ensures.same some)
+    let heard = g.W.Watcher.heard in
+    let sources = sources_of c.args.sources.now in
+    rw c.points_of-swept.ensures.numbers (MatchResult-weaker c.write_points-answer.result c.write_points-answer.ensures.heard_some (λ u h. h)
+    (λ e some. (
+      some.0,
+      heard_same heard sources c.args.grid.now c.args.watcher.now c.write_points-answer.new.watcher c.hide.new.self
+          (take some.0 (numbers_in c.points_of-swept.result)) some.1 c.hide.ensures.same,
+    )))

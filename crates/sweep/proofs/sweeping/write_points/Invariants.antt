@@ -10,7 +10,7 @@ invariant-loop-next g l = record {
   low : l.begin * length (runs l.grid) ≤ l.next;
   limits_low : l.limits.run < length (runs l.grid);
   limits_number : next_counted l.grid l.limits ≡ l.next;
-  heard : AreUnderWay (sources_of l.sources) l.grid g.W.Watcher.heard l.fn.watcher l.watcher (l.end - l.begin) (l.next - l.begin * length (runs l.grid)) l.begin l.limits;
+  heard : AreUnderWay (sources_of l.sources) l.grid g.W.Watcher.heard l.fn.watcher l.watcher l.begin l.limits;
   way : IsUnderWay (sources_of l.sources) l.grid l.layout g.O.Outlet.told g.O.Outlet.failed l.initial.outlet l.outlet
       (unit_count l.layout.rows l.grid l.begin) l.progress;
 }

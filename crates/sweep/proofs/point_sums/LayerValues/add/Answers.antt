@@ -1,4 +1,4 @@
-use Rattle.sweep.proofs.Words.{◌≡◌, ◌+◌, ◌^◌, ◌<◌, ◌∷◌, ◌++◌, [], length, length-append, ap, sym, ◌∙◌, subst, arith, all_durations, all_detections, last_decisions, top_rounds, most_values}
+use Rattle.sweep.proofs.Words.{◌≡◌, ◌+◌, ◌^◌, ◌<◌, ◌≤◌, ◌∷◌, ◌++◌, [], length, length-append, cons_option, ap, sym, ◌∙◌, subst, arith, all_durations, all_detections, last_decisions, top_rounds, most_values}
 use Rattle.sweep.specs.Counted.{AreCounted}
 use Rattle.sweep.proofs.Layered.{durations_both, detections_both, decisions_both, rounds_both, few_decisions, few_rounds}
 use Rattle.sweep.proofs.Lines.{on_ok}
@@ -10,11 +10,13 @@ returns c =
     let one = trial ∷ [] in
     let lasted : c.deref.result.now ≡ all_durations group layer one = c.deref.ensures.value ∙ q.durations in
     let short : length c.deref.result.now < 2 ^ 64 = omega arith in
-    let space : length (all_durations group layer trials) + length c.deref.result.now < most_values = omega (arith, short, p.few_lasted, few) in
+    let space : length (all_durations group layer trials) + length c.deref.result.now ≤ most_values = omega (arith, short, p.few_lasted, few) in
     let times : c.deref-2.result.now ≡ all_detections group layer one = c.deref-2.ensures.value ∙ q.detections in
-    let room : length (all_detections group layer trials) + length c.deref-2.result.now < most_values = omega (arith, ap length times, detected, q.fitting.few_detected, few) in
-    let few_last : length (last_decisions layer trials) < most_values = omega (arith, few_decisions layer trials, few) in
-    let few_top : length (top_rounds layer trials) < most_values = omega (arith, few_rounds layer trials, few) in
+    let room : length (all_detections group layer trials) + length c.deref-2.result.now ≤ most_values = omega (arith, ap length times, detected, q.fitting.few_detected, few) in
+    let few_last : length (last_decisions layer trials) + length (cons_option c.args.run.now.last_decision []) ≤ most_values =
+    omega (arith, few_decisions layer trials, few_decisions layer one, ap length q.last_decision, few) in
+    let few_top : length (top_rounds layer trials) + length (cons_option c.args.run.now.top_round []) ≤ most_values =
+    omega (arith, few_rounds layer trials, few_rounds layer one, ap length q.top_round, few) in
     record {
       lasted = subst (λ vs. AreCounted vs c.add_all.new.self) (ap (λ vs. all_durations group layer trials ++ vs) lasted ∙ sym (durations_both group layer trials one))
           (c.in_ok-add_all.ensures (all_durations group layer trials) space p.lasted);

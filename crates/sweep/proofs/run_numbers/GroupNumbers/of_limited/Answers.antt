@@ -1,15 +1,13 @@
-use Rattle.sweep.proofs.Words.{◌≡◌, ℕ, Bool, true, false, is_some, cond, refl, sym, ◌∙◌, [], ◌∷◌, Record, has_layer, Group, Trial, limited, rules}
-use Rattle.sweep.specs.Sums.{AreLayerNumbers}
+use Rattle.sweep.proofs.Words.{◌≡◌, ℕ, Bool, true, false, is_some, cond, refl, sym, ◌∙◌, [], ◌∷◌, Record, Group, limited_run, rules}
+use Rattle.sweep.specs.Sums.{AreLayerNumbers, AreOfLimited, AreOfNoLayer}
 use Rattle.sweep.specs.declared.run_numbers.LayerNumbers.{LayerNumbers}
 use Rattle.sweep.proofs.Layered.{has_first, has_second}
 use Rattle.sweep.proofs.run_numbers.GroupNumbers.of_limited.Goals as goal
 
 second : (group : Group) (S : Record) (n : LayerNumbers) (b : Bool) (count : ℕ) → b ≡ is_some S.share → count ≡ cond b 1 0
-    → (count ≡ 1 → (group : Group) (layer : ℕ) (T : Record) → has_layer layer T ≡ true → AreLayerNumbers group layer (record { scenario = T; result = limited } ∷ []) n)
-    → (count ≡ 0 → (group : Group) (layer : ℕ) (t : Trial) → has_layer layer t.scenario ≡ false → AreLayerNumbers group layer (t ∷ []) n)
-    → AreLayerNumbers group 2 (record { scenario = S; result = limited } ∷ []) n
+    → (count ≡ 1 → AreOfLimited n) → (count ≡ 0 → AreOfNoLayer n) → AreLayerNumbers group 2 (limited_run S ∷ []) n
 second group S n true count is one some none = some one group 2 S (has_second S ∙ sym is)
-second group S n false count is zero some none = none zero group 2 (record { scenario = S; result = limited }) (has_second S ∙ sym is)
+second group S n false count is zero some none = none zero group 2 (limited_run S) (has_second S ∙ sym is)
 
 pub returns : goal.returns
 returns c group =

@@ -1,10 +1,10 @@
-use Rattle.sweep.proofs.Words.{rules, ◌≡◌, ◌+◌, ◌++◌, ◌∷◌, [], take, sym, subst, AllZip, AreGroupNumbers, Group, GroupNumbers, limited}
+use Rattle.sweep.proofs.Words.{rules, ◌≡◌, ◌+◌, ◌++◌, ◌∷◌, [], take, sym, subst, AllZip, AreGroupNumbers, Group, GroupNumbers, limited_run}
 use Rattle.sweep.proofs.Grouped.{zip_more}
 use Rattle.sweep.proofs.run_numbers.RunNumbers.of_limited.Goals as goal
 
 pub loop-group-preserved : goal.loop-group-preserved
 loop-group-preserved c =
-    let R : Group → GroupNumbers → Type 0 = λ group n. AreGroupNumbers group (record { scenario = c.args.scenario.now; result = limited }) n in
+    let R : Group → GroupNumbers → Type 0 = λ group n. AreGroupNumbers group (limited_run c.args.scenario.now) n in
     let groups = c.args.groups.now in
     let i = c.loop-group._group-index in
     let group = c._group-item.result in

@@ -1,32 +1,53 @@
-use Rattle.sweep.proofs.Words.{◌++◌, [], cond, ap, sym, ◌∙◌, append_assoc, append-nil, lead_of, layer_text}
+use Rattle.sweep.proofs.Words.{rules, ◌≡◌, ◌++◌, ℕ, true, false, [], List, cond, ap, sym, ◌∙◌, append_assoc, append-nil, lead_of, picked, Group}
+use Rattle.sweep.specs.RowText.{Text, layer_fields, layer_text, line_text}
+use Rattle.sweep.specs.declared.columns.Columns.{Columns}
+use Rattle.sweep.proofs.Lines.{on_ok}
 use Rattle.sweep.proofs.table.Table.push_group.Goals as goal
 
-pub returns-in_ok-push_layer-2-clause-text : goal.returns-in_ok-push_layer-2-clause-text
-returns-in_ok-push_layer-2-clause-text c number trials sums =
-    let first = layer_text c.args.layout.now.picks (lead_of c.args.layout.now.rows c.args.grid.now c.args.unit) c.args.group.now 1 c.first-first.result in
-    let second = layer_text c.args.layout.now.picks (lead_of c.args.layout.now.rows c.args.grid.now c.args.unit) c.args.group.now 2 c.second-second.result in (
+row : (old new : Text) (picks : List ℕ) (lead : List Text) (group : Group) (layer : ℕ) (c : Columns) (fields : List Text)
+    → fields ≡ layer_fields lead group layer c → new ≡ old ++ line_text (picked picks fields) → new ≡ old ++ layer_text picks lead group layer c
+unfolding layer_text
+row old new picks lead group layer c fields are is = is ∙ ap (λ fs. old ++ line_text (picked picks fs)) are
+
+pub returns-clause-text : goal.returns-clause-text
+returns-clause-text c =
+    on_ok c.push_fields-2.result (λ pushed number trials sums.
+    let group = c.args.group.now in
+    let picks = c.args.layout.now.picks in
+    let lead = lead_of c.args.layout.now.rows c.args.grid.now c.args.unit in
+    let one = c.first-first.result in
+    let two = c.second-second.result in
+    let first = layer_text picks lead group 1 one in
+    let second = layer_text picks lead group 2 two in
+    let some : c.has_second.result ≡ true = search rules in (
       first ++ second,
       record {
-        one = c.first-first.result;
-        two = c.second-second.result;
-        on_first = c.first-first.ensures c.args.group.now number trials sums;
-        on_second = c.second-second.ensures c.args.group.now number trials sums;
-        text = ap (λ b. first ++ cond b second []) (sym c.if-has_second.true ∙ c.has_second.ensures c.args.group.now number trials sums);
+        one = one;
+        two = two;
+        on_first = c.first-first.ensures group number trials sums;
+        on_second = c.second-second.ensures group number trials sums;
+        text = ap (λ b. first ++ cond b second []) (sym some ∙ c.has_second.ensures group number trials sums);
       },
-      c.in_ok-push_layer-2.ensures.text ∙ ap (λ t. t ++ second) c.in_ok-push_layer.ensures.text ∙ append_assoc _ first second,
-    )
+      row _ _ picks lead group 2 two _ c.in_ok-row-2.ensures pushed
+          ∙ ap (λ t. t ++ second) (row _ _ picks lead group 1 one _ c.in_ok-row.ensures c.in_ok-push_fields.ensures.text)
+          ∙ append_assoc _ first second,
+    )) c.push_fields-2.ensures.text
 
-pub returns-else-has_second-clause-text : goal.returns-else-has_second-clause-text
-returns-else-has_second-clause-text c number trials sums =
-    let first = layer_text c.args.layout.now.picks (lead_of c.args.layout.now.rows c.args.grid.now c.args.unit) c.args.group.now 1 c.first-first.result in
-    let second = layer_text c.args.layout.now.picks (lead_of c.args.layout.now.rows c.args.grid.now c.args.unit) c.args.group.now 2 c.second-second.result in (
+pub returns-then-not-has_second-clause-text : goal.returns-then-not-has_second-clause-text
+returns-then-not-has_second-clause-text c number trials sums =
+    let group = c.args.group.now in
+    let picks = c.args.layout.now.picks in
+    let lead = lead_of c.args.layout.now.rows c.args.grid.now c.args.unit in
+    let one = c.first-first.result in
+    let first = layer_text picks lead group 1 one in
+    let none : c.has_second.result ≡ false = search rules in (
       first,
       record {
-        one = c.first-first.result;
+        one = one;
         two = c.second-second.result;
-        on_first = c.first-first.ensures c.args.group.now number trials sums;
-        on_second = c.second-second.ensures c.args.group.now number trials sums;
-        text = sym (append-nil first) ∙ ap (λ b. first ++ cond b second []) (sym c.if-has_second.false ∙ c.has_second.ensures c.args.group.now number trials sums);
+        on_first = c.first-first.ensures group number trials sums;
+        on_second = c.second-second.ensures group number trials sums;
+        text = sym (append-nil first) ∙ ap (λ b. first ++ cond b (layer_text picks lead group 2 c.second-second.result) []) (sym none ∙ c.has_second.ensures group number trials sums);
       },
-      c.in_ok-push_layer.ensures.text,
+      row _ _ picks lead group 1 one _ c.in_ok-row.ensures c.in_ok-push_fields.ensures.text,
     )

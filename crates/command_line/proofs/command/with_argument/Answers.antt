@@ -1,5 +1,0 @@
-use Rattle.std.proofs.Common.{◌≡◌, rules}
-use Rattle.std.proofs.lemmas.Result.{IfOk-at_ok}
-use Rattle.clap.specs.Words.{app_of}
-use Rattle.command_line.specs.Commands.{IsLocal}
-use Rattle.command_line.proofs.command.with_argument.Goals as goal
