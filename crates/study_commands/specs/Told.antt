@@ -1,5 +1,5 @@
--- What a watcher is told in lines: what may mislead of a scenario or a study, after its scenarios were read, and before
--- its first run.
+-- What a watcher is told in lines: what may mislead of a scenario or a study, before it hears of a run that passed its
+-- limit.
 use Rattle.std.specs.Prelude.{◌≡◌, ◌⊎◌, ℕ, List, [], Option, None, Some}
 use Rattle.scenario_record.specs.Record.{Record}
 use Rattle.study.specs.Grid.{GridRecord}
@@ -26,7 +26,7 @@ pub record IsToldOfFile {W : Type 0} (warned : W → List (List ℕ) → W → T
   pub told : IsWarnedOf warned old new scenario
 
 module _ {W : Type 0} (heard : W → List (ℕ × ℕ) → W → Type 0) (warned : W → List (List ℕ) → W → Type 0) where
-  -- it hears of no limit while the runs are read, and is told of the study then
+  -- it hears of no limit, and is told of the study then
   pub record IsToldAfterReading (old new : W) (sources : SourcesRecord) (g : GridRecord) (shard : ShardRecord)
       : Type 0 where
     pub read : W
