@@ -1,6 +1,6 @@
 //! Orders: the tasks that a command line asks for.
-ghost use Rattle.std.specs.Prelude.{◌≡◌, ℕ, IfOk, IfErr, IfSome, IsNone, Some, None, List, option_map, map, codes};
-ghost use Rattle.clap.specs.Words.{HasKind, Text, Row, fault_of, rows_of, found_of, first_of, subcommand_rows_of};
+ghost use Rattle.std.specs.Prelude.{◌≡◌, ℕ, IfOk, IfErr, IfSome, IsNone, Some, None, List, option_map, map};
+ghost use Rattle.clap.specs.Words.{HasKind, Text, fault_of, rows_of, found_of, first_of, subcommand_rows_of};
 ghost use Rattle.command_line.specs.Commands.{Prints, app_with};
 ghost use Rattle.command_line.specs.declared.order.Order.{Order as Asked};
 ghost use Rattle.command_line.specs.Order.{IsNumberAt, States, StatesCheck, StatesCompare, StatesFound, StatesIn, StatesList, StatesNothingFound, StatesNothingIn, StatesPrint, StatesRun, Explains, choice_of};
@@ -179,7 +179,8 @@ fn read_matches<'a>(matches: &ArgMatches<'a>) -> Option<Order<'a>>
     read_found(name, found)
 }
 
-/// What is told of words that `clap` refuses, or for which it shows help. Where a text finds no room, memory was refused.
+/// What is told of words that `clap` refuses, or for which it shows help. Where a text finds no room, memory was
+/// refused.
 fn told_of(alloc: Global, error: &clap::Error) -> WordsError
     ensures { (prints : Prints) (read : List Text) → HasKind (fault_of (app_with prints) read) error.now
         → Explains read result }

@@ -32,10 +32,12 @@ module _ (S : Record) where
     -- at tick c
     abbrev pub told_at : (period w p r c : ℕ) → ℕ
     told_at period w p r c =
-        multiple_from period (max (detected_at S trace w p c + 1) (silent_from period (link S p r) (last_before period c) - least_delay w r))
+        multiple_from period
+        (max (detected_at S trace w p c + 1)
+        (silent_from period (link S p r) (last_before period c) - least_delay w r))
 
     -- once that share has come, each correct r that hears of a correct w suspects whom w watches and who crashed, up to
     -- the horizon
     abbrev pub SharesDetection : Type 0
-    SharesDetection = (period w p r c : ℕ) → S.share ≡ Some period → IsCorrect S w → Watches S w p → CrashesAt S trace p c
-        → IsCorrect S r → LosesNothing w r → From S (Suspects S trace 2 r p) (told_at period w p r c + most_delay w r)
+    SharesDetection = (period w p r c : ℕ) → S.share ≡ Some period → IsCorrect S w → Watches S w p
+        → CrashesAt S trace p c → IsCorrect S r → LosesNothing w r → From S (Suspects S trace 2 r p) (told_at period w p r c + most_delay w r)

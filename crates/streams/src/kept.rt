@@ -1,5 +1,5 @@
 //! Words of letters that are at hand.
-ghost use Rattle.std.specs.Prelude.{◌≡◌, ◌<◌, ◌≤◌, ◌+◌, ◌*◌, ℕ, IfOk, MatchOption, ⊤};
+ghost use Rattle.std.specs.Prelude.{◌≡◌, ◌<◌, ◌+◌, ◌*◌, ℕ, IfOk, MatchOption, ⊤};
 ghost use Rattle.streams.specs.Words.{AreDrawn, Fits, IsDrawn};
 
 use process_api::Pid;

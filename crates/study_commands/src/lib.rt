@@ -9,8 +9,8 @@
 //! `letters`, pictures by `drawing`, and the command line by `study_line`. The process ends with the status, by the
 //! contract of `finish` of `shell`.
 //!
-//! Before the first run a [`warned::Warned`] is told, in lines, what may mislead in a scenario or a study
-//! (`specs/Warnings.antt`, `specs/WarningText.antt`, `specs/Told.antt`).
+//! A [`warned::Warned`] is told, in lines, what may mislead in a scenario or a study (`specs/Warnings.antt`,
+//! `specs/WarningText.antt`), and then of the limits of each point (`specs/Told.antt`).
 //!
 //! For example, the command `fdstudy sweep - --seeds 1..=20 --vary detector.timeout=5,10` prints the line of the
 //! columns' names and two rows, each over 20 runs.

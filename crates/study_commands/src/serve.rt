@@ -166,9 +166,9 @@ fn answer_words<R: Files + Threads + Sync + Clock, I: Read, O: Outlet, W: Warned
 /// With status 1 or 2 nothing was written, and with 3 nothing but by `sweep`: its first line and the rows of the first
 /// points may have gone out. With 4 a front part of the text went out.
 ///
-/// The watcher hears how far a `sweep` has come. After all scenarios of a study were read, and before its first run, it
-/// is told in lines what may mislead of that study. It is told the same of the files of a lone `check`. It takes away
-/// what it shows before a fault is told.
+/// The watcher hears how far a `sweep` has come. It is told in lines what may mislead of that study, before it hears of
+/// any limit; tests show that all scenarios were read by then, and that no run has begun. It is told the same of the
+/// files of a lone `check`. It takes away what it shows before a fault is told.
 pub fn serve<R: Files + Threads + Sync + Clock, I: Read, O: Outlet, F: Outlet, W: Warned>(
     rt: &R,
     alloc: Global,

@@ -131,7 +131,7 @@ abbrev pub AreColumnsOf : LayerTotals → Columns → Type 0
 AreColumnsOf totals c = (group : Group) (layer first : ℕ) (trials : List Trial)
     → AreLayerTotals group layer trials first totals → AreColumns group layer first trials c
 
--- the same of both layers
+-- one more run is added to the sums of both layers
 abbrev pub AddsOneMore : GroupNumbers → (old new : PointSums) → Type 0
 AddsOneMore numbers old new = (group : Group) (first : ℕ) (trials : List Trial) (trial : Trial)
     → length trials < most_runs → AreSums group first trials old → AreGroupNumbers group trial numbers

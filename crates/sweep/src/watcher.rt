@@ -29,8 +29,8 @@ pub struct Standing {
 
 /// Is told how far a sweep has come, and may show it. Whatever it does, the sweep answers and writes the same.
 pub trait Watcher {
-    /// The first, after it was told of these points' limits in this order, is the second: of a point, from 0, and of how
-    /// many of its runs passed theirs.
+    /// The first, after it was told of these points' limits in this order, is the second: of a point, from 0, and of
+    /// how many of its runs passed theirs.
     ghost heard: { Self → List (ℕ × ℕ) → Self → Type 0 };
 
     /// Whether something that it has shown still stands there.

@@ -192,9 +192,9 @@ impl Event {
     ///
     /// # Errors
     ///
-    /// `AllocError` where memory was refused, for a letter with a set that has a member above 64, with cells of which one
-    /// is filled or that are 2^32 or more, with the cells of the last round, or for an estimate with a stamp or a round
-    /// of 2^32 or more. It is in its place then.
+    /// `AllocError` where memory was refused, for a letter with a set that has a member above 64, with cells of which
+    /// one is filled or that are 2^32 or more, with the cells of the last round, or for an estimate with a stamp or a
+    /// round of 2^32 or more. It is in its place then.
     #[inline(always)]
     pub fn letter(alloc: Global, key: Key, payload: &mut Payload) -> Result<Event, AllocError>
         ensures event { IfOk result (λ event. event ≡ event_of (record { key = key; payload = payload.old })) }

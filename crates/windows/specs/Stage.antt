@@ -107,4 +107,5 @@ module _ {M : Type 0} where
   -- the next window of a stage started so many, by a plan
   abbrev pub StartedWorkers : PlanRecord → (old new : Stage M) → Type 0
   StartedWorkers plan old new =
-      IsCountOfWorkers (end_of (setting_of old.scenario.now) plan.window old.start) plan.workers old.berths.items new.workers
+      IsCountOfWorkers (end_of (setting_of old.scenario.now) plan.window old.start) plan.workers old.berths.items
+      new.workers

@@ -38,8 +38,8 @@ pub(crate) struct Lists {
 /// The pending events of a process. Contracts see the finite set of them.
 ///
 /// Those below the end of the window that is run lie in a row, put in order when a worker begins with the process. All
-/// others wait in a list, as they came. The letters of a window are in their mailbox, which the starter hands over as it
-/// is; the worker that runs the process next empties it, and parts those of its window from the others.
+/// others wait in a list, as they came. The letters of a window are in their mailbox, which the starter hands over as
+/// it is; the worker that runs the process next empties it, and parts those of its window from the others.
 #[derive(Drop)]
 pub(crate) struct Agenda {
     // boxed, since a berth is moved often

@@ -1,5 +1,5 @@
 //! One process of a window: its machine, its pending events, and its part of the trace.
-ghost use Rattle.std.specs.Prelude.{◌≡◌, ◌≤◌, ◌<◌, ◌+◌, ◌*◌, ◌^◌, ◌++◌, [], ◌∷◌, ℕ, List, length, vec_len, IfErr, IfOk, OnOk, IsErrOf};
+ghost use Rattle.std.specs.Prelude.{◌≡◌, ◌≤◌, ◌<◌, ◌+◌, ◌*◌, ◌^◌, ◌++◌, [], ◌∷◌, ℕ, length, vec_len, IfErr, IfOk, OnOk, IsErrOf};
 ghost use Rattle.process_api.specs.Bounds.{most_step_actions};
 ghost use Rattle.steps.specs.Seat.{process_of, own_of, IsMindIn, IsSeated, StaysSeated};
 ghost use Rattle.trace_laws.specs.World.{opened};

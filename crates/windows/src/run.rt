@@ -138,8 +138,8 @@ fn run_and_hand_on<M: Process, G: Gate, K: Sink, R: Threads + Wait + Sync>(
 /// # Errors
 ///
 /// `Spawn` where a thread was refused, `Memory` where memory was, and `Limit` only where the whole trace has more
-/// entries than the scenario's limit; `Memory` or `Write` where the sink refused a part. The machines are gone then, and
-/// the sink has a front of the trace: after `Limit` and `Spawn` just the entries of the windows that were closed.
+/// entries than the scenario's limit; `Memory` or `Write` where the sink refused a part. The machines are gone then,
+/// and the sink has a front of the trace: after `Limit` and `Spawn` just the entries of the windows that were closed.
 pub fn run_windows_into<M: Process, G: Gate, K: Sink, R: Threads + Wait + Sync>(
     rt: &R,
     alloc: Global,
@@ -149,7 +149,8 @@ pub fn run_windows_into<M: Process, G: Gate, K: Sink, R: Threads + Wait + Sync>(
     gate: &G,
     sink: &mut K,
 ) -> Result<(), RunError>
-    requires machines { map M.mind machines.items ≡ map (opening_mind scenario.now) (numbers_to scenario.now.processes) }
+    requires machines { map M.mind machines.items
+        ≡ map (opening_mind scenario.now) (numbers_to scenario.now.processes) }
     requires plan { IsPlanFor scenario.now plan.now }
     requires failures { K.failed sink.old < 2 ^ 64 - 1 }
 
@@ -195,7 +196,8 @@ pub fn run_windows<M: Process, G: Gate, R: Threads + Wait + Sync>(
     plan: &Plan,
     gate: &G,
 ) -> Result<Trace, RunError>
-    requires machines { map M.mind machines.items ≡ map (opening_mind scenario.now) (numbers_to scenario.now.processes) }
+    requires machines { map M.mind machines.items
+        ≡ map (opening_mind scenario.now) (numbers_to scenario.now.processes) }
     requires plan { IsPlanFor scenario.now plan.now }
 
     ensures trace { IfOk result (λ t. IsTrace (setting_of scenario.now) t) }

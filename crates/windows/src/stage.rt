@@ -1,5 +1,5 @@
 //! All processes between two windows.
-ghost use Rattle.std.specs.Prelude.{◌≡◌, ◌≤◌, ◌<◌, ◌+◌, ◌^◌, [], ℕ, map, vec_len, length, IfErr, IfNone, IfOk, IfSome, OnOk, IsErrOf, MatchOption, nat_eq};
+ghost use Rattle.std.specs.Prelude.{◌≡◌, ◌≤◌, ◌<◌, ◌+◌, ◌^◌, [], ℕ, map, vec_len, length, IfErr, IfNone, IfOk, IfSome, OnOk, IsErrOf, nat_eq};
 ghost use Rattle.std.specs.List.{All};
 ghost use Rattle.process_api.specs.Numbers.{numbers_to};
 ghost use Rattle.scenario_record.specs.Record.{opening_mind};

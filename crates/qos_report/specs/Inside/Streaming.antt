@@ -74,7 +74,7 @@ module _ (S : Record) {O : Type 0} (told : O → Option (List ℕ)) (failed : O 
   StreamedFront old new =
       (trace : List EntryRecord) → IsTrace (setting_of S) trace → WroteFront told failed old new asked trace
 
--- the same of a sink that streams
+-- a run by windows is done, of a sink that streams
 abbrev pub HasStreamed : Record → {O : Type 0} (told : O → Option (List ℕ)) (failed : O → ℕ) (old new : Streaming O)
     → Type 0
 HasStreamed S told failed old new =

@@ -8,4 +8,5 @@ use Rattle.windows.specs.Inside.Agenda.{IsParted}
 
 -- these letters were filed: what was parted by the first, and then they, are parted by the second
 abbrev pub HasFiled : (first now : Parted) → List Letter → Type 0
-HasFiled first now letters = (end : ℕ) (es : List Event) → IsParted end es first → IsParted end (es ++ map event_of letters) now
+HasFiled first now letters =
+    (end : ℕ) (es : List Event) → IsParted end es first → IsParted end (es ++ map event_of letters) now
