@@ -1,10 +1,5 @@
 -- Meters, as they open, as they are fed with one more entry, and at the close.
-use Rattle.std.proofs.Common.{◌≡◌, ℕ, Bool, false, inl, inr, arith, ltb, None, Some, ◌≢◌, ◌<◌, ◌≤◌, min, cond, sym, ap, ◌∙◌, List, [], ◌∷◌, ◌++◌, suc, ◌+◌, ◌-◌, ◌*◌, true, refl, subst, map, get_or, add-one}
-use Rattle.std.proofs.lemmas.Bool.{cases_lt, lt-ltb, both_ways, or_right, or_left, false_from_ne_true, cond_both}
-use Rattle.judges.specs.Ticks.{all_from, least_from, before}
-use Rattle.judges.proofs.Below.{all_below-from}
-use Rattle.judges.proofs.Lasting.{least_below-none, least_below-is, all_from-at, last_before}
-use Rattle.reporting.specs.Inside.Knows.{IsSince, Knows}
+use Rattle.std.proofs.Common.{◌≡◌, ℕ, arith, None, Some, ◌≢◌, ◌<◌, ◌≤◌, min, cond, sym, ap, ◌∙◌, List, [], ◌∷◌, ◌++◌, suc, ◌+◌, ◌-◌, ◌*◌, refl, subst, map, get_or, add-one}
 use Rattle.std.proofs.lemmas.Bool.Decides.{nat_tests}
 use Rattle.process_api.specs.EntryRecord.{EntryRecord}
 use Rattle.scenario_record.specs.Record.{Record}
@@ -15,10 +10,10 @@ use Rattle.judges.specs.Turns.{noted_turns, entry_turns}
 use Rattle.judges.specs.declared.pair.Pair.{Pair}
 use Rattle.judges.proofs.Entering.{fed_more}
 use Rattle.judges.proofs.Turns.{turns_own, turns_late, turns_other, in_order_more}
-use Rattle.reporting.specs.Measures.{is_measured, starts, ends, delay_after, pair_measures, layer_measures}
-use Rattle.reporting.specs.Meter.{crash_between, closed, detected}
+use Rattle.reporting.specs.Measures.{is_measured, pair_measures, layer_measures}
+use Rattle.reporting.specs.Meter.{crash_between, closed}
 use Rattle.reporting.specs.MeterFed.{IsFed}
-use Rattle.reporting.specs.Tally.{counted, new_tally}
+use Rattle.reporting.specs.Tally.{counted, new_tally, told}
 use Rattle.reporting.specs.declared.meter.Meter.{Meter}
 use Rattle.reporting.specs.declared.tally.Tally.{Tally}
 use Rattle.process_api.specs.Numbers.{others}
@@ -26,27 +21,9 @@ use Rattle.judges.specs.Out.{suspects}
 use Rattle.judges.specs.Pairs.{ArePairs, fed}
 use Rattle.judges.specs.declared.pairs.Pairs.{Pairs}
 use Rattle.judges.proofs.Standing.{IsKnown, fed_known}
-use Rattle.reporting.specs.Distances.{count_below, sum_of_distances, count_of_distances}
 use Rattle.reporting.specs.Panel.{pair, metered, closed_row, closed_rows}
-use Rattle.reporting.specs.declared.pair_measures.Detection.TheVariants.{Na}
-use Rattle.reporting.proofs.Passes.{tallies_keep, none_known}
+use Rattle.reporting.proofs.Passes.{Knows, tallies_keep, none_known, told_is}
 use Rattle.reporting.proofs.EachProcess.{others_same, rows_same}
-
--- ---- the least tick from which suspicion lasts to the end
-
-pub least_from-since : (f : ℕ → Bool) (s t : ℕ) → IsSince f s t → least_from f t ≡ Some s
-least_from-since f s t since =
-    least_below-is (λ u. all_from f u t) t s since.below
-    (all_below-from _ t (λ u l. elim (cases_lt u s) [ inl p ↦ or_left (ltb u s) (f u) (lt-ltb u s p) | inr p ↦ or_right (ltb u s) (f u) (since.on u p l) ]))
-    (λ u l. false_from_ne_true _ (λ e.
-    let last = last_before f s since.not_before u l in
-    both_ways (f last.0) last.3 (all_from-at f u t last.0 e last.1 (omega (arith, since.below, last.2)))))
-
-pub least_from-none : (f : ℕ → Bool) (t : ℕ) → before f t ≡ false → least_from f t ≡ None
-least_from-none f t e =
-    least_below-none (λ u. all_from f u t) t (λ u l. false_from_ne_true _ (λ all.
-    let last = last_before f t e u l in
-    both_ways (f last.0) last.3 (all_from-at f u t last.0 all last.1 last.2)))
 
 -- ---- one more entry
 
@@ -103,39 +80,11 @@ module _ (S : Record) (layer q p : ℕ) (trace : List EntryRecord) (m : Meter) (
   knows : Knows (suspects layer trace q p) (end_of S q p) t
   knows = (pair_known S layer q p trace m h).knows
 
-  at_end : min t.tick (end_of S q p) ≡ end_of S q p
-  at_end = omega (arith, at_horizon)
-
-  lasting : least_from (suspects layer trace q p) S.horizon ≡ cond t.was t.started None
-  lasting = ap (least_from (suspects layer trace q p)) (sym at_horizon) ∙ cond_both t.was t.started None (λ o. least_from (suspects layer trace q p) t.tick ≡ o)
-      (λ e. let s = knows.since e in least_from-since _ s.0 t.tick s.2 ∙ sym s.1) (λ e. least_from-none _ t.tick (sym knows.was ∙ e))
-
   pub closed_is : closed m ≡ pair_measures S trace layer q p
   unfolding pair_measures
   closed_is =
-      let f = suspects layer trace q p in
-      let s = starts (suspects layer trace q p) in
-      let r = ends (suspects layer trace q p) in
-      let detection = ap (detected m.crash) (sym lasting) ∙ ap (λ c. detected c (least_from f S.horizon)) h.crash ∙ by_case (is_measured S q p) in
-      λ i. record {
-        layer = h.same_layer i;
-        observer = h.observer i;
-        subject = h.subject i;
-        mistakes = (knows.mistakes ∙ ap (count_below s) at_end) i;
-        mistake_ticks = (knows.mistake_ticks ∙ ap (count_below f) at_end) i;
-        recurrence_sum = (knows.recurrence.sum ∙ ap (sum_of_distances s s) at_end) i;
-        recurrence_count = (knows.recurrence.count ∙ ap (count_of_distances s s) at_end) i;
-        duration_sum = (knows.duration.sum ∙ ap (sum_of_distances s r) at_end) i;
-        duration_count = (knows.duration.count ∙ ap (count_of_distances s r) at_end) i;
-        good_sum = (knows.good.sum ∙ ap (sum_of_distances r s) at_end) i;
-        good_count = (knows.good.count ∙ ap (count_of_distances r s) at_end) i;
-        detection = detection i;
-      }
-    where
-      by_case : (b : Bool) → detected (cond b (Some (crash_tick S p)) None) (least_from (suspects layer trace q p) S.horizon)
-          ≡ cond b (delay_after (crash_tick S p) (least_from (suspects layer trace q p) S.horizon)) Na
-      by_case true = refl
-      by_case false = refl
+      (λ i. told (h.same_layer i) (h.observer i) (h.subject i) (h.crash i) t)
+      ∙ told_is S layer q p (suspects layer trace q p) t knows at_horizon
 
 module _ (S : Record) (layer : ℕ) (trace : List EntryRecord) (pairs : Pairs Tally) (h : ArePairs counted S layer new_tally trace pairs) where
   module _ (i j : ℕ) (l : i < S.processes) (m : j < S.processes) where

@@ -5,9 +5,8 @@ use Rattle.std.proofs.lemmas.List.{nil_from_length, map-set, length-map, length-
 use Rattle.std.proofs.lemmas.List.Sums.{sum_by-append, fold-append}
 use Rattle.reporting.specs.Distances.{sum_below, list_below, distances, is_next, over_distances, count_of_distances}
 use Rattle.reporting.specs.Durations.{caught, ticks_between, listed, lengths_so_far, lists_in, tally_at, AreCaught, AreFollowing, AreDurations}
-use Rattle.reporting.specs.Inside.Knows.{IsWaiting, Knows}
 use Rattle.reporting.specs.declared.tally.Tally.{Tally}
-use Rattle.reporting.proofs.Passes.{ending, ending_none, ending_one, tallies_keep, none_known, t_after, t_at, open_start, knows_moved}
+use Rattle.reporting.proofs.Passes.{IsWaiting, Knows, ending, ending_none, ending_one, tallies_keep, none_known, t_after, t_at, open_start, knows_moved}
 use mathlib.Core.Bool.{beq}
 use Rattle.process_api.specs.EntryRecord.{EntryRecord}
 use Rattle.process_api.specs.declared.action.Note.{Note}

@@ -1,18 +1,58 @@
--- A tally that passes on over ticks of one state knows the sums over these too.
+-- A tally that passes on over ticks of one state knows the sums over these too, and tells them at the horizon.
 use Rattle.std.proofs.Common.{◌≡◌, ◌≢◌, ℕ, zero, suc, ◌+◌, ◌-◌, ◌<◌, ◌≤◌, min, cond, inl, inr, refl, sym, ap, arith, ltb, ◌⊎◌, Bool, true, false, not, ◌&&◌, ◌||◌, ◌∙◌, leb, Option, None, Some, subst, unwrap_or}
-use Rattle.std.proofs.lemmas.Bool.{cases_eq, cases_lt, lt-ltb, le-ltb, cond-true, cond-false, ltb-true, leb-true, le-leb, and_parts, and_from, or_cases, or_left, or_right, not-true, not_from_false, false_from_ne_true, both_ways, true≢false}
+use Rattle.std.proofs.lemmas.Bool.{cases_eq, cases_lt, lt-ltb, le-ltb, cond-true, cond-false, ltb-true, leb-true, le-leb, and_parts, and_from, or_cases, or_left, or_right, not-true, not_from_false, false_from_ne_true, both_ways, true≢false, cond_both}
 use Rattle.reporting.specs.Distances.{sum_below, is_next, count_below, sum_of_distances, count_of_distances}
-use Rattle.judges.specs.Ticks.{all_below, before}
+use Rattle.judges.specs.Ticks.{all_below, all_from, before, least_from}
 use Rattle.judges.proofs.Below.{all_below-at, all_below-from}
-use Rattle.reporting.specs.Inside.Knows.{Waits, IsWaiting, AreDistances, Knows}
-use Rattle.reporting.specs.Measures.{starts, ends}
-use Rattle.reporting.specs.Tally.{gain, grown, changed, passed, moved, counted, new_tally, tracked}
+use Rattle.judges.proofs.Lasting.{least_below-none, least_below-is, all_from-at, last_before}
+use Rattle.scenario_record.specs.Record.{Record}
+use Rattle.judges.specs.Crashes.{crash_tick, end_of}
+use Rattle.reporting.specs.declared.pair_measures.Detection.TheVariants.{Na}
+use Rattle.reporting.specs.Measures.{starts, ends, is_measured, measured, delay_after}
+use Rattle.reporting.specs.Tally.{gain, grown, changed, passed, moved, counted, new_tally, tracked, detected, told}
 use Rattle.reporting.specs.declared.tally.Distances.{Distances}
 use Rattle.reporting.specs.declared.tally.Tally.{Tally}
 use mathlib.Core.Bool.{beq}
 use Rattle.std.proofs.lemmas.Bool.Decides.{nat_tests}
 use Rattle.judges.specs.Track.{passed as track_passed}
 use Rattle.judges.proofs.Standing.{IsKeeping}
+
+-- ---- what a tally knows of a pair whose suspicion is given tick by tick: the sums over the ticks before its own
+
+module _ (from to : ℕ → Bool) where
+  -- before tick t, s passes the first test and no tick after it the second
+  pub record Waits (t s : ℕ) : Type 0 where
+    pub below : s < t
+    pub passes : from s ≡ true
+    pub none : (u : ℕ) → s < u → u < t → to u ≡ false
+
+  -- the one tick that waits, if one does
+  abbrev pub IsWaiting : (t : ℕ) → Option ℕ → Type 0
+  IsWaiting t None = (s : ℕ) → ¬ (Waits t s)
+  IsWaiting t (Some s) = Waits t s × ((r : ℕ) → Waits t r → r ≡ s)
+
+  -- the distances that end below a tick
+  pub record AreDistances (d : Distances) (end : ℕ) : Type 0 where
+    pub sum : d.sum ≡ sum_of_distances from to end
+    pub count : d.count ≡ count_of_distances from to end
+
+-- suspicion began at this tick and goes on until another
+pub record IsSince (suspected : ℕ → Bool) (s t : ℕ) : Type 0 where
+  pub below : s < t
+  pub not_before : before suspected s ≡ false
+  pub on : (u : ℕ) → s ≤ u → u < t → suspected u ≡ true
+
+pub record Knows (suspected : ℕ → Bool) (end : ℕ) (t : Tally) : Type 0 where
+  pub was : t.was ≡ before suspected t.tick
+  pub mistakes : t.mistakes ≡ count_below (starts suspected) (min t.tick end)
+  pub mistake_ticks : t.mistake_ticks ≡ count_below suspected (min t.tick end)
+  pub recurrence : AreDistances (starts suspected) (starts suspected) t.recurrence (min t.tick end)
+  pub duration : AreDistances (starts suspected) (ends suspected) t.duration (min t.tick end)
+  pub good : AreDistances (ends suspected) (starts suspected) t.good (min t.tick end)
+  pub last_start : IsWaiting (starts suspected) (starts suspected) t.tick t.started
+  pub open_start : IsWaiting (starts suspected) (ends suspected) t.tick (cond t.was t.started None)
+  pub open_end : IsWaiting (ends suspected) (starts suspected) t.tick (cond t.was None t.ended)
+  pub since : t.was ≡ true → (s : ℕ) × (t.started ≡ Some s) × IsSince suspected s t.tick
 
 -- ---- sums over ticks, where most terms are 0
 
@@ -391,3 +431,54 @@ tallies_seen until now end t =
           ∙ sym (cond-true _ _ _ (lt-ltb t.tick until l))
       | inr l ↦ ap tracked (cond-false _ _ _ (le-ltb t.tick until l)) ∙ sym (cond-false _ _ _ (le-ltb t.tick until l))
     ]
+
+-- ---- the least tick from which suspicion lasts to the end
+
+pub least_from-since : (f : ℕ → Bool) (s t : ℕ) → IsSince f s t → least_from f t ≡ Some s
+least_from-since f s t since =
+    least_below-is (λ u. all_from f u t) t s since.below
+    (all_below-from _ t (λ u l. elim (cases_lt u s) [ inl p ↦ or_left (ltb u s) (f u) (lt-ltb u s p) | inr p ↦ or_right (ltb u s) (f u) (since.on u p l) ]))
+    (λ u l. false_from_ne_true _ (λ e.
+    let last = last_before f s since.not_before u l in
+    both_ways (f last.0) last.3 (all_from-at f u t last.0 e last.1 (omega (arith, since.below, last.2)))))
+
+pub least_from-none : (f : ℕ → Bool) (t : ℕ) → before f t ≡ false → least_from f t ≡ None
+least_from-none f t e =
+    least_below-none (λ u. all_from f u t) t (λ u l. false_from_ne_true _ (λ all.
+    let last = last_before f t e u l in
+    both_ways (f last.0) last.3 (all_from-at f u t last.0 all last.1 last.2)))
+
+-- ---- what a tally tells at the horizon
+
+module _ (S : Record) (layer q p : ℕ) (f : ℕ → Bool) (t : Tally) (k : Knows f (end_of S q p) t) (at_horizon : t.tick ≡ S.horizon) where
+  at_end : min t.tick (end_of S q p) ≡ end_of S q p
+  at_end = omega (arith, at_horizon)
+
+  lasting : cond t.was t.started None ≡ least_from f S.horizon
+  lasting =
+      sym (ap (least_from f) (sym at_horizon)
+      ∙ cond_both t.was t.started None (λ o. least_from f t.tick ≡ o)
+      (λ e. let s = k.since e in least_from-since _ s.0 t.tick s.2 ∙ sym s.1) (λ e. least_from-none _ t.tick (sym k.was ∙ e)))
+
+  detected_is : (b : Bool) → detected (cond b (Some (crash_tick S p)) None) (least_from f S.horizon)
+      ≡ cond b (delay_after (crash_tick S p) (least_from f S.horizon)) Na
+  detected_is true = refl
+  detected_is false = refl
+
+  pub told_is : told layer q p (cond (is_measured S q p) (Some (crash_tick S p)) None) t ≡ measured S layer q p f
+  told_is =
+      let detection = ap (detected (cond (is_measured S q p) (Some (crash_tick S p)) None)) lasting ∙ detected_is (is_measured S q p) in
+      λ i. record {
+        layer = layer;
+        observer = q;
+        subject = p;
+        mistakes = (k.mistakes ∙ ap (count_below (starts f)) at_end) i;
+        mistake_ticks = (k.mistake_ticks ∙ ap (count_below f) at_end) i;
+        recurrence_sum = (k.recurrence.sum ∙ ap (sum_of_distances (starts f) (starts f)) at_end) i;
+        recurrence_count = (k.recurrence.count ∙ ap (count_of_distances (starts f) (starts f)) at_end) i;
+        duration_sum = (k.duration.sum ∙ ap (sum_of_distances (starts f) (ends f)) at_end) i;
+        duration_count = (k.duration.count ∙ ap (count_of_distances (starts f) (ends f)) at_end) i;
+        good_sum = (k.good.sum ∙ ap (sum_of_distances (ends f) (starts f)) at_end) i;
+        good_count = (k.good.count ∙ ap (count_of_distances (ends f) (starts f)) at_end) i;
+        detection = detection i;
+      }

@@ -3,12 +3,9 @@ use Rattle.std.specs.Prelude.{ℕ, false, ◌&&◌, ◌==◌, nat_lt, if◌then�
 use Rattle.scenario_record.specs.Record.{Record}
 use Rattle.judges.specs.Crashes.{crash_tick, end_of}
 use Rattle.judges.specs.Pair.{kept_at}
-use Rattle.reporting.specs.Measures.{is_measured, delay_after}
-use Rattle.reporting.specs.Tally.{counted, new_tally}
+use Rattle.reporting.specs.Measures.{is_measured}
+use Rattle.reporting.specs.Tally.{counted, new_tally, told}
 use Rattle.reporting.specs.declared.meter.Meter.{Meter}
-use Rattle.reporting.specs.declared.tally.Tally.{Tally}
-use Rattle.reporting.specs.declared.pair_measures.Detection.{Detection}
-use Rattle.reporting.specs.declared.pair_measures.Detection.TheVariants.{Na}
 use Rattle.reporting.specs.declared.pair_measures.PairMeasures.{PairMeasures}
 
 abbrev pub opened : Record → (layer q p : ℕ) → Meter
@@ -26,27 +23,6 @@ abbrev pub crash_between : (observer_end subject_end horizon : ℕ) → Option �
 crash_between observer_end subject_end horizon =
     if nat_lt subject_end horizon && observer_end == horizon then Some subject_end else None
 
-abbrev pub detected : (crash since : Option ℕ) → Detection
-detected None since = Na
-detected (Some c) since = delay_after c since
-
--- what a meter tells, whose tally is at the horizon
-abbrev pub told : Meter → Tally → PairMeasures
-told m t = record {
-  layer = m.layer;
-  observer = m.observer;
-  subject = m.subject;
-  mistakes = t.mistakes;
-  mistake_ticks = t.mistake_ticks;
-  recurrence_sum = t.recurrence.sum;
-  recurrence_count = t.recurrence.count;
-  duration_sum = t.duration.sum;
-  duration_count = t.duration.count;
-  good_sum = t.good.sum;
-  good_count = t.good.count;
-  detection = detected m.crash (if t.was then t.started else None);
-}
-
 -- no entry follows
 abbrev pub closed : Meter → PairMeasures
-closed m = told m (kept_at counted m.horizon m.pair)
+closed m = told m.layer m.observer m.subject m.crash (kept_at counted m.horizon m.pair)

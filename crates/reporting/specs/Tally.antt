@@ -1,7 +1,11 @@
--- The steps of a tally, which counts as a suspicion starts, goes on and ends.
+-- The steps of a tally, which counts as a suspicion starts, goes on and ends, and what it tells.
 use Rattle.std.specs.Prelude.{ℕ, ◌+◌, ◌-◌, ◌*◌, ◌^◌, ◌<◌, ◌≤◌, min, Bool, false, if◌then◌else◌, nat_lt, Option, None, Some, unwrap_or}
 use Rattle.std.specs.Option.{ForSome}
 use Rattle.judges.specs.declared.track.Track.{Track}
+use Rattle.reporting.specs.Measures.{delay_after}
+use Rattle.reporting.specs.declared.pair_measures.Detection.{Detection}
+use Rattle.reporting.specs.declared.pair_measures.Detection.TheVariants.{Na}
+use Rattle.reporting.specs.declared.pair_measures.PairMeasures.{PairMeasures}
 use Rattle.reporting.specs.declared.tally.Distances.{Distances}
 use Rattle.reporting.specs.declared.tally.Tally.{Tally}
 
@@ -65,6 +69,27 @@ tracked t = record {
   was = t.was;
   since = unwrap_or (if t.was then t.started else t.ended) 0;
   mistaken = nat_lt 0 t.mistake_ticks;
+}
+
+abbrev pub detected : (crash since : Option ℕ) → Detection
+detected None since = Na
+detected (Some c) since = delay_after c since
+
+-- what it tells at the horizon of observer q and subject p on a layer, whose crash is given if its detection is measured
+abbrev pub told : (layer q p : ℕ) → (crash : Option ℕ) → Tally → PairMeasures
+told layer q p crash t = record {
+  layer = layer;
+  observer = q;
+  subject = p;
+  mistakes = t.mistakes;
+  mistake_ticks = t.mistake_ticks;
+  recurrence_sum = t.recurrence.sum;
+  recurrence_count = t.recurrence.count;
+  duration_sum = t.duration.sum;
+  duration_count = t.duration.count;
+  good_sum = t.good.sum;
+  good_count = t.good.count;
+  detection = detected crash (if t.was then t.started else None);
 }
 
 -- the numbers fit their types

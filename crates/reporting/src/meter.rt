@@ -1,13 +1,12 @@
 //! A meter: the measures of one pair on one layer, in constant memory.
-ghost use Rattle.std.specs.Prelude.{◌≡◌, [], ℕ, List, if◌then◌else◌, None};
+ghost use Rattle.std.specs.Prelude.{◌≡◌, [], ℕ, List};
 ghost use Rattle.process_api.specs.EntryRecord.{EntryRecord};
 ghost use Rattle.scenario_record.specs.Record.{Record};
-ghost use Rattle.reporting.specs.Meter.{closed, crash_between, detected, opened};
+ghost use Rattle.reporting.specs.Meter.{closed, crash_between, opened};
 ghost use Rattle.reporting.specs.MeterFed.{IsFed, WasFed};
 
 use crate::ledger::Ledger;
-use crate::pair_measures::{Detection, PairMeasures};
-use crate::tally::Tally;
+use crate::pair_measures::PairMeasures;
 use judges::{Pair, end_tick};
 use process_api::{Entry, Pid};
 use scenario_record::Scenario;
@@ -32,19 +31,6 @@ pub(crate) fn crash_between(observer_end: u32, subject_end: u32, horizon: u32) -
 {
     let is_measured = subject_end < horizon && observer_end == horizon;
     if is_measured { Some(subject_end) } else { None }
-}
-
-/// How long a crash was undetected, if that is measured, with a tally at the horizon.
-fn detection(crash: Option<u32>, tally: &Tally) -> Detection
-    ensures { result ≡ detected crash (if tally.now.was then tally.now.started else None) }
-{
-    let Some(crash) = crash else {
-        return Detection::Na;
-    };
-    match tally.started {
-        Some(since) if tally.was => Detection::At(since.saturating_sub(crash)),
-        _ => Detection::NoTick,
-    }
 }
 
 impl Meter {
@@ -89,19 +75,6 @@ impl Meter {
             → result ≡ pair_measures S trace layer q p }
     {
         let tally = self.pair.close(self.horizon).tally();
-        PairMeasures {
-            layer: self.layer,
-            observer: self.observer,
-            subject: self.subject,
-            mistakes: tally.mistakes,
-            mistake_ticks: tally.mistake_ticks,
-            recurrence_sum: tally.recurrence.sum,
-            recurrence_count: tally.recurrence.count,
-            duration_sum: tally.duration.sum,
-            duration_count: tally.duration.count,
-            good_sum: tally.good.sum,
-            good_count: tally.good.count,
-            detection: detection(self.crash, &tally),
-        }
+        tally.measures(self.layer, self.observer, self.subject, self.crash)
     }
 }

@@ -1,7 +1,10 @@
-//! The counts of a meter so far.
-ghost use Rattle.std.specs.Prelude.{◌≡◌, ◌+◌, ◌<◌, ◌≤◌, ◌^◌};
+//! The counts of a pair so far, and the measures that they are at the horizon.
+ghost use Rattle.std.specs.Prelude.{◌≡◌, ◌+◌, ◌<◌, ◌≤◌, ◌^◌, if◌then◌else◌, None};
 ghost use Rattle.std.specs.Option.{ForSome};
-ghost use Rattle.reporting.specs.Tally.{HasRoom, InRange, begun, finished, grown, moved};
+ghost use Rattle.reporting.specs.Tally.{HasRoom, InRange, begun, detected, finished, grown, moved, told};
+
+use crate::pair_measures::{Detection, PairMeasures};
+use process_api::Pid;
 
 /// Some distances between ticks: their sum, and how many they are.
 #[derive(Clone, Copy)]
@@ -53,6 +56,19 @@ pub(crate) struct Tally {
     pub duration: Distances,
     /// From end to start.
     pub good: Distances,
+}
+
+/// How long a crash was undetected, if that is measured, with a tally at the horizon.
+fn detection(crash: Option<u32>, tally: &Tally) -> Detection
+    ensures { result ≡ detected crash (if tally.now.was then tally.now.started else None) }
+{
+    let Some(crash) = crash else {
+        return Detection::Na;
+    };
+    match tally.started {
+        Some(since) if tally.was => Detection::At(since.saturating_sub(crash)),
+        _ => Detection::NoTick,
+    }
 }
 
 impl Tally {
@@ -114,6 +130,33 @@ impl Tally {
             self.mistake_ticks += more;
             self.was = suspected;
             self.tick = until;
+        }
+    }
+
+    /// What it tells at the horizon of an observer and a subject on a layer. The subject's crash is given if its
+    /// detection is measured.
+    pub fn measures(
+        &self,
+        layer: u8,
+        observer: Pid,
+        subject: Pid,
+        crash: Option<u32>,
+    ) -> PairMeasures
+        ensures { result ≡ told layer observer subject crash self.now }
+    {
+        PairMeasures {
+            layer,
+            observer,
+            subject,
+            mistakes: self.mistakes,
+            mistake_ticks: self.mistake_ticks,
+            recurrence_sum: self.recurrence.sum,
+            recurrence_count: self.recurrence.count,
+            duration_sum: self.duration.sum,
+            duration_count: self.duration.count,
+            good_sum: self.good.sum,
+            good_count: self.good.count,
+            detection: detection(crash, self),
         }
     }
 }
