@@ -78,7 +78,7 @@ pair_values m =
     ∷ (codes "good_sum", decimal m.good_sum) ∷ (codes "good_count", decimal m.good_count)
     ∷ (codes "detection", detection_text m.detection) ∷ []
 
-abbrev pub pair_text : PairMeasures → Text
+unfoldable pub pair_text : PairMeasures → Text
 pair_text m = report_rows (codes "pair") m.layer m.observer m.subject (pair_values m)
 
 -- what a process decided
