@@ -130,7 +130,7 @@ impl Gate for Holding {
     }
 }
 
-/// How a run is started.
+/// How a run is started: by the list, or by windows for its trace or for its texts.
 #[derive(Clone, Copy)]
 enum Start {
     Listed,
@@ -138,65 +138,36 @@ enum Start {
     Texts,
 }
 
-/// The text of the trace that a run of these machines answers.
-fn text_of_trace<R: Abort + Threads + Wait + Sync>(
+/// The trace's text of a run of these machines.
+fn text_by<R: Abort + Threads + Wait + Sync>(
     rt: &R,
     alloc: Global,
     scenario: &Scenario,
     machines: Vec<Box<dyn Process>>,
-    plan: &Plan,
-    gate: &Holding,
+    (plan, gate): (&Plan, &Holding),
+    start: Start,
 ) -> MemoryOutlet
     requires machines { map mind machines.items ≡ map (opening_mind scenario.now) (numbers_to scenario.now.processes) }
     requires plan { IsPlanFor scenario.now plan.now }
 {
-    let trace = run_windows(rt, alloc, scenario, machines, plan, gate);
     let mut outlet = MemoryOutlet::new(alloc);
-    let written = write_trace(alloc, &trace.expect(rt, NO_RUN), &mut outlet);
-    written.expect(rt, NO_RUN);
-    outlet
-}
-
-/// The text that a run of these machines writes.
-fn text_written<R: Abort + Threads + Wait + Sync>(
-    rt: &R,
-    alloc: Global,
-    scenario: &Scenario,
-    machines: Vec<Box<dyn Process>>,
-    plan: &Plan,
-    gate: &Holding,
-) -> MemoryOutlet
-    requires machines { map mind machines.items ≡ map (opening_mind scenario.now) (numbers_to scenario.now.processes) }
-    requires plan { IsPlanFor scenario.now plan.now }
-{
     let print = PrintChoice::Trace;
-    let mut outlet = MemoryOutlet::new(alloc);
-    let ran = bench_windows(
-        rt,
-        alloc,
-        scenario,
-        machines,
-        plan,
-        gate,
-        print,
-        &mut outlet,
-    );
-    ran.expect(rt, NO_RUN);
-    outlet
-}
-
-/// The text that a run of these machines by the list writes.
-fn text_listed<R: Abort>(
-    rt: &R,
-    alloc: Global,
-    scenario: &Scenario,
-    machines: Vec<Box<dyn Process>>,
-) -> MemoryOutlet
-    requires { map mind machines.items ≡ map (opening_mind scenario.now) (numbers_to scenario.now.processes) }
-{
-    let mut outlet = MemoryOutlet::new(alloc);
-    let ran = bench_list(alloc, scenario, machines, PrintChoice::Trace, &mut outlet);
-    ran.expect(rt, NO_RUN);
+    match start {
+        Start::Listed => {
+            let ran = bench_list(alloc, scenario, machines, print, &mut outlet);
+            ran.expect(rt, NO_RUN);
+        }
+        Start::Trace => {
+            let trace = run_windows(rt, alloc, scenario, machines, plan, gate);
+            let written = write_trace(alloc, &trace.expect(rt, NO_RUN), &mut outlet);
+            written.expect(rt, NO_RUN);
+        }
+        Start::Texts => {
+            let out = &mut outlet;
+            let ran = bench_windows(rt, alloc, scenario, machines, plan, gate, print, out);
+            ran.expect(rt, NO_RUN);
+        }
+    }
     outlet
 }
 
@@ -237,11 +208,7 @@ fn text_of<R: Abort + Threads + Wait + Sync>(
 ) -> MemoryOutlet {
     let plan = Plan::new(scenario, 2, 2).expect(rt, NO_RUN);
     let machines = counted_machines(alloc, scenario, gate).expect(rt, NO_MEMORY);
-    match start {
-        Start::Listed => text_listed(rt, alloc, scenario, machines),
-        Start::Trace => text_of_trace(rt, alloc, scenario, machines, &plan, gate),
-        Start::Texts => text_written(rt, alloc, scenario, machines, &plan, gate),
-    }
+    text_by(rt, alloc, scenario, machines, (&plan, gate), start)
 }
 
 /// Where the crash is at the horizon, each of the ten calls finds its process as it was before the window, and five of

@@ -88,22 +88,10 @@ lookahead = 2
 seed = 1
 algorithm = \"s\"
 proposals = [10, 20, 30]
-
-[detector]
-period = 4
-check = 3
-timeout = 5
-
-[share]
-period = 4
-
-[link]
-min = 2
-max = 4
-
-[[crash]]
-process = 2
-at = 3
+detector = { period = 4, check = 3, timeout = 5 }
+share = { period = 4 }
+link = { min = 2, max = 4 }
+crash = [{ process = 2, at = 3 }]
 ";
 
 /// Twelve points of five seeds each, with both algorithms.

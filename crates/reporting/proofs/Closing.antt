@@ -21,7 +21,7 @@ use Rattle.judges.specs.Out.{suspects}
 use Rattle.judges.specs.Pairs.{ArePairs, fed}
 use Rattle.judges.specs.declared.pairs.Pairs.{Pairs}
 use Rattle.judges.proofs.Standing.{IsKnown, fed_known}
-use Rattle.reporting.specs.Panel.{pair, metered, closed_row, closed_rows}
+use Rattle.reporting.specs.LayerPairs.{pair, metered, closed_row, closed_rows}
 use Rattle.reporting.proofs.Passes.{Knows, tallies_keep, none_known, told_is}
 use Rattle.reporting.proofs.EachProcess.{others_same, rows_same}
 

@@ -331,7 +331,7 @@ lengths_closed S layer q p trace order =
     ∙ known.knows.lengths
     ∙ ap (distances (starts f) (ends f)) to_end
 
--- ---- the lengths of all pairs of a layer, as they are brought up to the panel's tallies
+-- ---- the lengths of all pairs of a layer, as they are brought up to the tallies
 
 -- ---- place by place
 

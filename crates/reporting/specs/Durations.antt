@@ -1,4 +1,4 @@
--- How long mistakes were, pair by pair, as a panel counts them.
+-- How long mistakes were, pair by pair, as all pairs of a layer are counted.
 use Rattle.std.specs.Prelude.{◌≡◌, ℕ, suc, ◌+◌, ◌-◌, ◌*◌, ◌<◌, ◌&&◌, Bool, if◌then◌else◌, nat_le, nat_lt, Option, None, Some, List, [], ◌∷◌, ◌++◌, length, map, get_or}
 use Rattle.std.specs.Global.{Vec}
 use Rattle.process_api.specs.EntryRecord.{EntryRecord}

@@ -3,7 +3,7 @@ pub mod Measures
 pub mod Tally
 pub mod Meter
 pub mod MeterFed
-pub mod Panel
+pub mod LayerPairs
 pub mod Durations
 pub mod Outlet
 pub mod Writing

@@ -9,7 +9,7 @@ use Rattle.judges.specs.Judging.{HasFollowed, IsDeciding}
 use Rattle.judges.specs.declared.outcomes.RunningOutcomes.{RunningOutcomes}
 use Rattle.process_api.specs.declared.print_choice.PrintChoice.{PrintChoice}
 use Rattle.reporting.specs.Durations.{AreFollowing}
-use Rattle.reporting.specs.Panel.{IsMetering}
+use Rattle.reporting.specs.LayerPairs.{IsMetering}
 use Rattle.reporting.specs.Printed.{printed, prints_report, prints_trace}
 use Rattle.reporting.specs.ReportText.{Text, report_text}
 use Rattle.reporting.specs.Summary.{IsSummary}

@@ -4,8 +4,8 @@ ghost use Rattle.process_api.specs.EntryRecord.{EntryRecord};
 ghost use Rattle.scenario_record.specs.Record.{Record};
 ghost use Rattle.reporting.specs.Durations.{AreCaught, caught, lists_in, ticks_between};
 
-use crate::ledger::Ledger;
-use crate::panel::{places, tally_at};
+use crate::layer_pairs::{places, tally_at};
+use crate::pair_tally::PairTally;
 use crate::tally::Tally;
 use judges::Pairs;
 use process_api::{Entry, Pid};
@@ -31,23 +31,23 @@ fn catch(lengths: &mut Vec<u32>, tally: &Tally) -> Result<(), AllocError>
     Ok(())
 }
 
-/// Brings the lengths of the pairs at these places up to the panel's tallies; once no entry follows, these are closed.
+/// Brings the lengths of the pairs at these places up to the tallies; once no entry follows, these are closed.
 #[inline(never)]
 fn catch_up(
     pairs: &mut [Vec<u32>],
-    panel: &Pairs<Ledger>,
+    counts: &Pairs<PairTally>,
     from: usize,
     end: usize,
     closed: bool,
 ) -> Result<(), AllocError>
     requires order { from ≤ end }
     requires places { end ≤ length pairs.old }
-    requires pairs { end ≤ panel.now.processes * panel.now.processes }
+    requires pairs { end ≤ counts.now.processes * counts.now.processes }
     ensures { OnOk result
-        (AreCaught panel.now closed from end (lists_in pairs.old) (lists_in pairs.new)) }
+        (AreCaught counts.now closed from end (lists_in pairs.old) (lists_in pairs.new)) }
 {
     for place in from..end {
-        catch(&mut pairs[place], &tally_at(panel, place, closed))?;
+        catch(&mut pairs[place], &tally_at(counts, place, closed))?;
     }
     Ok(())
 }
@@ -65,7 +65,7 @@ impl Durations {
     ghost use Rattle.reporting.specs.Durations.{AreFollowing, lengths_of};
     ghost use Rattle.reporting.specs.Inside.Layers.{AreClosed, FollowOn};
 
-    /// Of so many processes, whose panel was fed with nothing.
+    /// Of so many processes, whose counts were fed with nothing.
     pub(crate) fn open(alloc: Global, processes: u16) -> Result<Durations, AllocError>
         ensures { IfOk result (λ d. (S : Record) (layer : ℕ) → processes ≡ S.processes → AreFollowing S layer [] d) }
     {
@@ -77,27 +77,31 @@ impl Durations {
         Ok(Durations { processes, pairs })
     }
 
-    /// The panel was fed with one more entry.
+    /// The counts were fed with one more entry.
     #[inline(always)]
-    pub(crate) fn follow(&mut self, panel: &Pairs<Ledger>, entry: &Entry) -> Result<(), AllocError>
-        ensures { OnOk result (FollowOn panel.now entry.now self.old self.new) }
+    pub(crate) fn follow(
+        &mut self,
+        counts: &Pairs<PairTally>,
+        entry: &Entry,
+    ) -> Result<(), AllocError>
+        ensures { OnOk result (FollowOn counts.now entry.now self.old self.new) }
     {
         let processes = usize::from(self.processes);
         let first = (usize::from(entry.key.receiver.number()) - 1) * processes;
         let end = first + processes;
-        if end <= self.pairs.len().min(places(panel)) {
-            catch_up(&mut self.pairs, panel, first, end, false)?;
+        if end <= self.pairs.len().min(places(counts)) {
+            catch_up(&mut self.pairs, counts, first, end, false)?;
         }
         Ok(())
     }
 
     /// No entry follows.
-    pub(crate) fn close(&mut self, panel: &Pairs<Ledger>) -> Result<(), AllocError>
-        ensures { OnOk result (AreClosed panel.now self.old self.new) }
+    pub(crate) fn close(&mut self, counts: &Pairs<PairTally>) -> Result<(), AllocError>
+        ensures { OnOk result (AreClosed counts.now self.old self.new) }
     {
         let end = self.pairs.len();
-        if end <= places(panel) {
-            catch_up(&mut self.pairs, panel, 0, end, true)?;
+        if end <= places(counts) {
+            catch_up(&mut self.pairs, counts, 0, end, true)?;
         }
         Ok(())
     }

@@ -2,9 +2,9 @@
 ghost use Rattle.std.specs.Prelude.{◌≡◌, [], true, IfOk, OnOk};
 
 use crate::durations::Durations;
-use crate::ledger::Ledger;
+use crate::layer_pairs::close_rows;
 use crate::pair_measures::PairMeasures;
-use crate::panel::close_rows;
+use crate::pair_tally::PairTally;
 use judges::{Pairs, Verdicts, grid_verdicts};
 use process_api::{Entry, Follower};
 use scenario_record::Scenario;
@@ -21,7 +21,7 @@ fn listed_processes(scenario: &Scenario, listed: bool) -> u16
 /// how long each mistake was. All room for the first is made as it opens.
 #[derive(Drop)]
 pub struct Layer {
-    pub(crate) pairs: Pairs<Ledger>,
+    pub(crate) pairs: Pairs<PairTally>,
     // of no process where they aren't listed
     pub(crate) lengths: Durations,
 }
@@ -40,7 +40,7 @@ impl Layer {
         ensures { IfOk result (IsLayer listed scenario.now layer []) }
     {
         Ok(Layer {
-            pairs: Pairs::open(alloc, scenario, layer, Ledger::new())?,
+            pairs: Pairs::open(alloc, scenario, layer, PairTally::new())?,
             lengths: Durations::open(alloc, listed_processes(scenario, listed))?,
         })
     }

@@ -5,8 +5,8 @@ ghost use Rattle.scenario_record.specs.Record.{Record};
 ghost use Rattle.reporting.specs.Meter.{closed, crash_between, opened};
 ghost use Rattle.reporting.specs.MeterFed.{IsFed, WasFed};
 
-use crate::ledger::Ledger;
 use crate::pair_measures::PairMeasures;
+use crate::pair_tally::PairTally;
 use judges::{Pair, end_tick};
 use process_api::{Entry, Pid};
 use scenario_record::Scenario;
@@ -21,7 +21,7 @@ pub struct Meter {
     pub(crate) horizon: u32,
     /// The tick at which the subject crashed, if its detection is measured.
     pub(crate) crash: Option<u32>,
-    pub(crate) pair: Pair<Ledger>,
+    pub(crate) pair: Pair<PairTally>,
 }
 
 /// The subject's crash, where its detection is measured: the subject crashes below the horizon, and the observer
@@ -50,7 +50,7 @@ impl Meter {
             subject,
             horizon,
             crash: crash_between(observer_end, subject_end, horizon),
-            pair: Pair::open(observer_end.min(subject_end), Ledger::new()),
+            pair: Pair::open(observer_end.min(subject_end), PairTally::new()),
         }
     }
 

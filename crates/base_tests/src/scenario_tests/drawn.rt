@@ -76,66 +76,35 @@ fn behind_the_files_own(rt: HostRuntime) {
 /// An outage that fits two processes.
 const RIGHT: Row = (2, 1, 3, 5);
 
+const ONE: &str = "version = 1";
+
+const TWO: &str = "version = 2";
+
 /// What stands in the place of a part of the crash file, what is drawn, and what is answered.
 const ROWS: &[(&str, &str, &[Row], &str)] = &[
     // version 1 has no key for outages
-    ("version = 1", "version = 1", &[], "accepted"),
-    ("version = 1", "version = 1", &[RIGHT], "UnknownKey"),
-    ("version = 1", "version = 3", &[], "Version"),
-    ("version = 1", "version = 3", &[RIGHT], "UnknownKey"),
-    ("version = 1", "version = 2.0", &[RIGHT], "UnknownKey"),
+    (ONE, ONE, &[], "accepted"),
+    (ONE, ONE, &[RIGHT], "UnknownKey"),
+    (ONE, "version = 3", &[], "Version"),
+    (ONE, "version = 3", &[RIGHT], "UnknownKey"),
+    (ONE, "version = 2.0", &[RIGHT], "UnknownKey"),
     ("version = 1\n", "", &[RIGHT], "UnknownKey"),
     // two processes and ticks up to 10,000,000
-    ("version = 1", "version = 2", &[RIGHT], "accepted"),
-    (
-        "version = 1",
-        "version = 2",
-        &[(1, 2, 0, 10_000_000)],
-        "accepted",
-    ),
-    (
-        "version = 1",
-        "version = 2",
-        &[RIGHT, (3, 1, 0, 1)],
-        "OutageLine",
-    ),
-    (
-        "version = 1",
-        "version = 2",
-        &[(1, 3, 0, 1), RIGHT],
-        "OutageLine",
-    ),
-    (
-        "version = 1",
-        "version = 2",
-        &[(256, 255, 0, 1)],
-        "OutageLine",
-    ),
-    ("version = 1", "version = 2", &[(2, 2, 0, 1)], "OutageLine"),
-    ("version = 1", "version = 2", &[(2, 1, 4, 4)], "OutageLine"),
-    ("version = 1", "version = 2", &[(2, 1, 5, 4)], "OutageLine"),
-    (
-        "version = 1",
-        "version = 2",
-        &[(2, 1, 0, 10_000_001)],
-        "OutageLine",
-    ),
-    (
-        "version = 1",
-        "version = 2",
-        &[(2, 1, 10_000_001, 10_000_002)],
-        "OutageLine",
-    ),
+    (ONE, TWO, &[RIGHT], "accepted"),
+    (ONE, TWO, &[(1, 2, 0, 10_000_000)], "accepted"),
+    (ONE, TWO, &[RIGHT, (3, 1, 0, 1)], "OutageLine"),
+    (ONE, TWO, &[(1, 3, 0, 1), RIGHT], "OutageLine"),
+    (ONE, TWO, &[(256, 255, 0, 1)], "OutageLine"),
+    (ONE, TWO, &[(2, 2, 0, 1)], "OutageLine"),
+    (ONE, TWO, &[(2, 1, 4, 4)], "OutageLine"),
+    (ONE, TWO, &[(2, 1, 5, 4)], "OutageLine"),
+    (ONE, TWO, &[(2, 1, 0, 10_000_001)], "OutageLine"),
+    (ONE, TWO, &[(2, 1, 10_000_001, 10_000_002)], "OutageLine"),
     // other refusals come first
-    (
-        "version = 1",
-        "version = 2\nlead = 1",
-        &[(2, 2, 0, 1)],
-        "UnknownKey",
-    ),
+    (ONE, "version = 2\nlead = 1", &[(2, 2, 0, 1)], "UnknownKey"),
     (
         "version = 1\nprocesses = 2",
-        "version = 2",
+        TWO,
         &[(2, 2, 0, 1)],
         "MissingKey",
     ),

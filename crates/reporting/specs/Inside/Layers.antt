@@ -8,7 +8,7 @@ use Rattle.judges.specs.declared.verdicts.Verdicts.{Verdicts}
 use Rattle.reporting.specs.Durations.{AreDurations, AreFollowing}
 use Rattle.reporting.specs.Measured.{second_verdicts}
 use Rattle.reporting.specs.Measures.{layer_measures, second_measures}
-use Rattle.reporting.specs.Panel.{IsMetering}
+use Rattle.reporting.specs.LayerPairs.{IsMetering}
 use Rattle.reporting.specs.Running.{IsLayer, IsSecond}
 use Rattle.reporting.specs.declared.durations.Durations.{Durations}
 use Rattle.reporting.specs.declared.layer.Layer.{Layer}

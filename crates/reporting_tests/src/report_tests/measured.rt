@@ -28,18 +28,7 @@ const CRASH_AT_3: &str = "crash = [{ process = 2, at = 3 }]";
 const CRASH_AT_START: &str = "crash = [{ process = 2, at = 0 }]";
 
 /// What is noted at the horizon or later says nothing of the ticks before it.
-const AT_THE_HORIZON: &str = "0,1,1,0,start,1,0,
-0,2,2,0,start,1,0,
-2,1,2,1,alive,0,0,
-2,2,1,1,alive,0,0,
-3,1,1,2,check,0,0,
-3,2,2,2,dead,0,0,
-4,1,1,1,beat,1,0,
-4,2,2,1,dead,0,0,
-6,1,1,3,check,0,0,
-6,2,1,2,dead,0,0,
-8,1,1,4,beat,1,0,
-9,1,1,5,check,0,0,suspect:1:2
+const AT_THE_HORIZON: &str = "9,1,1,5,check,0,0,suspect:1:2
 10,1,1,6,check,0,0,trust:1:2
 11,1,1,7,check,0,0,suspect:1:2
 11,2,2,3,check,0,0,suspect:1:1

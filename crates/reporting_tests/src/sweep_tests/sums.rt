@@ -121,16 +121,9 @@ lookahead = 2
 seed = 1
 algorithm = \"es\"
 proposals = [7, 7, 8]
-[detector]
-period = 4
-check = 3
-timeout = 5
-[link]
-min = 2
-max = 2
-[[crash]]
-process = 3
-at = 3
+detector = { period = 4, check = 3, timeout = 5 }
+link = { min = 2, max = 2 }
+crash = [{ process = 3, at = 3 }]
 ";
 
 /// Three runs of them. In the first all decide 7, the one that crashes at tick 2. In the second one correct process
@@ -178,17 +171,9 @@ horizon = 10
 lookahead = 2
 seed = 1
 algorithm = \"none\"
-[detector]
-period = 4
-check = 3
-timeout = 5
-watch = \"next\"
-[link]
-min = 2
-max = 2
-[[crash]]
-process = 2
-at = 3
+detector = { period = 4, check = 3, timeout = 5, watch = \"next\" }
+link = { min = 2, max = 2 }
+crash = [{ process = 2, at = 3 }]
 ";
 
 /// What is found of a run of them: a mistake of 2 ticks about process 3 by process 2, which watches it, and five by

@@ -19,14 +19,8 @@ horizon = 103
 lookahead = 2
 seed = 1
 algorithm = \"none\"
-[detector]
-period = 101
-check = 101
-timeout = 101
-grow = 1
-[link]
-min = 2
-max = 2
+detector = { period = 101, check = 101, timeout = 101, grow = 1 }
+link = { min = 2, max = 2 }
 ";
 
 const PROCESSES: u16 = 70;

@@ -9,7 +9,7 @@ pub returns-in_ok-catch_up : goal.returns-in_ok-catch_up
 returns-in_ok-catch_up c = λ S layer trace h metering.
     let d = c.args.self.now in
     let e = c.args.entry.now in
-    let pairs = c.args.panel.now in
+    let pairs = c.args.counts.now in
     let receiver : c.number.result ≡ e.key.receiver = c.number.ensures.value ∙ ap (λ (x : EntryRecord). x.key.receiver) c.entry.view_is in
     let number : c.from.result ≡ e.key.receiver = c.from.ensures ∙ receiver in
     let new = c.catch_up.new.pairs in
@@ -23,7 +23,7 @@ pub returns-else-end-min : goal.returns-else-end-min
 returns-else-end-min c = λ S layer trace h metering.
     let d = c.args.self.now in
     let e = c.args.entry.now in
-    let pairs = c.args.panel.now in
+    let pairs = c.args.counts.now in
     let receiver : c.number.result ≡ e.key.receiver = c.number.ensures.value ∙ ap (λ (x : EntryRecord). x.key.receiver) c.entry.view_is in
     let number : c.from.result ≡ e.key.receiver = c.from.ensures ∙ receiver in
     let first : (c.from.result - 1) * c.from-processes.result ≡ (e.key.receiver - 1) * d.processes = (λ i. (number i - 1) * c.from-processes.ensures i) in

@@ -1,8 +1,8 @@
 use Rattle.std.proofs.Common.{◌≡◌, ◌-◌, suc, ◌++◌, map}
 use Rattle.process_api.specs.Numbers.{others}
 use Rattle.reporting.specs.Meter.{closed}
-use Rattle.reporting.specs.Panel.{metered}
-use Rattle.reporting.proofs.panel.close_row.Given as goal
+use Rattle.reporting.specs.LayerPairs.{metered}
+use Rattle.reporting.proofs.layer_pairs.close_row.Given as goal
 
 abbrev pub invariant-loop-column : goal.invariant-loop-column
 invariant-loop-column l = l.rows.items ≡ l.fn.rows.items ++ map (λ p. closed (metered l.pairs l.row (p - 1))) (others l.column (suc l.row))

@@ -1,9 +1,9 @@
 use Rattle.std.proofs.Common.{◌≡◌, ◌≢◌, ◌+◌, ◌-◌, suc, sym, ap, ◌∙◌, arith}
 use Rattle.reporting.specs.Meter.{closed}
-use Rattle.reporting.specs.Panel.{metered}
+use Rattle.reporting.specs.LayerPairs.{metered}
 use Rattle.reporting.proofs.EachProcess.{pushed_other, skipped_own}
-use Rattle.reporting.proofs.panel.close_row.Goals.{then-column-row+in_ok-push, else-column-row}
-use Rattle.reporting.proofs.panel.close_row.Goals as goal
+use Rattle.reporting.proofs.layer_pairs.close_row.Goals.{then-column-row+in_ok-push, else-column-row}
+use Rattle.reporting.proofs.layer_pairs.close_row.Goals as goal
 
 pub loop-column-preserved : goal.loop-column-preserved
 loop-column-preserved c =

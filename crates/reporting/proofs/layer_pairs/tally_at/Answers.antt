@@ -3,7 +3,7 @@ use Rattle.std.proofs.Math.Nat.{mod-add-div'}
 use Rattle.judges.specs.Pair.{opened, kept_at}
 use Rattle.reporting.specs.Durations.{pair_at, tally_at}
 use Rattle.reporting.specs.Tally.{counted, new_tally}
-use Rattle.reporting.proofs.panel.tally_at.Goals as goal
+use Rattle.reporting.proofs.layer_pairs.tally_at.Goals as goal
 
 pub returns-then-closed : goal.returns-then-closed
 returns-then-closed c =

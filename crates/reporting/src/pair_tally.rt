@@ -8,11 +8,11 @@ use std::marker::Model;
 
 /// What is counted of a pair; contracts see its tally.
 #[derive(Clone, Copy)]
-pub(crate) struct Ledger {
+pub(crate) struct PairTally {
     tally: Tally,
 }
 
-impl Model for Ledger {
+impl Model for PairTally {
     ghost use Rattle.reporting.specs.Tally.{InRange};
     ghost use Rattle.reporting.specs.declared.tally.Tally.{Tally};
 
@@ -25,12 +25,12 @@ impl Model for Ledger {
     ghost inverse = { λ t. record { tally = t } };
 }
 
-impl Ledger {
+impl PairTally {
     /// Nothing is counted.
-    pub fn new() -> Ledger
+    pub fn new() -> PairTally
         ensures { result ≡ new_tally }
     {
-        Ledger { tally: Tally::NEW }
+        PairTally { tally: Tally::NEW }
     }
 
     pub fn tally(&self) -> Tally
@@ -40,7 +40,7 @@ impl Ledger {
     }
 }
 
-impl Gauge for Ledger {
+impl Gauge for PairTally {
     ghost passed = { counted };
 
     ghost seen = { tracked };

@@ -2,17 +2,17 @@
 ghost use Rattle.std.specs.Prelude.{◌≡◌, ◌*◌, ◌++◌, ◌<◌, OnOk};
 ghost use Rattle.reporting.specs.Durations.{tally_at};
 ghost use Rattle.reporting.specs.Inside.Layers.{JoinMeasures};
-ghost use Rattle.reporting.specs.Panel.{closed_row, metered};
+ghost use Rattle.reporting.specs.LayerPairs.{closed_row, metered};
 
-use crate::ledger::Ledger;
 use crate::meter::{Meter, crash_between};
 use crate::pair_measures::PairMeasures;
+use crate::pair_tally::PairTally;
 use crate::tally::Tally;
 use judges::Pairs;
 use std::alloc::AllocError;
 
 /// The meter of an observer and a subject, each by how many processes come before it.
-fn meter_at(pairs: &Pairs<Ledger>, row: usize, column: usize) -> Meter
+fn meter_at(pairs: &Pairs<PairTally>, row: usize, column: usize) -> Meter
     requires row { row < pairs.now.processes }
     requires column { column < pairs.now.processes }
     ensures { result ≡ metered pairs.now row column }
@@ -32,7 +32,7 @@ fn meter_at(pairs: &Pairs<Ledger>, row: usize, column: usize) -> Meter
 
 /// Adds the measures of one observer, by how many processes come before it.
 fn close_row(
-    pairs: &Pairs<Ledger>,
+    pairs: &Pairs<PairTally>,
     row: usize,
     rows: &mut Vec<PairMeasures>,
 ) -> Result<(), AllocError>
@@ -48,14 +48,14 @@ fn close_row(
 }
 
 /// How many pairs there are, by observer and then by subject, a process and itself too.
-pub(crate) fn places(pairs: &Pairs<Ledger>) -> usize
+pub(crate) fn places(pairs: &Pairs<PairTally>) -> usize
     ensures { result ≡ pairs.now.processes * pairs.now.processes }
 {
     pairs.processes() * pairs.processes()
 }
 
 /// What is counted of the pair at a place: so far, or as no entry follows.
-pub(crate) fn tally_at(pairs: &Pairs<Ledger>, place: usize, closed: bool) -> Tally
+pub(crate) fn tally_at(pairs: &Pairs<PairTally>, place: usize, closed: bool) -> Tally
     requires { place < pairs.now.processes * pairs.now.processes }
     ensures { result ≡ tally_at pairs.now closed place }
 {
@@ -69,7 +69,7 @@ pub(crate) fn tally_at(pairs: &Pairs<Ledger>, place: usize, closed: bool) -> Tal
 
 /// Adds the measures of each observer and each other subject, as no entry follows.
 pub(crate) fn close_rows(
-    pairs: &Pairs<Ledger>,
+    pairs: &Pairs<PairTally>,
     rows: &mut Vec<PairMeasures>,
 ) -> Result<(), AllocError>
     ensures { OnOk result (JoinMeasures pairs.now rows.old.items rows.new.items) }

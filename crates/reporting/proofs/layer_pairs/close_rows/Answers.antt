@@ -1,7 +1,7 @@
 use Rattle.std.proofs.Common.{◌≡◌, ap, ◌∙◌, ◌++◌, arith}
-use Rattle.reporting.specs.Panel.{closed_rows}
+use Rattle.reporting.specs.LayerPairs.{closed_rows}
 use Rattle.reporting.proofs.Closing.{metering_closed}
-use Rattle.reporting.proofs.panel.close_rows.Goals as goal
+use Rattle.reporting.proofs.layer_pairs.close_rows.Goals as goal
 
 pub returns : goal.returns
 returns c = λ S layer trace h.
