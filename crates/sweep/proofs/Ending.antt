@@ -1,8 +1,9 @@
 -- How a sweep ends: what went out, and which run was refused.
 use Rattle.sweep.proofs.Words.{◌≡◌, ℕ, ◌+◌, ◌-◌, ◌*◌, ◌/◌, ◌%◌, ◌<◌, ◌≤◌, ⊎_elim, inl, inr, List, [], ◌++◌, length, take, Option, refl, sym, ap, ◌∙◌, subst, arith, append-nil, Contains, range_with_len, slice_index_or, lt_of_mul-lt-mul_right, mul-le-mul_right, length-range_with_len, get_or-range_with_len, div-add-mod', mod_below, SourcesRecord, Wrote, WrotePart, wrote_both, wrote_then_part, GridRecord, runs, ShardRecord, LayoutRecord, unit_count, IsReadyAt, IsFirstRefusal, WroteUpTo, StopsBelow, HeaderFails, Text, header_of, numbers_of, units_in, units_of, HasRowsOf, IsTextOf, Group, SweepError}
-use Rattle.sweep.specs.Outcome.{IsBefore, IsReady, CantRun, IsFirstUnready, AreReady, CantBeRun, WroteStudy, BreaksOff}
+use Rattle.sweep.specs.Outcome.{IsBefore, IsReady, CantRun, IsFirstUnready, AreReady, CantBeRun, WroteStudy, BreaksOff, RefusesRun}
 use Rattle.sweep.specs.declared.error.SweepError.TheVariants as error
 use Rattle.sweep.proofs.Numbered.{point_is, run_is, number_below}
+use Rattle.sweep.specs.Inside.Progress.{StopsInPoints}
 use Rattle.sweep.proofs.Zipped.{range_taken}
 use Rattle.sweep.proofs.Units.{unit_range, unit_count-sub}
 
@@ -27,6 +28,20 @@ module _ (sources : SourcesRecord) (g : GridRecord) (shard : ShardRecord) (layou
         is_text = record { rows = []; has = record { parts = []; each = tt; text_is = refl }; text_is = refl };
         wrote = subst P (sym (append-nil (header_of g shard layout))) fails;
       }
+
+-- once all runs are read none is refused
+module _ (g : GridRecord) (layout : LayoutRecord) {O : Type 0} (told : O → Option Text) (failed : O → ℕ) (old new : O) where
+  pub header_refuses_none : (shard : ShardRecord) (e : SweepError) → HeaderFails g shard layout told failed old new e → RefusesRun e → ⊥
+  header_refuses_none shard (error.Refused point run reason) fails is = fails
+  header_refuses_none shard (error.NoSuchProcess point run group processes) fails is = fails
+  header_refuses_none shard error.Memory fails is = is
+  header_refuses_none shard error.Write fails is = is
+
+  pub points_refuse_none : (sources : SourcesRecord) (begin end : ℕ) (e : SweepError) → StopsInPoints g layout told failed old new sources begin end e → RefusesRun e → ⊥
+  points_refuse_none sources begin end (error.Refused point run reason) stops is = stops
+  points_refuse_none sources begin end (error.NoSuchProcess point run group processes) stops is = stops
+  points_refuse_none sources begin end error.Memory stops is = is
+  points_refuse_none sources begin end error.Write stops is = is
 
 module _ (sources : SourcesRecord) (g : GridRecord) (shard : ShardRecord) (begin end : ℕ)
     (is : numbers_of g shard ≡ range_with_len begin (end - begin)) where

@@ -20,6 +20,13 @@ use Rattle.sweep.specs.declared.group.Group.{Group}
 abbrev pub IsBefore : (p r point run : ℕ) → Type 0
 IsBefore p r point run = (p < point) ⊎ ((p ≡ point) × (r < run))
 
+-- it says that a run can't be run
+abbrev pub RefusesRun : SweepError → Type 0
+RefusesRun (error.Refused point run reason) = Unit {0}
+RefusesRun (error.NoSuchProcess point run group processes) = Unit {0}
+RefusesRun error.Memory = ⊥
+RefusesRun error.Write = ⊥
+
 module _ (sources : SourcesRecord) (g : GridRecord) where
   -- the run of a point has no scenario, for this reason
   pub record IsRefused (point run : ℕ) (reason : ReadError) : Type 0 where

@@ -1,12 +1,13 @@
 //! Sweeps: all runs of a study's points, and the rows that tell of them.
-ghost use Rattle.std.specs.Prelude.{◌≡◌, ◌^◌, ◌-◌, ◌*◌, ◌<◌, ◌≤◌, false, length, OnOk, IfErr};
+ghost use Rattle.std.specs.Prelude.{◌≡◌, ◌^◌, ◌-◌, ◌*◌, ◌<◌, ◌≤◌, false, length, [], OnOk, IfErr};
 ghost use Rattle.study.specs.Sources.{sources_of};
 ghost use Rattle.study.specs.Grid.{points, runs};
-ghost use Rattle.sweep.specs.Outcome.{WroteStudy, BreaksOff};
+ghost use Rattle.sweep.specs.Outcome.{WroteStudy, BreaksOff, RefusesRun};
 ghost use Rattle.sweep.specs.Inside.Progress.{WrotePoints, StopsInPoints};
 ghost use Rattle.sweep.specs.Inside.Limits.{numbers_in};
 ghost use Rattle.sweep.specs.StudyText.{numbers_of};
 ghost use Rattle.sweep.specs.Watching.{HeardLimits, HeardSomeLimits};
+ghost use Rattle.trace_laws.specs.Joins.{HaveJoined};
 
 use crate::batches::Batches;
 use crate::checking::check_study;
@@ -99,6 +100,7 @@ pub fn run_study<R: Threads + Sync + Clock, O: Outlet, W: Watcher>(
         (WroteStudy (sources_of sources.now) grid.now shard layout.now O.told O.failed outlet.old outlet.new) }
     ensures breaks_off { IfErr result
         (BreaksOff (sources_of sources.now) grid.now shard layout.now O.told O.failed outlet.old outlet.new) }
+    ensures errors { IfErr result (λ e. RefusesRun e → ⊥) }
     ensures heard { OnOk result (HeardLimits W.heard watcher.old watcher.new (sources_of sources.now) grid.now
         (numbers_of grid.now shard)) }
     ensures heard_some { IfErr result (λ _. HeardSomeLimits W.heard watcher.old watcher.new (sources_of sources.now)
@@ -130,8 +132,9 @@ pub fn run_study<R: Threads + Sync + Clock, O: Outlet, W: Watcher>(
 /// # Errors
 ///
 /// `Refused` or `NoSuchProcess` where a run of the shard has no scenario, or not all processes that a group names, for
-/// the first such run; then nothing went out. `Memory` where memory was refused: then nothing went out, or the header
-/// and the first points' or runs' rows. `Write` where a put failed: then a front part of these.
+/// the first such run; then nothing went out, and the watcher heard of no limit. `Memory` where memory was refused: then
+/// nothing went out, or the header and the first points' or runs' rows. `Write` where a put failed: then a front part of
+/// these.
 pub fn sweep<R: Threads + Sync + Clock, O: Outlet, W: Watcher>(
     rt: &R,
     alloc: Global,
@@ -152,6 +155,7 @@ pub fn sweep<R: Threads + Sync + Clock, O: Outlet, W: Watcher>(
         (numbers_of grid.now shard)) }
     ensures heard_some { IfErr result (λ _. HeardSomeLimits W.heard watcher.old watcher.new (sources_of sources.now)
         grid.now (numbers_of grid.now shard)) }
+    ensures unheard { IfErr result (λ e. RefusesRun e → HaveJoined W.heard watcher.old watcher.new []) }
     ensures hidden { W.shows watcher.new ≡ false }
 {
     check_study(rt, alloc, sources, grid, shard, layout, threads, watcher)?;

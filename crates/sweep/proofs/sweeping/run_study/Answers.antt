@@ -2,7 +2,7 @@ use Rattle.sweep.proofs.Words.{rules, take, IfOk-weaker, MatchResult-weaker, non
 use Rattle.sweep.specs.Inside.Limits.{numbers_in}
 use Rattle.sweep.proofs.Reading.{if_err, if_any_err}
 use Rattle.sweep.proofs.Heard.{heard_none, heard_same}
-use Rattle.sweep.proofs.Ending.{breaks_at_header, wrote_study, breaks_at_points}
+use Rattle.sweep.proofs.Ending.{breaks_at_header, wrote_study, breaks_at_points, header_refuses_none, points_refuse_none}
 use Rattle.sweep.proofs.sweeping.run_study.Goals as goal
 
 pub returns-in_err-write_header-clause-breaks_off :
@@ -11,6 +11,13 @@ returns-in_err-write_header-clause-breaks_off g c =
     if_err c.from_residual.result _ c.in_err-write_header.field-0.0 (search rules)
     (breaks_at_header (sources_of c.args.sources.now) c.args.grid.now c.args.shard c.args.layout.now g.O.Outlet.told g.O.Outlet.failed c.args.outlet.now
     c.write_header.new.outlet c.in_err-write_header.field-0.0 c.in_err-write_header.ensures.part)
+
+pub returns-in_err-write_header-clause-errors :
+    goal.returns-in_err-write_header-clause-errors
+returns-in_err-write_header-clause-errors g c =
+    if_err c.from_residual.result _ c.in_err-write_header.field-0.0 (search rules)
+    (header_refuses_none c.args.grid.now c.args.layout.now g.O.Outlet.told g.O.Outlet.failed c.args.outlet.now c.write_header.new.outlet
+    c.args.shard c.in_err-write_header.field-0.0 c.in_err-write_header.ensures.part)
 
 pub returns-in_err-write_header-clause-heard_some :
     goal.returns-in_err-write_header-clause-heard_some
@@ -30,6 +37,12 @@ returns-clause-breaks_off g c =
     MatchResult-weaker c.write_points-answer.result c.write_points-answer.ensures.stops (λ u h. h)
     (λ e stops. breaks_at_points (sources_of c.args.sources.now) c.args.grid.now c.args.shard c.points_of-swept.result.0 c.points_of-swept.result.1 c.points_of-swept.ensures.numbers c.args.layout.now g.O.Outlet.told g.O.Outlet.failed c.args.outlet.now
     c.write_header.new.outlet c.write_points-answer.new.outlet c.in_ok-write_header.ensures.whole e stops)
+
+pub returns-clause-errors : goal.returns-clause-errors
+returns-clause-errors g c =
+    MatchResult-weaker c.write_points-answer.result c.write_points-answer.ensures.stops (λ u h. h)
+    (points_refuse_none c.args.grid.now c.args.layout.now g.O.Outlet.told g.O.Outlet.failed c.write_header.new.outlet c.write_points-answer.new.outlet
+    (sources_of c.args.sources.now) c.points_of-swept.result.0 c.points_of-swept.result.1)
 
 pub returns-clause-heard : goal.returns-clause-heard
 returns-clause-heard g c =

@@ -15,6 +15,14 @@ returns-in_err-check_study-clause-heard_some g c =
     if_any_err c.from_residual.result _ (heard_none g.W.Watcher.heard (sources_of c.args.sources.now) c.args.grid.now c.args.watcher.now c.check_study.new.watcher
     (numbers_of c.args.grid.now c.args.shard) c.in_err-check_study.ensures.heard)
 
+pub returns-in_err-check_study-clause-unheard : goal.returns-in_err-check_study-clause-unheard
+returns-in_err-check_study-clause-unheard g c =
+    if_err c.from_residual.result _ c.in_err-check_study.field-0.0 (search rules) (λ _. c.in_err-check_study.ensures.heard)
+
+pub returns-clause-unheard : goal.returns-clause-unheard
+returns-clause-unheard g c =
+    MatchResult-weaker c.run_study.result c.run_study.ensures.errors (λ u h. h) (λ e none is. absurd (none is))
+
 pub returns-clause-heard : goal.returns-clause-heard
 returns-clause-heard g c =
     IfOk-weaker c.run_study.result _ _
