@@ -3,8 +3,8 @@
 //!
 //! The crate `transcripts` compares what a run prints. Here is tested what no printed text shows: inputs and outlets
 //! that fail, files by their paths, calls of the library, threads that must overlap, plans and windows as a gate sees
-//! them, agreement with many seeds, bounds of detectors that are met exactly, sums over many reports, and the line of
-//! progress.
+//! them, agreement with many seeds, bounds of detectors that are met exactly, sums over many reports, the line of
+//! progress, and when a watcher is warned.
 #![tactic(auto)]
 
 #[cfg(test)]
@@ -37,3 +37,5 @@ mod reports;
 mod threads;
 #[cfg(test)]
 mod traces;
+#[cfg(test)]
+mod warnings;

@@ -125,9 +125,9 @@ pub fn run_study<R: Threads + Sync + Clock, O: Outlet, W: Watcher>(
 /// the runs: what is held is what a batch gives, of 256 runs for each thread at most, with the length of each mistake
 /// in them for each group, and the sums of a point.
 ///
-/// The watcher hears of how many of the shard's runs the scenarios are read, and then how many are run. It is told when
-/// rows are to go out, and before that of each point of whose runs some passed their limit. It takes away what it shows
-/// as the sweep ends.
+/// The watcher hears of how many of the shard's runs the scenarios are read, and then how many are run. It is told of
+/// each point of whose runs some passed their limit, and when rows are to go out. It takes away what it shows as the
+/// sweep ends.
 ///
 /// # Errors
 ///

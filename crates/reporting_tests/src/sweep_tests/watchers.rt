@@ -9,13 +9,15 @@ use std::time::Clock;
 use study::{Grid, Shard, Sources};
 use sweep::{Pass, Standing, SweepError, Watcher, sweep};
 
-/// Keeps the last that it heard, whether each was one more of the same sweep, how often it heard of runs that are in,
-/// and of how many runs it heard that they passed their limit, with the last point where that was so.
+/// Keeps the last that it heard, whether each was one more of the same sweep, how often it heard of runs that are in and
+/// was asked to make way, and of how many runs it heard that they passed their limit, with the last point where that was
+/// so.
 #[derive(Drop)]
 struct Keeper {
     last: Option<Standing>,
     all_rise: bool,
     times: u64,
+    ways: u64,
     limited: Option<(u64, u64)>,
     shows: bool,
 }
@@ -23,7 +25,9 @@ struct Keeper {
 /// Whether a sweep that stood there can stand here next: all is read before the first run.
 fn comes_after(last: &Standing, next: &Standing) -> bool {
     let rises = match (last.pass, next.pass) {
-        (Pass::Reading, Pass::Running) => next.done == 0,
+        (Pass::Reading, Pass::Running) => {
+            last.done == last.points.wrapping_mul(last.runs) && next.done == 0
+        }
         (Pass::Running, Pass::Reading) => false,
         _ => last.done < next.done,
     };
@@ -57,7 +61,9 @@ impl Watcher for Keeper {
         self.shows = false;
     }
 
-    fn make_way(&mut self) {}
+    fn make_way(&mut self) {
+        self.ways = self.ways.saturating_add(1);
+    }
 
     fn hide(&mut self) {
         self.shows = false;
@@ -70,22 +76,23 @@ impl Keeper {
             last: None,
             all_rise: true,
             times: 0,
+            ways: 0,
             limited: None,
             shows: false,
         }
     }
 }
 
-/// What a watcher of a shard's sweep heard, by two threads; nothing where the sweep breaks off.
+/// What a sweep of a shard by two threads answers, and what its watcher heard.
 fn heard_of<R: Threads + Sync + Clock>(
     rt: &R,
     alloc: Global,
     study: &Study,
     shard: Shard,
-) -> Option<Keeper> {
+) -> (Result<(), SweepError>, Keeper) {
     let mut outlet = MemoryOutlet::new(alloc);
     let mut keeper = Keeper::new();
-    match sweep(
+    let answer = sweep(
         rt,
         alloc,
         &study.sources,
@@ -95,10 +102,8 @@ fn heard_of<R: Threads + Sync + Clock>(
         2,
         &mut outlet,
         &mut keeper,
-    ) {
-        Ok(()) => Some(keeper),
-        Err(_) => None,
-    }
+    );
+    (answer, keeper)
 }
 
 /// Seven points with 160 runs each are 1,120 runs. The last of three shards has the points 4 to 6 of seven: of these
@@ -110,7 +115,8 @@ fn hears_of_all_runs(rt: HostRuntime) {
     let seven = seven_points(&rt, alloc);
     for (number, of, points, done, batches) in [(1, 1, 7, 1_120, 10), (3, 3, 3, 480, 8)] {
         let shard = shard(&rt, number, of);
-        let keeper = heard_of(&rt, alloc, &seven, shard).expect(&rt, "no sweep");
+        let (answer, keeper) = heard_of(&rt, alloc, &seven, shard);
+        assert!(rt; answer.is_ok());
         let last = Standing {
             pass: Pass::Running,
             points,
@@ -120,7 +126,7 @@ fn hears_of_all_runs(rt: HostRuntime) {
         same(&rt, &keeper.last, &Some(last));
         same(&rt, &keeper.limited, &None);
         assert!(rt; keeper.all_rise && !keeper.shows);
-        assert!(rt; keeper.times > batches);
+        assert!(rt; keeper.times > batches && keeper.ways.wrapping_add(1) == keeper.times);
     }
 }
 
@@ -130,17 +136,21 @@ fn hears_of_all_runs(rt: HostRuntime) {
 fn hears_of_limits(rt: HostRuntime) {
     let alloc = rt.alloc();
     let limits = study_of(&rt, alloc, "limit=15,11,12", "crash[1].at=3,5", 1);
-    let keeper = heard_of(&rt, alloc, &limits, Shard::whole()).expect(&rt, "no sweep");
+    let (answer, keeper) = heard_of(&rt, alloc, &limits, Shard::whole());
+    assert!(rt; answer.is_ok());
     same(&rt, &keeper.limited, &Some((2, 3)));
 }
 
-/// Of a study with a refused run nothing is heard of a run that was done. Where the third put fails, after the header
-/// and the first row, no more is heard, and nothing is shown any more.
+/// Where the second point is refused, nothing is heard of the first, of which each run would pass its limit. Where the
+/// third put fails, after the header and the first row, no more is heard, and nothing is shown any more.
 #[test]
 fn breaks_off(rt: HostRuntime) {
     let alloc = rt.alloc();
-    let links = study_of(&rt, alloc, "link.max=5,2,1", "link.min=2,3", 3);
-    assert!(rt; heard_of(&rt, alloc, &links, Shard::whole()).is_none());
+    let links = study_of(&rt, alloc, "limit=5\nlink.max=5,1", "", 3);
+    let (answer, keeper) = heard_of(&rt, alloc, &links, Shard::whole());
+    assert!(rt; matches!(answer, Err(SweepError::Refused { .. })));
+    same(&rt, &keeper.limited, &None);
+    assert!(rt; keeper.all_rise && !keeper.shows && keeper.times == 0);
     let seven = seven_points(&rt, alloc);
     let mut outlet = FuseOutlet::new(alloc, usize::MAX, 2);
     let mut keeper = Keeper::new();
