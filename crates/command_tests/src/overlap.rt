@@ -144,7 +144,8 @@ fn text_by<R: Abort + Threads + Wait + Sync>(
     alloc: Global,
     scenario: &Scenario,
     machines: Vec<Box<dyn Process>>,
-    (plan, gate): (&Plan, &Holding),
+    plan: &Plan,
+    gate: &Holding,
     start: Start,
 ) -> MemoryOutlet
     requires machines { map mind machines.items ≡ map (opening_mind scenario.now) (numbers_to scenario.now.processes) }
@@ -208,7 +209,7 @@ fn text_of<R: Abort + Threads + Wait + Sync>(
 ) -> MemoryOutlet {
     let plan = Plan::new(scenario, 2, 2).expect(rt, NO_RUN);
     let machines = counted_machines(alloc, scenario, gate).expect(rt, NO_MEMORY);
-    text_by(rt, alloc, scenario, machines, (&plan, gate), start)
+    text_by(rt, alloc, scenario, machines, &plan, gate, start)
 }
 
 /// Where the crash is at the horizon, each of the ten calls finds its process as it was before the window, and five of
