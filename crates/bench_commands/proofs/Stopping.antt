@@ -1,36 +1,26 @@
 -- What went out, and what stands where a run stops.
-use Rattle.std.proofs.Common.{◌≡◌, ◌≢◌, ◌⊎◌, ◌<◌, ap, subst, refl, inl, inr, ℕ, List, length, Option, arith}
+use Rattle.bench_commands.proofs.Words.{◌≡◌, ◌≢◌, ◌⊎◌, ◌<◌, ap, subst, refl, inl, inr, ℕ, List, length, Option, arith, has_trace, one_trace, setting_of, AsksHelp, Explains, States, IsListAnswer, IsRunFront, LeavesBy, WritesBy, path_of, end_of, status_of, IsHelp, IsReason, IsRunAsked, TellsOf, StopsBefore, StopsBy, StopsFor, StopsWindows, Different, Plan, Run, printed, prints_trace, Record}
 use Rattle.std.specs.Prelude.{IsTrue}
-use Rattle.trace_laws.proofs.Closed.{has_trace, one_trace}
-use Rattle.trace_laws.specs.ScenarioSetting.{setting_of}
 use Rattle.trace_laws.specs.Setting.{IsSound}
 use Rattle.trace_laws.specs.World.{IsTrace}
 use Rattle.process_api.specs.declared.run_error.RunError.{RunError}
 use Rattle.process_api.specs.declared.run_error.RunError.TheVariants as run
-use Rattle.command_line.specs.Order.{AsksHelp, Explains, States}
 use Rattle.command_line.specs.declared.order.Order.{Order}
 use Rattle.command_line.specs.declared.order.Order.TheVariants as order
 use Rattle.command_line.specs.declared.order.WordsError.{WordsError}
 use Rattle.command_line.specs.declared.order.WordsError.TheVariants as refusal
-use Rattle.bench_commands.specs.Answer.{IsListAnswer, IsRunFront, LeavesBy, WritesBy, path_of}
-use Rattle.bench_commands.specs.Fault.{end_of, status_of}
 use Rattle.bench_commands.specs.Scenario.{IsTooLong}
 use Rattle.bench_commands.specs.Mode.{RefusesBy}
-use Rattle.bench_commands.specs.Serve.{IsHelp, IsReason, IsRunAsked, TellsOf}
-use Rattle.bench_commands.specs.Why.{StopsBefore, StopsBy, StopsFor, StopsWindows}
 use Rattle.bench_commands.specs.declared.bench.Mode.{Mode}
 use Rattle.bench_commands.specs.declared.bench.Mode.TheVariants as mode
 use Rattle.bench_commands.specs.declared.fault.Fault.{Fault}
-use Rattle.bench_commands.specs.declared.fault.Fault.TheVariants.{Different, Plan, Run}
 use Rattle.process_api.specs.declared.print_choice.PrintChoice.{PrintChoice}
-use Rattle.reporting.specs.Printed.{printed, prints_trace}
 use Rattle.runs.specs.Finishing.{Finishes, WroteRows}
 use Rattle.reporting.specs.TraceText.{trace_text}
 use Rattle.reporting.specs.declared.summary.Summary.{Summary}
 use Rattle.qos_report.proofs.Breaking.{breaks_at_opening}
 use Rattle.reporting.specs.Writing.{WroteNothing}
 use Rattle.process_api.specs.EntryRecord.{EntryRecord}
-use Rattle.scenario_record.specs.Record.{Record}
 use Rattle.shell.specs.Ending.{LeftAt, MayHaveGone, Went}
 
 -- ---- runs

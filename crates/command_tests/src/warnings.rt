@@ -8,7 +8,8 @@ use study_commands::serve::serve;
 use study_commands::warned::Warned;
 use sweep::{Pass, Standing, Watcher};
 
-/// Keeps the last that it heard, how often it was warned, and whether all runs were read and none had begun by then.
+/// Keeps the last that it heard, how often it was warned, and whether it had heard by then that all runs were read, and
+/// of no run that was done.
 #[derive(Drop)]
 struct Keeper {
     last: Option<Standing>,
@@ -54,8 +55,8 @@ impl Warned for Keeper {
     }
 }
 
-/// No detector of the study can suspect anybody before the horizon. The watcher is warned of that once, between the
-/// reading of all six runs and the first run.
+/// No detector of the study can suspect anybody before the horizon. The watcher is warned of that once: after it heard
+/// that all six runs were read, and before it heard of one that was done.
 #[test]
 fn warned_before_the_first_run(rt: HostRuntime) {
     let alloc = rt.alloc();

@@ -1,12 +1,6 @@
 -- What a process may come to as a wait ends, case by case.
-use Rattle.std.proofs.Common.{◌≡◌, ℕ, ◌+◌, Bool, true, false, cond, nat_lt, nat_le, Option, None, Some, is_some, unwrap_or, [], ◌∷◌}
-use Rattle.std.proofs.lemmas.Bool.{cond_both}
-use Rattle.process_api.specs.Answer.{Answer, to_all, after, still}
-use Rattle.process_api.specs.Coordinator.{Coordinator, best_to, enter, leave, propose, collect, reply, adopt, await, tally}
-use Rattle.process_api.specs.Rounds.{greatest_round, coordinator, is_own, majority, count_to}
+use Rattle.consensus_es.proofs.Words.{◌≡◌, ℕ, ◌+◌, Bool, true, false, cond, nat_lt, nat_le, Option, None, Some, is_some, unwrap_or, [], ◌∷◌, cond_both, Answer, to_all, after, still, Coordinator, best_to, enter, leave, propose, collect, reply, adopt, await, tally, greatest_round, coordinator, is_own, majority, count_to, Estimate, Tally, Ended}
 use Rattle.process_api.specs.declared.action.Action.TheVariants.{Send}
-use Rattle.process_api.specs.declared.consensus.Estimate.{Estimate}
-use Rattle.process_api.specs.declared.consensus.Phase.TheVariants.{Tally, Ended}
 use Rattle.process_api.specs.declared.message.Payload.TheVariants.{Reply, Decide}
 use Rattle.process_api.proofs.Lists.{option_both}
 

@@ -1,9 +1,5 @@
 -- The best estimate has the largest stamp, and of those with that stamp the least sender.
-use Rattle.std.proofs.Common.{◌≡◌, ◌⊎◌, ℕ, zero, suc, ◌<◌, ◌≤◌, inl, inr, ⊎_elim, refl, sym, ap, ◌∙◌, subst, arith, Option, None, Some}
-use Rattle.std.proofs.lemmas.Bool.{ltb-true, ltb-false, cond_both}
-use Rattle.std.proofs.lemmas.Option.{none-some, same_Some}
-use Rattle.process_api.specs.Coordinator.{better, best_to}
-use Rattle.process_api.specs.declared.consensus.Estimate.{Estimate}
+use Rattle.consensus_es.proofs.Words.{◌≡◌, ◌⊎◌, ℕ, zero, suc, ◌<◌, ◌≤◌, inl, inr, ⊎_elim, refl, sym, ap, ◌∙◌, subst, arith, Option, None, Some, ltb-true, ltb-false, cond_both, none-some, same_Some, better, best_to, Estimate}
 use Rattle.consensus_es.specs.Laws.{IsBest, IsBehind}
 
 -- the best, or that there is none

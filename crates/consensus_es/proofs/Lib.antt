@@ -1,3 +1,4 @@
+pub mod Words
 mod Cases
 mod Settled
 mod Settling

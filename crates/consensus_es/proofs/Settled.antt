@@ -1,13 +1,5 @@
 -- The number of waits that may end is enough: after an input no wait is over.
-use Rattle.std.proofs.Common.{◌≡◌, ℕ, ◌+◌, ◌-◌, ◌*◌, ◌<◌, ◌≤◌, refl, Bool, true, false, cond, arith, Option, None, Some, IfSome}
-use Rattle.std.proofs.lemmas.Bool.{ltb-true}
-use Rattle.process_api.specs.declared.consensus.Estimate.{Estimate}
-use Rattle.process_api.specs.declared.consensus.Phase.{Phase}
-use Rattle.process_api.specs.declared.consensus.Phase.TheVariants.{Collect, Await, Tally}
-use Rattle.process_api.specs.Coordinator.{Coordinator, enter, leave, reply, end_wait, waits_left, end_waits, settle, begin, step_coordinator}
-use Rattle.process_api.specs.Answer.{Answer, after, still}
-use Rattle.process_api.specs.Rounds.{is_own, greatest_round}
-use Rattle.process_api.specs.declared.message.StepInput.{StepInput}
+use Rattle.consensus_es.proofs.Words.{◌≡◌, ℕ, ◌+◌, ◌-◌, ◌*◌, ◌<◌, ◌≤◌, refl, Bool, true, false, cond, arith, Option, None, Some, IfSome, ltb-true, Estimate, Phase, Collect, Await, Tally, Coordinator, enter, leave, reply, end_wait, waits_left, end_waits, settle, begin, step_coordinator, Answer, after, still, is_own, greatest_round, StepInput}
 use Rattle.process_api.proofs.Waits as waits
 use Rattle.consensus_es.proofs.Cases.{by_leave, by_reply, by_collect, by_await, by_tally}
 

@@ -1,11 +1,7 @@
 -- A process whose waits end, one after the other.
-use Rattle.std.proofs.Common.{◌≡◌, ℕ, ◌+◌, ◌<◌, refl, sym, ap, ◌∙◌, Bool, true, false, cond, arith, Option, None, Some, IfSome, List, ◌++◌, append_assoc, append-nil, true≢false}
-use Rattle.process_api.specs.Answer.{Answer, after, still}
-use Rattle.process_api.specs.Coordinator.{Coordinator, settle, end_wait, waits_left}
-use Rattle.process_api.specs.declared.action.Action.{Action}
+use Rattle.consensus_es.proofs.Words.{◌≡◌, ℕ, ◌+◌, ◌<◌, refl, sym, ap, ◌∙◌, Bool, true, false, cond, arith, Option, None, Some, IfSome, List, ◌++◌, append_assoc, append-nil, true≢false, Answer, after, still, Coordinator, settle, end_wait, waits_left, Action, state_of, Does, Ends}
 use Rattle.consensus_es.proofs.Settled.{Fewer, wait_fewer, settles_on, settles_here}
 use Rattle.consensus_es.specs.declared.progress.Progress.{Progress}
-use Rattle.consensus_es.specs.State.{state_of, Does, Ends}
 
 module _ (n own : ℕ) (is_suspected : ℕ → Bool) where
   -- first has come to s and to these actions, and what is left to do of s is what was left of first

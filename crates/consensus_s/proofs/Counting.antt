@@ -1,7 +1,6 @@
 -- What holds of 1 to n, looked at one by one.
-use Rattle.std.proofs.Common.{◌≡◌, ◌⊎◌, inl, inr, ℕ, zero, suc, ◌+◌, ◌≤◌, ◌<◌, refl, sym, ap, ◌∙◌, Bool, true, ◌||◌, Option, None, Some, is_some, true≢false, arith}
+use Rattle.consensus_s.proofs.Words.{◌≡◌, ◌⊎◌, inl, inr, ℕ, zero, suc, ◌+◌, ◌≤◌, ◌<◌, refl, sym, ap, ◌∙◌, Bool, true, ◌||◌, Option, None, Some, is_some, true≢false, arith, any_to, first_to, or_else}
 use Rattle.std.proofs.Math.Bool.{or-true}
-use Rattle.process_api.specs.ConsensusS.{any_to, first_to, or_else}
 
 at_last : (q n : ℕ) → q ≤ suc n → (q ≡ suc n) ⊎ (q ≤ n)
 at_last q n h = grind arith

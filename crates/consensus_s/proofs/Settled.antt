@@ -1,11 +1,7 @@
 -- The number of waits that may end is enough: after an input no wait is over. While a process doesn't suspect itself, one wait ends at most.
-use Rattle.std.proofs.Common.{◌≡◌, ◌⊎◌, ℕ, zero, suc, ◌+◌, ◌<◌, ◌≤◌, inl, inr, refl, sym, ap, ◌∙◌, subst, Bool, true, false, cond, ◌&&◌, ◌||◌, arith, nat_lt, nat_le, nat_eq, Option, None, Some, IfSome, is_some, unwrap_or, List, [], ◌++◌, length, append_assoc, append-nil}
-use Rattle.std.proofs.lemmas.Bool.{leb-true, leb-false, ltb-true, ltb-false, eqb-true, and_parts, cond_both, both_ways, not-true}
-use Rattle.std.proofs.lemmas.Bool.Decides.{nat_tests}
+use Rattle.consensus_s.proofs.Words.{◌≡◌, ◌⊎◌, ℕ, zero, suc, ◌+◌, ◌<◌, ◌≤◌, inl, inr, refl, sym, ap, ◌∙◌, subst, Bool, true, false, cond, ◌&&◌, ◌||◌, arith, nat_lt, nat_le, nat_eq, Option, None, Some, IfSome, is_some, unwrap_or, List, [], ◌++◌, length, append_assoc, append-nil, leb-true, leb-false, ltb-true, ltb-false, eqb-true, and_parts, cond_both, both_ways, not-true, nat_tests, Vector, Exchange, all_to, keep, above, enter, is_running, is_over, gather, decide, end_wait, end_waits, waits_left, is_timely, receive_cells, receive, begin, step_exchange, IsOrderly, end_one}
 use Rattle.std.proofs.lemmas.Option.{none-some}
 use Rattle.process_api.specs.Answer.{Answer, still, after, to_all}
-use Rattle.process_api.specs.Cells.{Vector}
-use Rattle.process_api.specs.ConsensusS.{Exchange, all_to, keep, above, enter, is_running, is_over, gather, decide, end_wait, end_waits, waits_left, is_timely, receive_cells, receive, begin, step_exchange}
 use Rattle.process_api.specs.declared.message.Payload.{Payload}
 use Rattle.process_api.specs.declared.message.Payload.TheVariants as payload
 use Rattle.process_api.specs.declared.message.StepInput.{StepInput}
@@ -13,7 +9,6 @@ use Rattle.process_api.specs.declared.message.StepInput.TheVariants as input
 use Rattle.process_api.specs.declared.action.Action.{Action}
 use Rattle.process_api.proofs.Sending.{length-to_all}
 use Rattle.process_api.proofs.Waits as waits
-use Rattle.consensus_s.specs.State.{IsOrderly, end_one}
 
 last_or : (q n : ℕ) → q ≤ suc n → (q ≡ suc n) ⊎ (q ≤ n)
 last_or q n h = grind arith

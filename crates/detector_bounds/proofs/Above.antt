@@ -1,31 +1,12 @@
 -- What stands above a layer does nothing of it, nor of one below: it sends none of their letters, asks for none of their wakes, and
 -- notes nothing of the layer.
-use Rattle.std.proofs.Common.{arith, ◌≡◌, ℕ, refl, sym, ap, ◌∙◌, subst, cond, List, [], ◌∷◌, ◌++◌, map, append_assoc, append-nil, inl, inr, Option, None, Some, fold, ◌==◌}
-use Rattle.std.specs.List.{AllByRecursion}
-use Rattle.std.proofs.lemmas.List.Sums.{fold-append}
-use Rattle.process_api.specs.Answer.{to_all}
-use Rattle.process_api.specs.Mind.{Lower, Mind, suspects_of}
-use Rattle.process_api.specs.Detector.{suspected_by}
-use Rattle.process_api.specs.Place.{Place}
-use Rattle.process_api.specs.React.{react, react_lower, react_algorithm}
-use Rattle.process_api.specs.Reduction.{ReductionState, gathered, next_share, step_reduction}
-use Rattle.process_api.specs.Sets.{Processes, gone, changes}
-use Rattle.process_api.specs.declared.action.Action.{Action}
+use Rattle.detector_bounds.proofs.Words.{arith, ◌≡◌, ℕ, refl, sym, ap, ◌∙◌, subst, cond, List, [], ◌∷◌, ◌++◌, map, append_assoc, append-nil, inl, inr, Option, None, Some, fold, ◌==◌, AllByRecursion, fold-append, to_all, Lower, Mind, suspects_of, suspected_by, Place, react, react_lower, react_algorithm, ReductionState, gathered, next_share, step_reduction, Processes, gone, changes, Action, Payload, StepInput, Tag, Beat, Check, Share, both, images, always, weaker, IsIn, in_append, Set, with, without, after_note, based, stacked}
 use Rattle.process_api.specs.declared.action.Action.TheVariants as action
 use Rattle.process_api.specs.declared.action.Note.TheVariants as note
-use Rattle.process_api.specs.declared.message.Payload.{Payload}
 use Rattle.process_api.specs.declared.message.Payload.TheVariants as payload
-use Rattle.process_api.specs.declared.message.StepInput.{StepInput}
 use Rattle.process_api.specs.declared.message.StepInput.TheVariants as input
-use Rattle.process_api.specs.declared.message.Tag.{Tag}
-use Rattle.process_api.specs.declared.message.Tag.TheVariants.{Beat, Check, Share}
-use Rattle.process_api.proofs.Lists.{both, images, always, weaker}
-use Rattle.trace_laws.specs.History.{IsIn}
 use Rattle.trace_laws.specs.Step.{noted}
-use Rattle.trace_laws.proofs.Steps.{in_append}
-use Rattle.judges.specs.Out.{Set, with, without, after_note}
 use Rattle.judges.proofs.Algorithms.{IsOfAlgorithm, algorithm_acts, all_sent}
-use Rattle.judges.proofs.Instances.{based, stacked}
 use Rattle.detector_bounds.proofs.Added.{wakes_of, wakes_of-append}
 
 -- what stands above layer l: above layer 1 a reduction, and above both layers an algorithm

@@ -1,18 +1,8 @@
 -- Which wakes and letters the actions of a step add, and when they come.
-use Rattle.std.proofs.Common.{◌≡◌, ◌≢◌, ◌⊎◌, ℕ, ◌+◌, ◌≤◌, inl, inr, refl, sym, ap, ◌∙◌, subst, Bool, true, false, cond, if◌then◌else◌, List, [], ◌∷◌, ◌++◌, arith}
-use Rattle.std.proofs.lemmas.Bool.{cond_both, cases_lt}
-use Rattle.process_api.specs.declared.action.Action.{Action}
+use Rattle.detector_bounds.proofs.Words.{◌≡◌, ◌≢◌, ◌⊎◌, ℕ, ◌+◌, ◌≤◌, inl, inr, refl, sym, ap, ◌∙◌, subst, Bool, true, false, cond, if◌then◌else◌, List, [], ◌∷◌, ◌++◌, arith, cond_both, cases_lt, Action, Key, Payload, Tag, Beat, Check, Share, IsIn, Setting, Event, counted, joining, added, in_append, in_left, in_time_is}
 use Rattle.process_api.specs.declared.action.Action.TheVariants as action
-use Rattle.process_api.specs.declared.key.Key.{Key}
-use Rattle.process_api.specs.declared.message.Payload.{Payload}
 use Rattle.process_api.specs.declared.message.StepInput.TheVariants as input
-use Rattle.process_api.specs.declared.message.Tag.{Tag}
-use Rattle.process_api.specs.declared.message.Tag.TheVariants.{Beat, Check, Share}
 use Rattle.streams.specs.declared.fate.Fate.TheVariants as fate
-use Rattle.trace_laws.specs.History.{IsIn}
-use Rattle.trace_laws.specs.Setting.{Setting}
-use Rattle.trace_laws.specs.Step.{Event, counted, joining, added}
-use Rattle.trace_laws.proofs.Steps.{in_append, in_left, in_time_is}
 use Rattle.detector_bounds.proofs.Events.{IsOf, comes_of, wake_joins, letter_joins, own_joins}
 
 -- ---- the wakes among actions

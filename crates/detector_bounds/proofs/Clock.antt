@@ -1,18 +1,7 @@
 -- A process's wakes with a tag: it asks for one at its start, and at each for the next. So one alone is pending, and its tick is
 -- known.
-use Rattle.std.proofs.Common.{◌≡◌, ◌≢◌, ◌⊎◌, ℕ, ◌+◌, ◌≤◌, inl, inr, refl, sym, ap, ◌∙◌, subst, Bool, true, false, cond, if◌then◌else◌, List, [], ◌∷◌}
-use Rattle.process_api.specs.Answer.{Answer}
-use Rattle.process_api.specs.EntryRecord.{EntryRecord}
-use Rattle.process_api.specs.Sets.{Processes}
-use Rattle.process_api.specs.declared.key.Key.{Key}
-use Rattle.process_api.specs.declared.message.StepInput.{StepInput}
+use Rattle.detector_bounds.proofs.Words.{◌≡◌, ◌≢◌, ◌⊎◌, ℕ, ◌+◌, ◌≤◌, inl, inr, refl, sym, ap, ◌∙◌, subst, Bool, true, false, cond, if◌then◌else◌, List, [], ◌∷◌, Answer, EntryRecord, Processes, Key, StepInput, Tag, IsIn, Setting, IsSound, has_crashed, World, Has, IsLeast, IsWorld, made, taken, opening, start_of, one_input, taken_cases, taken_old, taken_new}
 use Rattle.process_api.specs.declared.message.StepInput.TheVariants as input
-use Rattle.process_api.specs.declared.message.Tag.{Tag}
-use Rattle.trace_laws.specs.History.{IsIn}
-use Rattle.trace_laws.specs.Setting.{Setting, IsSound, has_crashed}
-use Rattle.trace_laws.specs.World.{World, Has, IsLeast, IsWorld, made, taken, opening, start_of}
-use Rattle.trace_laws.proofs.Sets.{one_input}
-use Rattle.trace_laws.proofs.Worlds.{taken_cases, taken_old, taken_new}
 use Rattle.detector_bounds.proofs.Above.{IsOwnTag}
 use Rattle.detector_bounds.proofs.Added.{same_tag, same_tag-true, same_tag-itself, wakes_of}
 use Rattle.detector_bounds.proofs.Machines.{RunsDetector, own, own_up, own_down, wake_new, wake_there, wake_alone}

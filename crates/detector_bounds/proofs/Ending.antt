@@ -1,15 +1,7 @@
 -- The world at the end of a tick: the list comes by it, and the entries of later ticks follow.
-use Rattle.std.proofs.Common.{◌≡◌, ℕ, ◌<◌, ◌≤◌, inl, inr, sym, ap, ◌∙◌, subst, List, [], ◌∷◌, ◌++◌, append_assoc, append-nil, arith}
+use Rattle.detector_bounds.proofs.Words.{◌≡◌, ℕ, ◌<◌, ◌≤◌, inl, inr, sym, ap, ◌∙◌, subst, List, [], ◌∷◌, ◌++◌, append_assoc, append-nil, arith, AllByRecursion, EntryRecord, Key, StepInput, Setting, IsSound, World, Pair, Has, IsLeast, NoneBelow, IsWorld, Run, made, taken, opening, entries, IsTrace, opening_world, taken_cases, taken_world, made_sent}
 use Rattle.std.proofs.lemmas.List.{map-append}
-use Rattle.std.specs.List.{AllByRecursion}
-use Rattle.process_api.specs.EntryRecord.{EntryRecord}
-use Rattle.process_api.specs.declared.key.Key.{Key}
-use Rattle.process_api.specs.declared.message.StepInput.{StepInput}
-use Rattle.trace_laws.specs.Setting.{Setting, IsSound}
-use Rattle.trace_laws.specs.World.{World, Pair, Has, IsLeast, NoneBelow, IsWorld, Run, made, taken, opening, entries, IsTrace}
-use Rattle.trace_laws.proofs.Closed.{opening_world}
 use Rattle.trace_laws.proofs.Runs.{run_exists, one_run}
-use Rattle.trace_laws.proofs.Worlds.{taken_cases, taken_world, made_sent}
 
 module _ {Mind : Type 0} (S : Setting Mind) (sound : IsSound S) where
   -- a run up to an earlier end, and the rest

@@ -1,19 +1,8 @@
 -- Which events the actions of a step add, and from which action each comes.
-use Rattle.std.proofs.Common.{◌≡◌, ◌≢◌, ℕ, ◌+◌, ◌<◌, ◌≤◌, inl, inr, refl, sym, subst, List, [], ◌∷◌, arith, nat_lt, ◌==◌}
-use Rattle.std.proofs.lemmas.Bool.{cond_both, eqb-true, eqb-false}
-use Rattle.process_api.specs.declared.action.Action.{Action}
+use Rattle.detector_bounds.proofs.Words.{◌≡◌, ◌≢◌, ℕ, ◌+◌, ◌<◌, ◌≤◌, inl, inr, refl, sym, subst, List, [], ◌∷◌, arith, nat_lt, ◌==◌, cond_both, eqb-true, eqb-false, Action, Key, Payload, StepInput, Tag, Fate, IsIn, Setting, Event, in_time, by_fate, counted, joining, added, in_append, in_left, in_right, in_time_is}
 use Rattle.process_api.specs.declared.action.Action.TheVariants.{Send, Wake, Note}
-use Rattle.process_api.specs.declared.key.Key.{Key}
-use Rattle.process_api.specs.declared.message.Payload.{Payload}
-use Rattle.process_api.specs.declared.message.StepInput.{StepInput}
 use Rattle.process_api.specs.declared.message.StepInput.TheVariants as input
-use Rattle.process_api.specs.declared.message.Tag.{Tag}
-use Rattle.streams.specs.declared.fate.Fate.{Fate}
 use Rattle.streams.specs.declared.fate.Fate.TheVariants as fate
-use Rattle.trace_laws.specs.History.{IsIn}
-use Rattle.trace_laws.specs.Setting.{Setting}
-use Rattle.trace_laws.specs.Step.{Event, in_time, by_fate, counted, joining, added}
-use Rattle.trace_laws.proofs.Steps.{in_append, in_left, in_right, in_time_is}
 
 module _ {Mind : Type 0} (S : Setting Mind) (p now : ℕ) where
   -- a letter that process p sends at tick now may come at this tick

@@ -1,15 +1,6 @@
 -- How long a letter takes on a link, and that a link without loss and outage delivers each.
-use Rattle.std.proofs.Common.{◌≡◌, ℕ, ◌+◌, ◌-◌, ◌*◌, ◌%◌, ◌≤◌, ap, ◌∙◌, subst, Bool, true, false, cond, [], nat_lt, arith}
-use Rattle.std.specs.List.{list_any}
-use Rattle.std.proofs.lemmas.Bool.{le-ltb}
-use Rattle.std.proofs.lemmas.Nat.{mod_below}
+use Rattle.detector_bounds.proofs.Words.{◌≡◌, ℕ, ◌+◌, ◌-◌, ◌*◌, ◌%◌, ◌≤◌, ap, ◌∙◌, subst, Bool, true, false, cond, [], nat_lt, arith, list_any, le-ltb, mod_below, Record, link, outages_on, Link, fate_of, fate_by, is_cut, word, Fate, Lost, Delay, setting_of}
 use Rattle.scenario_record.specs.Outages.{covers}
-use Rattle.scenario_record.specs.Record.{Record, link, outages_on}
-use Rattle.scenario_record.specs.declared.link.Link.{Link}
-use Rattle.streams.specs.Fate.{fate_of, fate_by, is_cut, word}
-use Rattle.streams.specs.declared.fate.Fate.{Fate}
-use Rattle.streams.specs.declared.fate.Fate.TheVariants.{Lost, Delay}
-use Rattle.trace_laws.specs.ScenarioSetting.{setting_of}
 use Rattle.detector_bounds.proofs.Added.{Delivers}
 
 -- a delay of the link

@@ -1,22 +1,7 @@
 -- A scenario's machines run its detector, whatever stands above it.
-use Rattle.std.proofs.Common.{◌≡◌, ℕ, refl, sym, ap, ◌∙◌, subst}
-use Rattle.process_api.specs.Answer.{Answer}
-use Rattle.process_api.specs.Detector.{DetectorState, ByTimeout, ByFreshness, opening_detector, suspected_by, step_detector}
-use Rattle.process_api.specs.Freshness.{FreshnessState, opening_freshness, suspected, step_freshness}
-use Rattle.process_api.specs.Mind.{Lower, Mind}
-use Rattle.process_api.specs.Place.{Place}
-use Rattle.process_api.specs.React.{react}
-use Rattle.process_api.specs.Sets.{Processes}
-use Rattle.process_api.specs.Timeout.{TimeoutState, opening_timeout, step_timeout}
-use Rattle.process_api.specs.declared.message.StepInput.{StepInput}
+use Rattle.detector_bounds.proofs.Words.{◌≡◌, ℕ, refl, sym, ap, ◌∙◌, subst, Answer, DetectorState, ByTimeout, ByFreshness, opening_detector, suspected_by, step_detector, FreshnessState, opening_freshness, suspected, step_freshness, Lower, Mind, Place, react, Processes, TimeoutState, opening_timeout, step_timeout, StepInput, FreshnessNumbers, TimeoutNumbers, freshness_opens, freshness_laws, Record, place_in, setting_of, based, layered, stacked}
 use Rattle.process_api.specs.declared.numbers.DetectorNumbers.TheVariants as numbers
-use Rattle.process_api.specs.declared.numbers.FreshnessNumbers.{FreshnessNumbers}
-use Rattle.process_api.specs.declared.numbers.TimeoutNumbers.{TimeoutNumbers}
-use Rattle.process_api.proofs.FreshnessLaws.{freshness_opens, freshness_laws}
 use Rattle.process_api.proofs.TimeoutLaws.{timeout_opens, timeout_laws}
-use Rattle.scenario_record.specs.Record.{Record, place_in}
-use Rattle.trace_laws.specs.ScenarioSetting.{setting_of}
-use Rattle.judges.proofs.Instances.{based, layered, stacked}
 use Rattle.detector_bounds.proofs.Above.{IsFollowed, mind_followed}
 use Rattle.detector_bounds.proofs.Machines.{RunsDetector}
 

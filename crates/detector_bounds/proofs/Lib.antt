@@ -1,3 +1,4 @@
+pub mod Words
 -- The bounds of detectors, in every trace. Begin here.
 --
 -- 1. Above, Machines: all that a process does on a layer, its detector of that layer does; a reduction or an algorithm above it

@@ -1,24 +1,9 @@
 -- Machines that have a detector of a layer below other parts, and what one step makes of it.
-use Rattle.std.proofs.Common.{◌≡◌, ◌≢◌, ◌⊎◌, ℕ, ◌+◌, refl, sym, ap, ◌∙◌, subst, Bool, true, false, cond, List, [], ◌∷◌, inl, inr}
-use Rattle.std.proofs.lemmas.Bool.{cases_eq, cases_Bool}
+use Rattle.detector_bounds.proofs.Words.{◌≡◌, ◌≢◌, ◌⊎◌, ℕ, ◌+◌, refl, sym, ap, ◌∙◌, subst, Bool, true, false, cond, List, [], ◌∷◌, inl, inr, cases_eq, cases_Bool, notes_of_layer, Answer, still, Processes, changes, Action, Key, Payload, StepInput, Tag, changes-none, Setting, has_crashed, IsIn, World, made, taken, opening, in_left, by_receiver, process_at, process_other}
 use Rattle.std.specs.FinSet as set
-use Rattle.process_api.specs.Actions.{notes_of_layer}
-use Rattle.process_api.specs.Answer.{Answer, still}
-use Rattle.process_api.specs.Sets.{Processes, changes}
-use Rattle.process_api.specs.declared.action.Action.{Action}
 use Rattle.process_api.specs.declared.action.Action.TheVariants as action
-use Rattle.process_api.specs.declared.key.Key.{Key}
-use Rattle.process_api.specs.declared.message.Payload.{Payload}
-use Rattle.process_api.specs.declared.message.StepInput.{StepInput}
 use Rattle.process_api.specs.declared.message.StepInput.TheVariants as input
-use Rattle.process_api.specs.declared.message.Tag.{Tag}
-use Rattle.process_api.proofs.LayerNotes.{changes-none}
-use Rattle.trace_laws.specs.Setting.{Setting, has_crashed}
-use Rattle.trace_laws.specs.History.{IsIn}
 use Rattle.trace_laws.specs.Step.{Event, Process, Made, noted, added, dead, made_by}
-use Rattle.trace_laws.specs.World.{World, made, taken, opening}
-use Rattle.trace_laws.proofs.Steps.{in_left}
-use Rattle.trace_laws.proofs.Worlds.{by_receiver, process_at, process_other}
 use Rattle.detector_bounds.proofs.Above.{IsFollowed, IsOwnTag, IsOwnLetter, wakes_are, letters_are}
 use Rattle.detector_bounds.proofs.Added.{wakes_of, WakesIn, WakeComes, added_wake, wake_comes, one_wake, LetterCame, added_letter, Delivers, LetterComes, letter_comes, OwnComes, own_comes}
 

@@ -1,8 +1,6 @@
 -- Multiples of a period, and of what a time-out grows by.
-use Rattle.std.proofs.Common.{◌≡◌, ℕ, ◌+◌, ◌-◌, ◌*◌, ◌<◌, ◌≤◌, add-one, ap, ◌∙◌, arith, mul-le-mul_right}
+use Rattle.detector_bounds.proofs.Words.{◌≡◌, ℕ, ◌+◌, ◌-◌, ◌*◌, ◌<◌, ◌≤◌, add-one, ap, ◌∙◌, arith, mul-le-mul_right, mod_below, div-add-mod', last_before, multiple_from}
 use Rattle.std.proofs.Math.Nat.{suc-mul, le-mul_of_pos_right, lt_of_mul-lt-mul_right, div-mul-le_self}
-use Rattle.std.proofs.lemmas.Nat.{mod_below, div-add-mod'}
-use Rattle.detector_bounds.specs.Multiples.{last_before, multiple_from}
 
 pub mul-next : (n m : ℕ) → (n + 1) * m ≡ n * m + m
 mul-next n m = ap (λ k. k * m) (add-one n) ∙ suc-mul n m

@@ -1,10 +1,5 @@
 -- Each of n processes is among their numbers, and each but one among the others.
-use Rattle.std.proofs.Common.{◌≢◌, ℕ, zero, suc, ◌≤◌, inl, inr, ap, not, nat_eq, [], ◌∷◌, arith}
-use Rattle.std.proofs.lemmas.Bool.{cases_eq, ne_eqb}
-use Rattle.process_api.specs.Numbers.{numbers_to, others}
-use Rattle.trace_laws.specs.History.{IsIn}
-use Rattle.trace_laws.proofs.Steps.{in_left, in_right}
-use Rattle.judges.proofs.Members.{in_filter}
+use Rattle.detector_bounds.proofs.Words.{◌≢◌, ℕ, zero, suc, ◌≤◌, inl, inr, ap, not, nat_eq, [], ◌∷◌, arith, cases_eq, ne_eqb, numbers_to, others, IsIn, in_left, in_right, in_filter}
 
 pub in_numbers : (n q : ℕ) → 1 ≤ q → q ≤ n → IsIn q (numbers_to n)
 in_numbers zero q low high = absurd (omega (arith, low, high))

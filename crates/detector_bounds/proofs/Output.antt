@@ -1,22 +1,13 @@
 -- OUT is the set of a layer's detector: the layer's notes are how it changes.
-use Rattle.std.proofs.Common.{◌≡◌, ◌≢◌, inl, inr, ℕ, zero, suc, ◌+◌, ◌≤◌, refl, sym, ap, ◌∙◌, subst, Bool, true, false, cond, not, ◌&&◌, ◌||◌, ◌==◌, nat_eq, nat_le, List, [], ◌∷◌, ◌++◌, map, append_assoc, append-nil, fold, arith}
+use Rattle.detector_bounds.proofs.Words.{◌≡◌, ◌≢◌, inl, inr, ℕ, zero, suc, ◌+◌, ◌≤◌, refl, sym, ap, ◌∙◌, subst, Bool, true, false, cond, not, ◌&&◌, ◌||◌, ◌==◌, nat_eq, nat_le, List, [], ◌∷◌, ◌++◌, map, append_assoc, append-nil, fold, arith, and_right, lt-leb, le-leb, eq-eqb, ne_eqb, cases_eq, fold-append, notes_of_layer, EntryRecord, numbers_to, is_process, Processes, gone, changes, Action, and_true, Set, nobody, with, without, after_note, notes_until, out}
 use Rattle.std.specs.FinSet as set
 use Rattle.std.specs.List.{AllByRecursion, filter}
-use Rattle.std.proofs.lemmas.Bool.{and_right, lt-leb, le-leb, eq-eqb, ne_eqb, cases_eq}
 use Rattle.std.proofs.Math.Bool.{and-false}
 use Rattle.std.proofs.lemmas.Bool.Decides.{nat_tests}
-use Rattle.std.proofs.lemmas.List.Sums.{fold-append}
-use Rattle.process_api.specs.Actions.{notes_of_layer}
-use Rattle.process_api.specs.EntryRecord.{EntryRecord}
-use Rattle.process_api.specs.Numbers.{numbers_to, is_process}
-use Rattle.process_api.specs.Sets.{Processes, gone, changes}
-use Rattle.process_api.specs.declared.action.Action.{Action}
 use Rattle.process_api.specs.declared.action.Action.TheVariants as action
 use Rattle.process_api.specs.declared.action.Note.{Note}
 use Rattle.process_api.specs.declared.action.Note.TheVariants as note
-use Rattle.process_api.proofs.Minds.{and_true}
 use Rattle.trace_laws.specs.Step.{noted}
-use Rattle.judges.specs.Out.{Set, nobody, with, without, after_note, notes_until, out}
 
 -- ---- a step's notes
 

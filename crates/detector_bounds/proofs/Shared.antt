@@ -1,37 +1,12 @@
 -- Through a run with a reduction: what a watcher's base detector suspects for good, its next share tells, and who is told suspects
 -- it for good once no set of the crashed process comes anymore.
-use Rattle.std.proofs.Common.{◌≡◌, ◌≢◌, ◌⊎◌, ℕ, zero, suc, ◌+◌, ◌-◌, ◌*◌, ◌/◌, ◌<◌, ◌≤◌, inl, inr, refl, sym, ap, ◌∙◌, subst, true, false, cond, List, [], ◌∷◌, ◌++◌, arith, max, Some}
+use Rattle.detector_bounds.proofs.Words.{◌≡◌, ◌≢◌, ◌⊎◌, ℕ, zero, suc, ◌+◌, ◌-◌, ◌*◌, ◌/◌, ◌<◌, ◌≤◌, inl, inr, refl, sym, ap, ◌∙◌, subst, true, false, cond, List, [], ◌∷◌, ◌++◌, arith, max, Some, cases_lt, cases_eq, eq-eqb, ne_eqb, leb-false, le-leb, Answer, suspected_by, step_detector, EntryRecord, Mind, ReductionState, Processes, Key, StepInput, same_or_not, and_true, out, IsInRange, Record, crash, link, place_in, Link, IsIn, setting_of, Setting, IsSound, has_crashed, World, Has, IsLeast, NoneBelow, IsWorld, made, taken, opening, start_of, entries, IsTrace, one_input, least_first, setting_sound, taken_cases, taken_old, taken_new, trusts, last_before, multiple_from, silent_from, least_delay, most_delay, LosesNothing}
 use Rattle.std.specs.FinSet as set
 use Rattle.std.proofs.Math.Nat.{mul-le-mul_right}
-use Rattle.std.proofs.lemmas.Bool.{cases_lt, cases_eq, eq-eqb, ne_eqb, leb-false, le-leb}
-use Rattle.process_api.specs.Answer.{Answer}
-use Rattle.process_api.specs.Detector.{suspected_by, step_detector}
-use Rattle.process_api.specs.EntryRecord.{EntryRecord}
-use Rattle.process_api.specs.Mind.{Mind}
-use Rattle.process_api.specs.Reduction.{ReductionState}
-use Rattle.process_api.specs.Sets.{Processes}
 use Rattle.process_api.specs.declared.action.Action.TheVariants as action
-use Rattle.process_api.specs.declared.key.Key.{Key}
 use Rattle.process_api.specs.declared.message.Payload.TheVariants as payload
-use Rattle.process_api.specs.declared.message.StepInput.{StepInput}
 use Rattle.process_api.specs.declared.message.StepInput.TheVariants as input
 use Rattle.process_api.specs.declared.message.Tag.TheVariants as tag
-use Rattle.process_api.proofs.KeyOrder.{same_or_not}
-use Rattle.process_api.proofs.Minds.{and_true}
-use Rattle.judges.specs.Out.{out}
-use Rattle.scenario_record.specs.Ranges.{IsInRange}
-use Rattle.scenario_record.specs.Record.{Record, crash, link, place_in}
-use Rattle.scenario_record.specs.declared.link.Link.{Link}
-use Rattle.trace_laws.specs.History.{IsIn}
-use Rattle.trace_laws.specs.ScenarioSetting.{setting_of}
-use Rattle.trace_laws.specs.Setting.{Setting, IsSound, has_crashed}
-use Rattle.trace_laws.specs.World.{World, Has, IsLeast, NoneBelow, IsWorld, made, taken, opening, start_of, entries, IsTrace}
-use Rattle.trace_laws.proofs.Sets.{one_input, least_first}
-use Rattle.trace_laws.proofs.Sound.{setting_sound}
-use Rattle.trace_laws.proofs.Worlds.{taken_cases, taken_old, taken_new}
-use Rattle.detector_bounds.specs.Detected.{trusts}
-use Rattle.detector_bounds.specs.Multiples.{last_before, multiple_from}
-use Rattle.detector_bounds.specs.Shared.{silent_from, least_delay, most_delay, LosesNothing}
 use Rattle.detector_bounds.proofs.Added.{Delivers}
 use Rattle.detector_bounds.proofs.Clock.{Clock, due_after, clock_first, clock_still, clock_takes}
 use Rattle.detector_bounds.proofs.Ending.{IsKept, IsEnd, ending, holds_at, none_later}

@@ -1,39 +1,17 @@
 -- A base detector with a reduction over it, and what one input makes of the two: layer 2.
-use Rattle.std.proofs.Common.{◌≡◌, ◌≢◌, ℕ, ◌≤◌, inl, inr, refl, sym, ap, ◌∙◌, subst, true, not, ◌&&◌, ◌||◌, nat_le, nat_cmp, List, [], ◌∷◌, ◌++◌, map, Option, None, Some, option_map}
+use Rattle.detector_bounds.proofs.Words.{◌≡◌, ◌≢◌, ℕ, ◌≤◌, inl, inr, refl, sym, ap, ◌∙◌, subst, true, not, ◌&&◌, ◌||◌, nat_le, nat_cmp, List, [], ◌∷◌, ◌++◌, map, Option, None, Some, option_map, cond_both, ne_eqb, le-leb, or_left, or_right, notes_of_layer, Answer, still, to_all, DetectorState, ByTimeout, ByFreshness, opening_detector, suspected_by, step_detector, Lower, Mind, numbers_to, others, Place, react_lower, react, ReductionState, opening_reduction, gathered, step_reduction, Processes, changes, up_to, StepInput, FreshnessNumbers, TimeoutNumbers, contains-remove_is, contains-up_to, and_true, notes_of_layer-append, none_of_layer_2, changes_kept, changes-none, no_letters, Record, place_in, IsIn, setting_of, in_append, in_left, in_right, each_of, in_image, stacked}
 use Rattle.std.specs.FinSet as set
-use Rattle.std.proofs.lemmas.Bool.{cond_both, ne_eqb, le-leb, or_left, or_right}
-use Rattle.process_api.specs.Actions.{notes_of_layer}
-use Rattle.process_api.specs.Answer.{Answer, still, to_all}
 use Rattle.process_api.specs.BaseDetector.{IsOfDetector}
-use Rattle.process_api.specs.Detector.{DetectorState, ByTimeout, ByFreshness, opening_detector, suspected_by, step_detector}
 use Rattle.process_api.specs.Freshness as fresh
-use Rattle.process_api.specs.Mind.{Lower, Mind}
-use Rattle.process_api.specs.Numbers.{numbers_to, others}
-use Rattle.process_api.specs.Place.{Place}
-use Rattle.process_api.specs.React.{react_lower, react}
-use Rattle.process_api.specs.Reduction.{ReductionState, opening_reduction, gathered, step_reduction}
-use Rattle.process_api.specs.Sets.{Processes, changes, up_to}
 use Rattle.process_api.specs.Timeout as timeout
 use Rattle.process_api.specs.declared.action.Action.TheVariants as action
 use Rattle.process_api.specs.declared.action.Note.{Note}
 use Rattle.process_api.specs.declared.action.Note.TheVariants as note
 use Rattle.process_api.specs.declared.message.Payload.TheVariants as payload
-use Rattle.process_api.specs.declared.message.StepInput.{StepInput}
 use Rattle.process_api.specs.declared.message.StepInput.TheVariants as input
 use Rattle.process_api.specs.declared.message.Tag.TheVariants as tag
-use Rattle.process_api.specs.declared.numbers.FreshnessNumbers.{FreshnessNumbers}
-use Rattle.process_api.specs.declared.numbers.TimeoutNumbers.{TimeoutNumbers}
-use Rattle.process_api.proofs.Contains.{contains-remove_is, contains-up_to}
 use Rattle.process_api.proofs.DetectorLaws.{detector_laws}
-use Rattle.process_api.proofs.Minds.{and_true}
-use Rattle.process_api.proofs.LayerNotes.{notes_of_layer-append, none_of_layer_2, changes_kept, changes-none, no_letters}
 use Rattle.std.specs.Cmp.{nat_cmp_total}
-use Rattle.scenario_record.specs.Record.{Record, place_in}
-use Rattle.trace_laws.specs.History.{IsIn}
-use Rattle.trace_laws.specs.ScenarioSetting.{setting_of}
-use Rattle.trace_laws.proofs.Steps.{in_append, in_left, in_right}
-use Rattle.judges.proofs.Members.{each_of, in_image}
-use Rattle.judges.proofs.Instances.{stacked}
 use Rattle.detector_bounds.proofs.Above.{IsFollowed, lower_acts_first}
 use Rattle.detector_bounds.proofs.Added.{wakes_of, wakes_of-append}
 use Rattle.detector_bounds.proofs.Clock.{asked}

@@ -1,20 +1,5 @@
 -- A detection is shared: in every trace, whichever kind of detector shares.
-use Rattle.std.proofs.Common.{◌≡◌, ◌≢◌, ℕ, suc, false, max, ◌+◌, ◌-◌, ◌<◌, ◌≤◌, refl, sym, ap, ◌∙◌, List, arith, Some, unwrap_or, true}
-use Rattle.process_api.specs.EntryRecord.{EntryRecord}
-use Rattle.process_api.specs.declared.numbers.DetectorNumbers.{DetectorNumbers}
-use Rattle.process_api.specs.declared.numbers.DetectorNumbers.TheVariants.{Timeout, Freshness}
-use Rattle.scenario_record.specs.Ranges.{IsInRange}
-use Rattle.scenario_record.specs.Record.{Record, crash, link}
-use Rattle.trace_laws.specs.ScenarioSetting.{setting_of}
-use Rattle.trace_laws.specs.Setting.{has_crashed}
-use Rattle.trace_laws.specs.World.{IsTrace}
-use Rattle.judges.specs.Meaning.{IsCorrect}
-use Rattle.judges.specs.Out.{out}
-use Rattle.detector_bounds.specs.Bounds.{CrashesAt, detected_at}
-use Rattle.detector_bounds.specs.Detected.{trusts}
-use Rattle.detector_bounds.specs.Multiples.{last_before}
-use Rattle.detector_bounds.specs.Shared.{LosesNothing, silent_from, least_delay, most_delay, told_at, SharesDetection}
-use Rattle.detector_bounds.specs.Watched.{Watches}
+use Rattle.detector_bounds.proofs.Words.{◌≡◌, ◌≢◌, ℕ, suc, false, max, ◌+◌, ◌-◌, ◌<◌, ◌≤◌, refl, sym, ap, ◌∙◌, List, arith, Some, unwrap_or, true, EntryRecord, DetectorNumbers, Timeout, Freshness, IsInRange, Record, crash, link, setting_of, has_crashed, IsTrace, IsCorrect, out, CrashesAt, detected_at, trusts, last_before, LosesNothing, silent_from, least_delay, most_delay, told_at, SharesDetection, Watches}
 use Rattle.detector_bounds.proofs.Freshness.Bounded.{Firmly, firmly_kept, firmly}
 use Rattle.detector_bounds.proofs.Multiples.{from_tick}
 use Rattle.detector_bounds.proofs.Shared.{shared_then}

@@ -1,23 +1,8 @@
 -- Through a run: every process has its detector, which is as at first until the process starts, at tick 0 before all else; and
 -- OUT is the detector's set.
-use Rattle.std.proofs.Common.{◌≡◌, ◌≢◌, ◌⊎◌, ℕ, zero, suc, ◌+◌, ◌≤◌, inl, inr, sym, ap, ◌∙◌, subst, true, List, [], ◌∷◌, ◌++◌, arith, fold}
+use Rattle.detector_bounds.proofs.Words.{◌≡◌, ◌≢◌, ◌⊎◌, ℕ, zero, suc, ◌+◌, ◌≤◌, inl, inr, sym, ap, ◌∙◌, subst, true, List, [], ◌∷◌, ◌++◌, arith, fold, cases_eq, Answer, EntryRecord, is_process, Processes, Key, StepInput, IsIn, Setting, IsSound, Event, World, Has, IsLeast, IsWorld, made, taken, opening, start_of, starts, entries, starts_are, insert_at, insert_other, least_first, taken_cases, made_sent, Set, after_note, out}
 use Rattle.std.specs.FinSet as set
-use Rattle.std.proofs.lemmas.Bool.{cases_eq}
-use Rattle.process_api.specs.Answer.{Answer}
-use Rattle.process_api.specs.EntryRecord.{EntryRecord}
-use Rattle.process_api.specs.Numbers.{is_process}
-use Rattle.process_api.specs.Sets.{Processes}
-use Rattle.process_api.specs.declared.key.Key.{Key}
-use Rattle.process_api.specs.declared.message.StepInput.{StepInput}
 use Rattle.process_api.specs.declared.message.StepInput.TheVariants as input
-use Rattle.trace_laws.specs.History.{IsIn}
-use Rattle.trace_laws.specs.Setting.{Setting, IsSound}
-use Rattle.trace_laws.specs.Step.{Event}
-use Rattle.trace_laws.specs.World.{World, Has, IsLeast, IsWorld, made, taken, opening, start_of, starts, entries}
-use Rattle.trace_laws.proofs.Closed.{starts_are}
-use Rattle.trace_laws.proofs.Sets.{insert_at, insert_other, least_first}
-use Rattle.trace_laws.proofs.Worlds.{taken_cases, made_sent}
-use Rattle.judges.specs.Out.{Set, after_note, out}
 use Rattle.detector_bounds.proofs.Above.{notes_are}
 use Rattle.detector_bounds.proofs.Added.{added_no_start}
 use Rattle.detector_bounds.proofs.Ending.{IsKept, IsEnd}

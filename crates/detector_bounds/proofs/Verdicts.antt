@@ -1,19 +1,11 @@
 -- What the bounds of pairs make of the verdicts: strong accuracy, where all links that are watched are reliable, and strong
 -- completeness, where all watch all.
 use Rattle.std.proofs.Common.{◌≡◌, ◌≢◌, ℕ, suc, ◌+◌, ◌<◌, ◌≤◌, refl, ap, ◌∙◌, true, not, nat_eq, nat_le, Option, None, Some, List, arith, unwrap_or, le-leb, ne_eqb}
-use Rattle.process_api.specs.EntryRecord.{EntryRecord}
-use Rattle.process_api.specs.Numbers.{is_process}
-use Rattle.process_api.specs.Watching.{is_watched, is_other}
+use Rattle.detector_bounds.proofs.Words.{EntryRecord, is_process, is_watched, is_other, and_true, Record, crash, link, crash_tick, detected_at, HasNoMistake, CrashesAt, KeepsBounds, trusts, longest, Watches, IsReliable, watch_of}
 use Rattle.process_api.specs.declared.numbers.Watch.TheVariants.{All}
-use Rattle.process_api.proofs.Minds.{and_true}
-use Rattle.scenario_record.specs.Record.{Record, crash, link}
-use Rattle.judges.specs.Crashes.{crash_tick}
 use Rattle.judges.specs.Meaning.{IsLeastTick, IsProcess, IsCorrect, IsCrashed, From, Suspects}
 use Rattle.judges.specs.Verdicts.{strong_accuracy, strong_completeness}
 use Rattle.judges.proofs.Meaning.{verdicts_mean}
-use Rattle.detector_bounds.specs.Bounds.{detected_at, HasNoMistake, CrashesAt, KeepsBounds}
-use Rattle.detector_bounds.specs.Detected.{trusts, longest}
-use Rattle.detector_bounds.specs.Watched.{Watches, IsReliable, watch_of}
 
 module _ (s : Record) (trace : List EntryRecord) where
   -- what is shown of each pair

@@ -1,13 +1,5 @@
 -- Of a process and whom it watches: they are two processes, and each is up before it crashes.
-use Rattle.std.proofs.Common.{◌≡◌, ◌≢◌, ℕ, suc, ◌<◌, ◌≤◌, refl, sym, true, false, not, nat_eq, nat_le, arith, Option, None, Some, unwrap_or}
-use Rattle.std.proofs.lemmas.Bool.{le-leb, lt-leb, leb-true, eq-eqb, not-true, and_parts}
-use Rattle.process_api.specs.Numbers.{is_process}
-use Rattle.process_api.specs.Watching.{is_other}
-use Rattle.process_api.proofs.Minds.{and_true}
-use Rattle.scenario_record.specs.Record.{Record, crash}
-use Rattle.trace_laws.specs.Setting.{has_crashed}
-use Rattle.judges.specs.Crashes.{crash_tick}
-use Rattle.detector_bounds.specs.Watched.{Watches}
+use Rattle.detector_bounds.proofs.Words.{◌≡◌, ◌≢◌, ℕ, suc, ◌<◌, ◌≤◌, refl, sym, true, false, not, nat_eq, nat_le, arith, Option, None, Some, unwrap_or, le-leb, lt-leb, leb-true, eq-eqb, not-true, and_parts, is_process, is_other, and_true, Record, crash, has_crashed, crash_tick, Watches}
 
 pub process_is : (n p : ℕ) → 1 ≤ p → p ≤ n → is_process n p ≡ true
 process_is n p low high = and_true _ _ (le-leb 1 p low) (le-leb p n high)

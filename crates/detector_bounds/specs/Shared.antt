@@ -40,4 +40,5 @@ module _ (S : Record) where
     -- the horizon
     abbrev pub SharesDetection : Type 0
     SharesDetection = (period w p r c : ℕ) → S.share ≡ Some period → IsCorrect S w → Watches S w p
-        → CrashesAt S trace p c → IsCorrect S r → LosesNothing w r → From S (Suspects S trace 2 r p) (told_at period w p r c + most_delay w r)
+        → CrashesAt S trace p c → IsCorrect S r → LosesNothing w r
+        → From S (Suspects S trace 2 r p) (told_at period w p r c + most_delay w r)

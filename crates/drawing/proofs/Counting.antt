@@ -1,11 +1,5 @@
 -- How many pairs have a row, and where rows end, process by process.
-use Rattle.std.proofs.Common.{◌≡◌, ◌≢◌, ◌∙◌, ℕ, zero, suc, add-one, Bool, true, false, cond, not, eqb, refl, ◌+◌, ◌*◌, ◌≤◌, List, [], ◌∷◌, ◌++◌, ap, arith, filter, length, length-append, append-nil, sum_by}
-use Rattle.std.proofs.lemmas.Bool.{eq-eqb, ne_eqb}
-use Rattle.std.proofs.lemmas.List.Elements.{filter-append}
-use Rattle.std.proofs.lemmas.List.Sums.{count_by-le-length, length-filter, sum_by_push}
-use Rattle.process_api.specs.Numbers.{numbers_to, others}
-use Rattle.drawing.specs.Inside.Drawn.{absent}
-use Rattle.drawing.specs.Layout.{group_height, groups_bottom}
+use Rattle.drawing.proofs.Words.{◌≡◌, ◌≢◌, ◌∙◌, ℕ, zero, suc, add-one, Bool, true, false, cond, not, eqb, refl, ◌+◌, ◌*◌, ◌≤◌, List, [], ◌∷◌, ◌++◌, ap, arith, filter, length, length-append, append-nil, sum_by, eq-eqb, ne_eqb, filter-append, count_by-le-length, length-filter, sum_by_push, numbers_to, others, absent, group_height, groups_bottom}
 
 length-numbers_to : (n : ℕ) → length (numbers_to n) ≡ n
 length-numbers_to zero = refl

@@ -1,10 +1,6 @@
 -- Frames and heads that grow.
-use Rattle.std.proofs.Common.{◌≡◌, ℕ, true, inl, inr, refl, List, ◌++◌, map}
-use Rattle.std.proofs.lemmas.List.{map-append}
-use Rattle.std.proofs.lemmas.List.Elements.{Contains-append_left}
-use Rattle.std.proofs.lemmas.List.Folds.{list_all-append}
+use Rattle.drawing.proofs.Words.{◌≡◌, ℕ, true, inl, inr, refl, List, ◌++◌, map, map-append, Contains-append_left, list_all-append, Tells, are_frame, placeless, without_place}
 use Rattle.svg.specs.declared.shape.Shape.{Shape}
-use Rattle.drawing.specs.Frame.{Tells, are_frame, placeless, without_place}
 
 pub joined : (xs ys : List Shape) → are_frame xs ≡ true → are_frame ys ≡ true → are_frame (xs ++ ys) ≡ true
 joined xs ys e f = rw (list_all-append _ xs ys, e, f) refl

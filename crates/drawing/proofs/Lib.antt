@@ -1,3 +1,4 @@
+pub mod Words
 pub mod Framing
 pub mod Stretching
 pub mod Sweeping

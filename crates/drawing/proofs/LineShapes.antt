@@ -1,11 +1,6 @@
 -- The outcomes of all processes, one after the other.
-use Rattle.std.proofs.Common.{◌≡◌, ◌<◌, ◌∙◌, ◌+◌, ℕ, suc, List, sym, ap, arith, flat_map, get_or, length}
-use Rattle.std.proofs.lemmas.List.Folds.{flat_map-map}
+use Rattle.drawing.proofs.Words.{◌≡◌, ◌<◌, ◌∙◌, ◌+◌, ℕ, suc, List, sym, ap, arith, flat_map, get_or, length, flat_map-map, Outcome, length-outcomes, outcomes-at, EntryRecord, numbers_to}
 use Rattle.judges.specs.Outcomes.{outcome, outcomes}
-use Rattle.judges.specs.declared.outcomes.Outcome.{Outcome}
-use Rattle.judges.proofs.Outcoming.{length-outcomes, outcomes-at}
-use Rattle.process_api.specs.EntryRecord.{EntryRecord}
-use Rattle.process_api.specs.Numbers.{numbers_to}
 
 module _ (trace : List EntryRecord) (n : ℕ) (xs : List Outcome) (are : xs ≡ outcomes trace n) where
   -- an item of them

@@ -1,14 +1,6 @@
 -- The rows of a process, one after the other.
-use Rattle.std.proofs.Common.{◌≡◌, ◌≢◌, ◌∙◌, ℕ, ◌+◌, ◌-◌, Bool, true, false, ◌||◌, cond, not, ap, sym, subst, arith, List, [], ◌∷◌, ◌++◌, filter, length, length-append, append-nil, append_assoc}
-use Rattle.std.proofs.lemmas.Grind.{flat_map-append}
-use Rattle.std.proofs.lemmas.List.Elements.{filter-append}
-use Rattle.process_api.specs.Numbers.{others}
+use Rattle.drawing.proofs.Words.{◌≡◌, ◌≢◌, ◌∙◌, ℕ, ◌+◌, ◌-◌, Bool, true, false, ◌||◌, cond, not, ap, sym, subst, arith, List, [], ◌∷◌, ◌++◌, filter, length, length-append, append-nil, append_assoc, flat_map-append, filter-append, others, placeless, AreRowsOf, pair_in, bands_in, row_at, bars_in, has_row_in, row_top, subjects, bands, pair_at, has_bar, has_row, upper_bars, Bar}
 use Rattle.scenario_record.specs.Record.{outages_on}
-use Rattle.drawing.specs.Frame.{placeless}
-use Rattle.drawing.specs.Inside.Drawn.{AreRowsOf, pair_in, bands_in, row_at, bars_in, has_row_in}
-use Rattle.drawing.specs.Layout.{row_top, subjects}
-use Rattle.drawing.specs.Suspicions.{bands, pair_at, has_bar, has_row, upper_bars}
-use Rattle.drawing.specs.declared.bars.Bar.{Bar}
 use Rattle.drawing.specs.declared.groups.Rows.{Rows}
 use Rattle.drawing.specs.declared.groups.Run.{Run}
 use Rattle.drawing.proofs.Counting.{others_itself, others_other}

@@ -1,9 +1,5 @@
 -- What a sweep knows, as turns go by.
-use Rattle.std.proofs.Common.{◌≡◌, ℕ, zero, suc, ◌+◌, ◌-◌, ◌<◌, ◌≤◌, max, Bool, true, false, cond, inl, inr, refl, sym, ap, ◌∙◌, arith, Option, None, Some, List}
-use Rattle.std.proofs.lemmas.Bool.{cases_lt, lt-ltb, le-ltb, le-leb, lt-leb}
-use Rattle.drawing.specs.Inside.Sweeping.{Found, passed_by, passed, found, stretches, found_of, IsPassed, IsSwept, after}
-use Rattle.drawing.specs.declared.bars.Bar.{Bar}
-use Rattle.drawing.specs.declared.sweep.Sweep.{Sweep}
+use Rattle.drawing.proofs.Words.{◌≡◌, ℕ, zero, suc, ◌+◌, ◌-◌, ◌<◌, ◌≤◌, max, Bool, true, false, cond, inl, inr, refl, sym, ap, ◌∙◌, arith, Option, None, Some, List, cases_lt, lt-ltb, le-ltb, le-leb, lt-leb, Found, passed_by, passed, found, stretches, found_of, IsPassed, IsSwept, after, Bar, Sweep}
 use Rattle.drawing.proofs.Stretching.{found_same}
 
 twice : (a b : ℕ) (holds : Bool) (ended : List Bar) (running : Option ℕ) → passed a holds (passed_by b holds ended running) ≡ passed_by b holds ended running

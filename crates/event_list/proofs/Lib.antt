@@ -1,3 +1,4 @@
+pub mod Words
 pub mod Opening
 pub mod Recording
 pub mod Standing

@@ -1,18 +1,7 @@
 -- How a run opens.
-use Rattle.std.proofs.Common.{◌≡◌, ◌-◌, sym, ap, ◌∙◌, List, [], slice_get, map}
+use Rattle.event_list.proofs.Words.{◌≡◌, ◌-◌, sym, ap, ◌∙◌, List, [], slice_get, map, Mind, numbers_to, Record, opening_mind, setting_of, Stands, Events, Process, starts, opening, opened, opening_world, opening_reached, setting_sound, number_at}
 use Rattle.std.proofs.lemmas.Simd.{map-map}
-use Rattle.process_api.specs.Mind.{Mind}
-use Rattle.process_api.specs.Numbers.{numbers_to}
 use Rattle.scenario_record.specs.Ranges.{IsInRange}
-use Rattle.scenario_record.specs.Record.{Record, opening_mind}
-use Rattle.trace_laws.specs.ScenarioSetting.{setting_of}
-use Rattle.event_list.specs.Inside.Standing.{Stands}
-use Rattle.trace_laws.specs.Step.{Events, Process}
-use Rattle.trace_laws.specs.World.{starts, opening, opened}
-use Rattle.trace_laws.proofs.Closed.{opening_world}
-use Rattle.trace_laws.proofs.Reaching.{opening_reached}
-use Rattle.trace_laws.proofs.Sound.{setting_sound}
-use Rattle.steps.proofs.Openings.{number_at}
 use Rattle.event_list.proofs.Standing.{opening_posted}
 
 -- machines that open as the scenario says stand at the opening

@@ -1,15 +1,6 @@
 -- A run whose entries are handed on.
-use Rattle.std.proofs.Common.{◌≡◌, ℕ, ap, subst, ◌∙◌, List, [], ◌∷◌, ◌++◌, length, append_assoc}
-use Rattle.std.specs.Prelude.{take}
-use Rattle.process_api.specs.EntryRecord.{EntryRecord}
-use Rattle.process_api.specs.Mind.{Mind}
-use Rattle.steps.specs.Posting.{Posted}
+use Rattle.event_list.proofs.Words.{◌≡◌, ℕ, ap, subst, ◌∙◌, List, [], ◌∷◌, ◌++◌, length, append_assoc, take, EntryRecord, Mind, Posted, Setting, Stands, Events, Process, IsTrace, reached_front}
 use Rattle.event_list.specs.Following.{WereTaken}
-use Rattle.trace_laws.specs.Setting.{Setting}
-use Rattle.event_list.specs.Inside.Standing.{Stands}
-use Rattle.trace_laws.specs.Step.{Events, Process}
-use Rattle.trace_laws.specs.World.{IsTrace}
-use Rattle.trace_laws.proofs.Reaching.{reached_front}
 
 -- so many entries were taken, and the letters of their steps were heard; the list stands after them
 pub record Going (S : Setting Mind) (processes : List (Process Mind)) (pending : Events) (old now : List EntryRecord → Type 0) (told : List Posted → Type 0) (count : ℕ) : Type 0 where

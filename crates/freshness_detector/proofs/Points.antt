@@ -1,20 +1,13 @@
 -- Who is suspected after a point is reached, and after a heartbeat came.
-use Rattle.std.proofs.Common.{◌≡◌, ℕ, refl, sym, ap, ◌∙◌, [], ◌∷◌, map, Bool, true, false, cond, not, ◌&&◌, ◌||◌, nat_eq, nat_le, nat_cmp, arith}
-use Rattle.std.proofs.lemmas.Bool.{eqb-true, false_from_ne_true}
+use Rattle.freshness_detector.proofs.Words.{◌≡◌, ℕ, refl, sym, ap, ◌∙◌, [], ◌∷◌, map, Bool, true, false, cond, not, ◌&&◌, ◌||◌, nat_eq, nat_le, nat_cmp, arith, eqb-true, false_from_ne_true, FreshnessState, watches, suspected, noted, heard, is_process, Place, Processes, changes, FreshnessNumbers, contains-remove_is, same_members}
 use Rattle.std.proofs.lemmas.Bool.Decides.{nat_tests}
 use Rattle.std.specs.FinSet as set
-use Rattle.process_api.specs.Freshness.{FreshnessState, watches, suspected, noted, heard}
-use Rattle.process_api.specs.Numbers.{is_process}
-use Rattle.process_api.specs.Place.{Place}
-use Rattle.process_api.specs.Sets.{Processes, changes}
 use Rattle.process_api.specs.declared.action.Action.TheVariants as action
 use Rattle.process_api.specs.declared.action.Note.TheVariants as note
-use Rattle.process_api.specs.declared.numbers.FreshnessNumbers.{FreshnessNumbers}
 use Rattle.process_api.proofs.Changes.{changes-left}
 use Rattle.process_api.proofs.FreshnessLaws.{contains-suspected, only_others}
 use Rattle.process_api.proofs.Keeping.{apart_from_itself}
 use Rattle.process_api.proofs.LayerNotes.{changes-none}
-use Rattle.process_api.proofs.Contains.{contains-remove_is, same_members}
 
 module _ (place : Place) (numbers : FreshnessNumbers) (s : FreshnessState) (suspects : Processes) (are : (q : ℕ) → set.contains suspects q ≡ set.contains (suspected place numbers s) q) where
   pub same_suspects : suspects ≡ suspected place numbers s

@@ -1,13 +1,5 @@
 -- A table with one more heartbeat stands for the state that heard it.
-use Rattle.std.proofs.Common.{◌≡◌, ◌≢◌, ◌⊎◌, inl, inr, ℕ, ◌<◌, sym, ap, ◌∙◌, List, length, Bool, false, cond, ◌||◌, nat_le, Option, None, slice_index_or, slice_set}
-use Rattle.std.proofs.lemmas.Bool.{cases_eq, eq-eqb, ne_eqb}
-use Rattle.std.proofs.lemmas.List.{get_or-set_same, get_or-set_other}
-use Rattle.std.specs.Option.{option_map_or}
-use Rattle.process_api.specs.Freshness.{heard}
-use Rattle.process_api.specs.Numbers.{change}
-use Rattle.process_api.specs.Place.{Place}
-use Rattle.process_api.specs.declared.numbers.FreshnessNumbers.{FreshnessNumbers}
-use Rattle.freshness_detector.specs.Inside.Tables.{state_by}
+use Rattle.freshness_detector.proofs.Words.{◌≡◌, ◌≢◌, ◌⊎◌, inl, inr, ℕ, ◌<◌, sym, ap, ◌∙◌, List, length, Bool, false, cond, ◌||◌, nat_le, Option, None, slice_index_or, slice_set, cases_eq, eq-eqb, ne_eqb, get_or-set_same, get_or-set_other, option_map_or, heard, change, Place, FreshnessNumbers, state_by}
 
 module _ (latest : List (Option ℕ)) (q j : ℕ) (g : Option ℕ) (inside : q < length latest)
     (is : (i : ℕ) → option_map_or (nat_le i) g false ≡ (nat_le i j || option_map_or (nat_le i) (slice_index_or latest q None) false)) where

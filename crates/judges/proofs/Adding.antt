@@ -1,11 +1,5 @@
 -- One more entry after all others of a rising list.
-use Rattle.std.proofs.Common.{◌≡◌, ℕ, zero, suc, true, ◌&&◌, refl, ap, ◌∙◌, List, [], ◌∷◌, ◌++◌, length, get_or, arith}
-use Rattle.std.specs.List.{list_all}
-use Rattle.std.proofs.lemmas.List.Folds.{list_all-append}
-use Rattle.std.proofs.lemmas.Bool.{and_parts, and_from}
-use Rattle.process_api.specs.Order.{is_less, is_before, is_rising}
-use Rattle.process_api.specs.EntryRecord.{EntryRecord}
-use Rattle.process_api.proofs.KeyOrder.{keys_total}
+use Rattle.judges.proofs.Words.{◌≡◌, ℕ, zero, suc, true, ◌&&◌, refl, ap, ◌∙◌, List, [], ◌∷◌, ◌++◌, length, get_or, arith, list_all, list_all-append, and_parts, and_from, is_less, is_before, is_rising, EntryRecord, keys_total}
 use Rattle.judges.proofs.Order.{less_from}
 
 before-trans : (a b c : EntryRecord) → is_before a.key b.key ≡ true → is_before b.key c.key ≡ true → is_before a.key c.key ≡ true

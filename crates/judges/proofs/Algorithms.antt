@@ -1,30 +1,15 @@
 -- What the algorithms do: they send letters of their own kinds, and note rounds and decisions alone.
-use Rattle.std.proofs.Common.{ℕ, zero, suc, ◌+◌, Bool, true, false, ◌&&◌, nat_lt, nat_le, nat_eq, Option, None, Some, is_some, unwrap_or, [], ◌∷◌}
-use Rattle.std.specs.List.{AllByRecursion}
+use Rattle.judges.proofs.Words.{ℕ, zero, suc, ◌+◌, Bool, true, false, ◌&&◌, nat_lt, nat_le, nat_eq, Option, None, Some, is_some, unwrap_or, [], ◌∷◌, AllByRecursion, cond_both, Answer, still, after, to_all, Coordinator, broadcast, AlgorithmState, Idle, Exchanging, Coordinating, numbers_to, react_algorithm, Processes, Action, Phase, Collect, Await, Tally, Payload, StepInput, both, images, always}
 use Rattle.std.specs.FinSet as set
-use Rattle.std.proofs.lemmas.Bool.{cond_both}
 use Rattle.process_api.specs.Cells.{cell}
-use Rattle.process_api.specs.Answer.{Answer, still, after, to_all}
 use Rattle.process_api.specs.ConsensusS.{Exchange}
 use Rattle.process_api.specs.ConsensusS as exchange
-use Rattle.process_api.specs.Coordinator.{Coordinator}
 use Rattle.process_api.specs.Coordinator as rotating
-use Rattle.process_api.specs.Diffusion.{broadcast}
-use Rattle.process_api.specs.Mind.{AlgorithmState, Idle, Exchanging, Coordinating}
-use Rattle.process_api.specs.Numbers.{numbers_to}
-use Rattle.process_api.specs.React.{react_algorithm}
 use Rattle.process_api.specs.Rounds.{coordinator, greatest_round, is_own, majority, count_to}
-use Rattle.process_api.specs.Sets.{Processes}
-use Rattle.process_api.specs.declared.action.Action.{Action}
 use Rattle.process_api.specs.declared.action.Action.TheVariants as action
 use Rattle.process_api.specs.declared.action.Note.TheVariants as note
-use Rattle.process_api.specs.declared.consensus.Phase.{Phase}
-use Rattle.process_api.specs.declared.consensus.Phase.TheVariants.{Collect, Await, Tally}
-use Rattle.process_api.specs.declared.message.Payload.{Payload}
 use Rattle.process_api.specs.declared.message.Payload.TheVariants as payload
-use Rattle.process_api.specs.declared.message.StepInput.{StepInput}
 use Rattle.process_api.specs.declared.message.StepInput.TheVariants as input
-use Rattle.process_api.proofs.Lists.{both, images, always}
 
 -- what an algorithm may do: it sends no letter of another part, asks for no wake, and notes no suspicion and no trust
 abbrev pub IsOfAlgorithm : Action → Type 0

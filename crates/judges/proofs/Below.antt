@@ -1,7 +1,5 @@
 -- What holds of all numbers below an end, and of some.
-use Rattle.std.proofs.Common.{◌≡◌, ℕ, zero, suc, ◌<◌, Bool, true, false, cond, ◌||◌, inl, inr, refl, sym, ap, ◌∙◌, arith}
-use Rattle.std.proofs.lemmas.Bool.{cases_eq, cases_lt, and_parts, and_from, or_parts, or_cases, or_left, or_right, true≢false}
-use Rattle.judges.specs.Ticks.{all_below, any_below}
+use Rattle.judges.proofs.Words.{◌≡◌, ℕ, zero, suc, ◌<◌, Bool, true, false, cond, ◌||◌, inl, inr, refl, sym, ap, ◌∙◌, arith, cases_eq, cases_lt, and_parts, and_from, or_parts, or_cases, or_left, or_right, true≢false, all_below, any_below}
 
 pub all_below-at : (test : ℕ → Bool) (n : ℕ) → all_below test n ≡ true → (u : ℕ) → u < n → test u ≡ true
 all_below-at test zero e u l = absurd (omega arith)

@@ -1,39 +1,19 @@
 -- Every suspicion of layer 2 has an earlier one of layer 1: a set that is on its way was some base detector's, which had noted
 -- each of its members.
-use Rattle.std.proofs.Common.{◌≡◌, ℕ, inl, inr, refl, sym, ap, ◌∙◌, subst, Bool, true, false, cond, List, [], ◌∷◌, ◌++◌, append_assoc, append-nil, ◌⊎◌, ◌≤◌, ◌&&◌, ◌==◌, nat_le, arith, fold}
+use Rattle.judges.proofs.Words.{◌≡◌, ℕ, inl, inr, refl, sym, ap, ◌∙◌, subst, Bool, true, false, cond, List, [], ◌∷◌, ◌++◌, append_assoc, append-nil, ◌⊎◌, ◌≤◌, ◌&&◌, ◌==◌, nat_le, arith, fold, cases_eq, cond_both, leb-true, eqb-true, and_parts, Answer, EntryRecord, Processes, Action, Key, StepInput, IsIn, in_left, in_right, in_append, process_at, process_other, taken_cases, taken_world, opening_world, trace_rises, list_all, is_before, is_rising, Suspect, Trust, ticks_rise, IsInRange, Record, setting_of, setting_sound, Set, nobody, with, without, notes_until, after_note, out}
 use Rattle.std.specs.FinSet as set
-use Rattle.std.proofs.lemmas.Bool.{cases_eq, cond_both, leb-true, eqb-true, and_parts}
-use Rattle.process_api.specs.Answer.{Answer}
-use Rattle.process_api.specs.EntryRecord.{EntryRecord}
-use Rattle.process_api.specs.Sets.{Processes}
-use Rattle.process_api.specs.declared.action.Action.{Action}
 use Rattle.process_api.specs.declared.action.Action.TheVariants as action
 use Rattle.process_api.specs.declared.action.Note.{Note}
 use Rattle.process_api.specs.declared.action.Note.TheVariants as note
-use Rattle.process_api.specs.declared.key.Key.{Key}
 use Rattle.process_api.specs.declared.message.Payload.TheVariants as payload
-use Rattle.process_api.specs.declared.message.StepInput.{StepInput}
 use Rattle.process_api.specs.declared.message.StepInput.TheVariants as input
 use Rattle.trace_laws.specs.Setting.{Setting, IsSound, IsProcess, has_crashed}
 use Rattle.trace_laws.specs.Step.{Process, Made, noted, dead, made_by}
 use Rattle.trace_laws.specs.World.{World, Pair, Has, IsWorld, Run, made, taken, opening, entries, IsTrace}
-use Rattle.trace_laws.specs.History.{IsIn}
-use Rattle.trace_laws.proofs.Steps.{in_left, in_right, in_append}
-use Rattle.trace_laws.proofs.Worlds.{process_at, process_other, taken_cases, taken_world}
-use Rattle.trace_laws.proofs.Closed.{opening_world, trace_rises}
 use Rattle.judges.proofs.Letters.{added_letter, no_letter_first}
 use Rattle.judges.proofs.PartsActions.{IsSharing, IsShared, RunsReduction}
 use Rattle.judges.proofs.Members.{each_of}
-use Rattle.std.specs.List.{list_all}
-use Rattle.process_api.specs.Order.{is_before, is_rising}
-use Rattle.process_api.specs.declared.action.Note.TheVariants.{Suspect, Trust}
-use Rattle.process_api.proofs.KeyOrder.{ticks_rise}
-use Rattle.scenario_record.specs.Ranges.{IsInRange}
-use Rattle.scenario_record.specs.Record.{Record}
-use Rattle.trace_laws.specs.ScenarioSetting.{setting_of}
-use Rattle.trace_laws.proofs.Sound.{setting_sound}
 use Rattle.judges.specs.Blame.{IsBlamedBy, SharesSuspicions}
-use Rattle.judges.specs.Out.{Set, nobody, with, without, notes_until, after_note, out}
 use Rattle.judges.proofs.Instances.{runs_reduction}
 use Rattle.judges.proofs.Order.{less_from}
 

@@ -1,20 +1,5 @@
 -- The verdicts at the close.
-use Rattle.std.proofs.Common.{◌≡◌, ℕ, zero, suc, ◌+◌, ◌*◌, ◌<◌, Bool, cond, not, ◌&&◌, inl, inr, refl, sym, ap, ◌∙◌, subst, arith, Option, None, Some, List, get_or}
-use Rattle.std.proofs.lemmas.Bool.{cases_lt, lt-ltb, le-ltb, eq-eqb, ne_eqb}
-use Rattle.std.proofs.Math.Bool.{not-not}
-use Rattle.process_api.specs.EntryRecord.{EntryRecord}
-use Rattle.scenario_record.specs.Record.{Record}
-use Rattle.judges.specs.Crashes.{crash_tick, is_crashed, is_correct, end_of}
-use Rattle.judges.specs.Ticks.{all_below, any_below}
-use Rattle.judges.specs.Out.{suspects}
-use Rattle.judges.specs.Verdicts.{verdicts}
-use Rattle.judges.specs.Pair.{opened}
-use Rattle.judges.specs.Pairs.{ArePairs, fed}
-use Rattle.judges.specs.Turns.{turns}
-use Rattle.judges.specs.Track.{Knows, new_track, passed, suspected_from, trusted_from, latest, earliest, latest_below, earliest_below}
-use Rattle.judges.specs.Grid.{pair, place, counts_as_correct, row_suspected, column_suspected, row_trusted, column_trusted, column_right, grid_verdicts}
-use Rattle.judges.specs.declared.pairs.Pairs.{Pairs}
-use Rattle.judges.specs.declared.track.Track.{Track}
+use Rattle.judges.proofs.Words.{◌≡◌, ℕ, zero, suc, ◌+◌, ◌*◌, ◌<◌, Bool, cond, not, ◌&&◌, inl, inr, refl, sym, ap, ◌∙◌, subst, arith, Option, None, Some, List, get_or, cases_lt, lt-ltb, le-ltb, eq-eqb, ne_eqb, not-not, EntryRecord, Record, crash_tick, is_crashed, is_correct, end_of, all_below, any_below, suspects, verdicts, opened, ArePairs, fed, turns, Knows, new_track, passed, suspected_from, trusted_from, latest, earliest, latest_below, earliest_below, pair, place, counts_as_correct, row_suspected, column_suspected, row_trusted, column_trusted, column_right, grid_verdicts, Pairs, Track}
 use Rattle.judges.proofs.Judging.{AreTracks, judged, verdicts_are}
 use Rattle.judges.proofs.Tracks.{tracks_keep, none_known}
 use Rattle.judges.proofs.Standing.{IsKnown, fed_known, shown, shown_all}

@@ -1,21 +1,9 @@
 -- All pairs, as they open and as they are fed with one more entry.
-use Rattle.std.proofs.Common.{◌≡◌, ◌≢◌, ℕ, suc, ◌+◌, ◌-◌, ◌*◌, ◌/◌, ◌%◌, ◌<◌, ◌≤◌, min, Bool, cond, ◌&&◌, inl, inr, refl, sym, ap, ◌∙◌, subst, arith, eqb, List, [], ◌∷◌, ◌++◌, set, length, get_or}
+use Rattle.judges.proofs.Words.{◌≡◌, ◌≢◌, ℕ, suc, ◌+◌, ◌-◌, ◌*◌, ◌/◌, ◌%◌, ◌<◌, ◌≤◌, min, Bool, cond, ◌&&◌, inl, inr, refl, sym, ap, ◌∙◌, subst, arith, eqb, List, [], ◌∷◌, ◌++◌, set, length, get_or, and-true, cases_eq, cond-true, cond-false, cond_both, lt-ltb, eq-eqb, eqb-true, ne_eqb, with_items_is, get_or_default, get_or-set_same, get_or-set_other, length-set, fold-append, mul-add-lt, div-mul-add, mod-mul-add, EntryRecord, Record, end_of, AreEnds, end_tick, opened_at, opened, turned, all_turned, AreTurned, Turn, noted_turns, entry_turns, turns, Pairs}
 use Rattle.std.specs.Vec.{with_items, vec_len}
-use Rattle.std.proofs.Math.Bool.{and-true}
-use Rattle.std.proofs.lemmas.Bool.{cases_eq, cond-true, cond-false, cond_both, lt-ltb, eq-eqb, eqb-true, ne_eqb}
-use Rattle.std.proofs.lemmas.List.{with_items_is, get_or_default, get_or-set_same, get_or-set_other, length-set}
-use Rattle.std.proofs.lemmas.List.Sums.{fold-append}
-use Rattle.std.proofs.lemmas.Nat.{mul-add-lt, div-mul-add, mod-mul-add}
 use Rattle.process_api.specs.Bounds.{most_processes}
-use Rattle.process_api.specs.EntryRecord.{EntryRecord}
-use Rattle.scenario_record.specs.Record.{Record}
-use Rattle.judges.specs.Crashes.{end_of}
-use Rattle.judges.specs.Ends.{AreEnds, end_tick, opened_at}
-use Rattle.judges.specs.Pair.{opened, turned, all_turned, AreTurned}
 use Rattle.judges.specs.Pairs.{AreUntil, ArePairs, fed}
-use Rattle.judges.specs.Turns.{Turn, noted_turns, entry_turns, turns}
 use Rattle.judges.specs.declared.pair.Pair.{Pair}
-use Rattle.judges.specs.declared.pairs.Pairs.{Pairs}
 use Rattle.judges.proofs.Turns.{turns_more, turns_late, turns_quiet, in_order_more}
 
 module _ {K : Type 0} (passed : ℕ → Bool → ℕ → K → K) where

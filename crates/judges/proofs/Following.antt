@@ -1,7 +1,5 @@
 -- Whoever follows a trace, told of one more entry.
-use Rattle.std.proofs.Common.{ℕ, List, [], ◌∷◌, ◌++◌}
-use Rattle.process_api.specs.EntryRecord.{EntryRecord}
-use Rattle.scenario_record.specs.Record.{Record}
+use Rattle.judges.proofs.Words.{ℕ, List, [], ◌∷◌, ◌++◌, EntryRecord, Record}
 use Rattle.judges.specs.Judging.{AreUntil, HasFollowed}
 use Rattle.judges.proofs.Order.{before_one, rising_front}
 

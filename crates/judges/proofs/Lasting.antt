@@ -1,7 +1,5 @@
 -- The least tick from which a test passes to the end.
-use Rattle.std.proofs.Common.{◌≡◌, ℕ, zero, suc, ◌<◌, ◌≤◌, Bool, true, false, cond, ◌&&◌, inl, inr, refl, sym, ap, ◌∙◌, arith, ltb, None, Some}
-use Rattle.std.proofs.lemmas.Bool.{cases_lt, lt-ltb, cond-true, cond-false, or_right, or_left, or_cases, and_parts, and_from, ltb-true}
-use Rattle.judges.specs.Ticks.{all_from, first_of, least_below, before}
+use Rattle.judges.proofs.Words.{◌≡◌, ℕ, zero, suc, ◌<◌, ◌≤◌, Bool, true, false, cond, ◌&&◌, inl, inr, refl, sym, ap, ◌∙◌, arith, ltb, None, Some, cases_lt, lt-ltb, cond-true, cond-false, or_right, or_left, or_cases, and_parts, and_from, ltb-true, all_from, first_of, least_below, before}
 use Rattle.judges.proofs.Below.{all_below-at, all_below-from}
 
 pub least_below-none : (test : ℕ → Bool) (n : ℕ) → ((u : ℕ) → u < n → test u ≡ false) → least_below test n ≡ None

@@ -1,21 +1,10 @@
 -- Where letters come from: each that is on its way was sent, and none is at first.
-use Rattle.std.proofs.Common.{◌≡◌, ℕ, zero, suc, inl, inr, sym, ap, ◌∙◌, nat_lt, ◌==◌, [], ◌∷◌, List}
-use Rattle.std.proofs.lemmas.Bool.{cond_both}
-use Rattle.process_api.specs.declared.key.Key.{Key}
-use Rattle.process_api.specs.declared.message.Payload.{Payload}
-use Rattle.process_api.specs.declared.message.StepInput.{StepInput}
+use Rattle.judges.proofs.Words.{◌≡◌, ℕ, zero, suc, inl, inr, sym, ap, ◌∙◌, nat_lt, ◌==◌, [], ◌∷◌, List, cond_both, Key, Payload, StepInput, Action, Setting, Event, in_time, by_fate, counted, joining, added, Has, starts, start_of, IsIn, in_append, key_cmp}
 use Rattle.process_api.specs.declared.message.StepInput.TheVariants as input
-use Rattle.process_api.specs.declared.action.Action.{Action}
 use Rattle.process_api.specs.declared.action.Action.TheVariants as action
 use Rattle.streams.specs.declared.fate.Fate.{Fate}
 use Rattle.streams.specs.declared.fate.Fate.TheVariants as fate
-use Rattle.trace_laws.specs.Setting.{Setting}
-use Rattle.trace_laws.specs.Step.{Event, in_time, by_fate, counted, joining, added}
-use Rattle.trace_laws.specs.World.{Has, starts, start_of}
-use Rattle.trace_laws.specs.History.{IsIn}
-use Rattle.trace_laws.proofs.Steps.{in_append}
 use Rattle.std.specs.FinMap as finmap
-use Rattle.process_api.specs.Order.{key_cmp}
 use Rattle.trace_laws.proofs.Sets.{inserted, not_None}
 
 module _ {Mind : Type 0} (S : Setting Mind) where

@@ -1,3 +1,4 @@
+pub mod Words
 -- the verdicts: tracks tell since when one process suspects another, and the grid of all tracks tells the verdicts
 pub mod Below
 pub mod Lasting

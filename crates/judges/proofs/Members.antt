@@ -1,7 +1,5 @@
 -- The members of a list, of its image under a function, and of what a filter lets through.
-use Rattle.std.proofs.Common.{◌≡◌, inl, inr, refl, sym, ap, ◌∙◌, subst, Bool, true, false, cond, List, [], ◌∷◌, map}
-use Rattle.std.specs.List.{AllByRecursion, filter}
-use Rattle.trace_laws.specs.History.{IsIn}
+use Rattle.judges.proofs.Words.{◌≡◌, inl, inr, refl, sym, ap, ◌∙◌, subst, Bool, true, false, cond, List, [], ◌∷◌, map, AllByRecursion, filter, IsIn}
 
 -- what holds of all holds of each
 pub each_of : {X : Type 0} (P : X → Type 0) (xs : List X) → AllByRecursion P xs → (x : X) → IsIn x xs → P x

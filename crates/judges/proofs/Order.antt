@@ -1,13 +1,6 @@
 -- Rising keys have rising ticks.
-use Rattle.std.proofs.Common.{◌≡◌, ℕ, suc, ◌<◌, true, refl, sym, ap, ◌∙◌, List, [], ◌∷◌, ◌++◌, take, drop, length, get_or, Ordering, Less, Equal, Greater}
-use Rattle.std.specs.List.{list_all}
+use Rattle.judges.proofs.Words.{◌≡◌, ℕ, suc, ◌<◌, true, refl, sym, ap, ◌∙◌, List, [], ◌∷◌, ◌++◌, take, drop, length, get_or, Ordering, Less, Equal, Greater, list_all, take-append-drop, list_all-append, and_parts, and_from, is_less, is_before, is_rising, EntryRecord, ticks_rise}
 use Rattle.std.proofs.Math.Seq.{drop-cons}
-use Rattle.std.proofs.lemmas.List.{take-append-drop}
-use Rattle.std.proofs.lemmas.List.Folds.{list_all-append}
-use Rattle.std.proofs.lemmas.Bool.{and_parts, and_from}
-use Rattle.process_api.specs.Order.{is_less, is_before, is_rising}
-use Rattle.process_api.specs.EntryRecord.{EntryRecord}
-use Rattle.process_api.proofs.KeyOrder.{ticks_rise}
 use Rattle.judges.specs.Judging.{AreUntil}
 
 pub less_from : (o : Ordering) → is_less o ≡ true → o ≡ Less

@@ -1,32 +1,20 @@
 -- What the parts of a process do at an input: a base detector of any kind, a reduction above it, and above that an algorithm
 -- of any kind.
-use Rattle.std.specs.List.{AllByRecursion, filter}
+use Rattle.judges.proofs.Words.{AllByRecursion, filter, Action, StepInput, IsIn, ◌≡◌, ℕ, inl, inr, refl, sym, ap, ◌∙◌, true, false, ◌&&◌, not, nat_le, map, ◌⊎◌, zero, suc, ◌≤◌, subst, Bool, cond, nat_eq, List, [], ◌∷◌, arith, and_parts, or_cases, not-true, leb-true, cases_eq, to_all, numbers_to, is_process, Place, ReductionState, gathered, next_share, step_reduction, both, images, always, IsDetectorStep, IsOfDetector, in_append, in_left, in_right}
 use Rattle.std.specs.FinSet as set
 use Rattle.process_api.specs.Sets.{Processes, up_to, gone, changes}
-use Rattle.process_api.specs.declared.action.Action.{Action}
 use Rattle.process_api.specs.declared.action.Action.TheVariants as action
 use Rattle.process_api.specs.declared.action.Note.TheVariants as note
 use Rattle.process_api.specs.declared.message.Payload.TheVariants as payload
-use Rattle.process_api.specs.declared.message.StepInput.{StepInput}
 use Rattle.process_api.specs.declared.message.StepInput.TheVariants as input
 use Rattle.trace_laws.specs.Setting.{Setting, IsProcess}
-use Rattle.trace_laws.specs.History.{IsIn}
-use Rattle.std.proofs.Common.{◌≡◌, ℕ, inl, inr, refl, sym, ap, ◌∙◌, true, false, ◌&&◌, not, nat_le, map, ◌⊎◌, zero, suc, ◌≤◌, subst, Bool, cond, nat_eq, List, [], ◌∷◌, arith}
 use Rattle.std.specs.Cmp.{nat_cmp_total}
 use Rattle.std.specs.FinMap.{nat_cmp-IsAntisymmetric}
-use Rattle.std.proofs.lemmas.Bool.{and_parts, or_cases, not-true, leb-true, cases_eq}
-use Rattle.process_api.specs.Answer.{to_all}
-use Rattle.process_api.specs.Numbers.{numbers_to, is_process}
-use Rattle.process_api.specs.Place.{Place}
-use Rattle.process_api.specs.Reduction.{ReductionState, gathered, next_share, step_reduction}
 use Rattle.process_api.specs.declared.action.Note.{Note}
 use Rattle.process_api.specs.declared.message.Tag.TheVariants as tag
-use Rattle.process_api.proofs.Lists.{both, images, always}
 use Rattle.judges.proofs.Algorithms.{all_sent, IsOfAlgorithm}
 use Rattle.process_api.specs.Actions.{of_layer, notes_of_layer}
-use Rattle.process_api.specs.BaseDetector.{IsDetectorStep, IsOfDetector}
 use Rattle.process_api.specs.Watching.{is_other}
-use Rattle.trace_laws.proofs.Steps.{in_append, in_left, in_right}
 use Rattle.judges.proofs.Members.{in_image, in_filter}
 use Rattle.judges.proofs.Agreement.Joined.{IsOfLower}
 

@@ -1,14 +1,5 @@
 -- What is kept of a pair after its turns in a trace, as all ticks below the horizon are behind.
-use Rattle.std.proofs.Common.{◌≡◌, ℕ, ◌<◌, ◌≤◌, Bool, true, false, cond, inl, inr, refl, ap, ◌∙◌, subst, arith, List, [], ◌∷◌}
-use mathlib.Core.Bool.{beq}
-use Rattle.std.proofs.lemmas.Bool.{cases_lt, cond_both, le-leb, lt-leb}
-use Rattle.process_api.specs.EntryRecord.{EntryRecord}
-use Rattle.scenario_record.specs.Record.{Record}
-use Rattle.judges.specs.Crashes.{end_of}
-use Rattle.judges.specs.Out.{suspects}
-use Rattle.judges.specs.Pair.{opened, turned, all_turned, kept_at}
-use Rattle.judges.specs.Pairs.{AreFrom, fed}
-use Rattle.judges.specs.Turns.{Turn, turns}
+use Rattle.judges.proofs.Words.{◌≡◌, ℕ, ◌<◌, ◌≤◌, Bool, true, false, cond, inl, inr, refl, ap, ◌∙◌, subst, arith, List, [], ◌∷◌, beq, cases_lt, cond_both, le-leb, lt-leb, EntryRecord, Record, end_of, suspects, opened, turned, all_turned, kept_at, AreFrom, fed, Turn, turns}
 use Rattle.judges.specs.declared.pair.Pair.{Pair}
 use Rattle.judges.proofs.Turns.{stood, standing, AreWithin, suspects_is, turns_within}
 

@@ -1,12 +1,6 @@
 -- What a track knows as it goes on, and what it tells at the end.
-use Rattle.std.proofs.Common.{◌≡◌, ℕ, zero, suc, ◌-◌, ◌<◌, ◌≤◌, min, Bool, true, false, cond, not, ◌&&◌, ◌||◌, inl, inr, refl, sym, ap, ◌∙◌, subst, arith, ltb, None, Some}
-use Rattle.std.proofs.lemmas.Bool.{cases_lt, lt-ltb, le-ltb, le-leb, lt-leb, cond-true, cond-false, cond_both, both_ways, false_from_ne_true}
-use Rattle.std.proofs.lemmas.Bool.Decides.{nat_tests}
-use Rattle.std.proofs.Math.Bool.{or-false, or-true}
-use mathlib.Core.Bool.{beq}
-use Rattle.judges.specs.Ticks.{any_below, all_from, before}
+use Rattle.judges.proofs.Words.{◌≡◌, ℕ, zero, suc, ◌-◌, ◌<◌, ◌≤◌, min, Bool, true, false, cond, not, ◌&&◌, ◌||◌, inl, inr, refl, sym, ap, ◌∙◌, subst, arith, ltb, None, Some, cases_lt, lt-ltb, le-ltb, le-leb, lt-leb, cond-true, cond-false, cond_both, both_ways, false_from_ne_true, nat_tests, or-false, or-true, beq, any_below, all_from, before, Track}
 use Rattle.judges.specs.Track.{Knows, IsSteady, IsReached, new_track, gone, passed, suspected_from, trusted_from}
-use Rattle.judges.specs.declared.track.Track.{Track}
 use Rattle.judges.proofs.Below.{any_below-from}
 use Rattle.judges.proofs.Lasting.{all_from-at, all_from-from, last_before}
 use Rattle.judges.proofs.Standing.{IsKeeping, same_from_beq}

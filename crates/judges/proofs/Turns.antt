@@ -1,16 +1,8 @@
 -- The turns of a pair in a trace, and whether its observer suspects its subject by them.
-use Rattle.std.proofs.Common.{◌≡◌, ◌≢◌, ℕ, ◌+◌, ◌<◌, ◌≤◌, Bool, true, false, cond, ◌&&◌, inl, inr, refl, sym, ap, ◌∙◌, arith, leb, ltb, eqb, Option, None, Some, List, [], ◌∷◌, ◌++◌, take, length, get_or, append-nil}
+use Rattle.judges.proofs.Words.{◌≡◌, ◌≢◌, ℕ, ◌+◌, ◌<◌, ◌≤◌, Bool, true, false, cond, ◌&&◌, inl, inr, refl, sym, ap, ◌∙◌, arith, leb, ltb, eqb, Option, None, Some, List, [], ◌∷◌, ◌++◌, take, length, get_or, append-nil, cases_Bool, cond-true, cond-false, cond_both, and_parts, and_from, and_left, and_right, le-leb, lt-leb, lt-ltb, le-ltb, eq-eqb, ne_eqb, leb-true, leb-false, ltb-true, flat_map-append, take_more, fold-append, EntryRecord, Suspect, Trust, Set, nobody, with, without, after_note, notes_until, suspects, Turn, turn_of, turns_at, noted_turns, entry_turns, turns}
 use Rattle.std.specs.List.{fold}
-use Rattle.std.proofs.lemmas.Bool.{cases_Bool, cond-true, cond-false, cond_both, and_parts, and_from, and_left, and_right, le-leb, lt-leb, lt-ltb, le-ltb, eq-eqb, ne_eqb, leb-true, leb-false, ltb-true}
-use Rattle.std.proofs.lemmas.Grind.{flat_map-append}
-use Rattle.std.proofs.lemmas.List.{take_more}
-use Rattle.std.proofs.lemmas.List.Sums.{fold-append}
-use Rattle.process_api.specs.EntryRecord.{EntryRecord}
 use Rattle.process_api.specs.declared.action.Note.{Note}
-use Rattle.process_api.specs.declared.action.Note.TheVariants.{Suspect, Trust}
-use Rattle.judges.specs.Out.{Set, nobody, with, without, after_note, notes_until, suspects}
 use Rattle.judges.specs.Pairs.{AreFrom, AreUntil}
-use Rattle.judges.specs.Turns.{Turn, turn_of, turns_at, noted_turns, entry_turns, turns}
 
 -- whether there is suspicion at a tick, after turns
 abbrev pub stood : (ℕ → Bool) → Turn → ℕ → Bool

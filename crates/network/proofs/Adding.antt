@@ -1,14 +1,5 @@
 -- Outages that are added table by table, or source by source.
-use Rattle.std.proofs.Common.{◌≡◌, ℕ, ◌+◌, ◌<◌, ◌≤◌, Bool, true, false, cond, refl, ap, sym, ◌∙◌, List, [], ◌∷◌, ◌++◌, length, get_or, map, filter, take, append-nil, append_assoc, length-append, if◌then◌else◌, arith}
-use Rattle.std.specs.List.{flat_map, range_with_len, enumerate_from}
-use Rattle.std.proofs.lemmas.Grind.{flat_map-append}
-use Rattle.std.proofs.lemmas.List.{flat_map_more, take_more, map-append, take_all}
-use Rattle.std.proofs.lemmas.List.Elements.{filter_more}
-use Rattle.std.proofs.lemmas.List.FromFn.{length-range_with_len, get_or-range_with_len, get_or-enumerate_from}
-use Rattle.std.proofs.lemmas.List.Folds.{length-flat_map-take}
-use Rattle.scenario_record.specs.declared.outage.Outage.{Outage}
-use Rattle.network.specs.Drawn.{on_each, outage_on}
-use Rattle.network.specs.declared.group.Ends.{Ends}
+use Rattle.network.proofs.Basics.{◌≡◌, ℕ, ◌+◌, ◌<◌, ◌≤◌, Bool, true, false, cond, refl, ap, sym, ◌∙◌, List, [], ◌∷◌, ◌++◌, length, get_or, map, filter, take, append-nil, append_assoc, length-append, if◌then◌else◌, arith, flat_map, range_with_len, enumerate_from, flat_map-append, flat_map_more, take_more, map-append, take_all, filter_more, length-range_with_len, get_or-range_with_len, get_or-enumerate_from, length-flat_map-take, Outage, on_each, outage_on, Ends}
 
 -- what one more adds, to what those before it added
 pub adds_more : {X A : Type 0} (f : X → List A) (old now more : List A) (xs : List X) (i : ℕ) (x : X)

@@ -1,18 +1,8 @@
 -- The tables of an array of tables.
-use Rattle.std.proofs.Common.{◌≡◌, ℕ, zero, suc, ◌<◌, ◌+◌, ◌++◌, Bool, true, false, if◌then◌else◌, List, [], ◌∷◌, length, get_or, map, slice_get, Some, None, option_and_then, refl, ap, sym, ◌∙◌, add-one}
-use Rattle.std.specs.List.{AllZip}
-use Rattle.std.proofs.lemmas.List.{length-map, get_or-map}
-use Rattle.std.proofs.lemmas.Option.{slice_get-get_or}
-use Rattle.toml.specs.Data.{Data, Items, Members, no_items, item, table, array, as_array, as_table, get_item, get_member}
-use Rattle.toml.specs.View.{view, items_view}
-use Rattle.toml.specs.declared.value.Value.{Value}
-use Rattle.toml.proofs.Views.{get_item_within}
+use Rattle.network.proofs.Basics.{◌≡◌, ℕ, zero, suc, ◌<◌, ◌+◌, ◌++◌, Bool, true, false, if◌then◌else◌, List, [], ◌∷◌, length, get_or, map, slice_get, Some, None, option_and_then, refl, ap, sym, ◌∙◌, add-one, AllZip, length-map, get_or-map, slice_get-get_or, Data, Items, Members, no_items, item, table, array, as_array, as_table, get_item, get_member, view, items_view, Value, get_item_within, numbered, count, items_in}
 use Rattle.scenario.specs.Table.{all_items, array_in, is_of, is_table, tables_at, the_tables}
-use Rattle.scenario.specs.Place.{numbered}
-use Rattle.scenario.specs.Faults.{count}
 use Rattle.scenario.specs.declared.field.Kind.TheVariants as kind
 use Rattle.scenario.proofs.Items.{count_view}
-use Rattle.network.specs.Fields.{items_in}
 
 -- the tables of an array that is there, and of none
 tables_at-array : (key : List ℕ) (t : Members) (ds : Items) (b : Bool) → array_in key t ≡ Some ds

@@ -1,13 +1,7 @@
 -- Files and tables that are as they should be.
-use Rattle.std.proofs.Common.{◌≡◌, ◌≤◌, [], List, length, true, Result, Ok, Err, OnOk, Some, None, refl, sym, subst, arith}
-use Rattle.std.specs.List.{All}
-use Rattle.toml.specs.Data.{Data, Members, get_member}
+use Rattle.network.proofs.Basics.{◌≡◌, ◌≤◌, [], List, length, true, Result, Ok, Err, OnOk, Some, None, refl, sym, subst, arith, All, Data, Members, get_member, most_tables, items_in, key_of, AreTablesOf, IsTableOf, TableKind}
 use Rattle.scenario.specs.Table.{is_of, the_tables, tables_at}
 use Rattle.scenario.specs.declared.field.Kind.TheVariants as kind
-use Rattle.network.specs.Words.{most_tables}
-use Rattle.network.specs.Fields.{items_in, key_of}
-use Rattle.network.specs.Refusals.{AreTablesOf, IsTableOf}
-use Rattle.network.specs.declared.field.TableKind.{TableKind}
 use Rattle.network.proofs.ArrayTables.{nothing_there, tables_there}
 
 no_tables : (k : TableKind) (ts : List Members) → ts ≡ [] → (length ts ≤ most_tables) × All (IsTableOf k) ts

@@ -1,10 +1,7 @@
 -- The words that a generator gives next.
-use Rattle.std.proofs.Common.{◌≡◌, ℕ, ◌+◌, ◌<◌, ◌%◌, ◌^◌, ap, sym, ◌∙◌, add_assoc, add-zero, zero-add}
-use Rattle.std.proofs.Math.Nat.{mod-add-mod, mod-eq_of_lt}
+use Rattle.network.proofs.Basics.{◌≡◌, ℕ, ◌+◌, ◌<◌, ◌%◌, ◌^◌, ap, sym, ◌∙◌, add_assoc, add-zero, zero-add, mod-add-mod, mod-eq_of_lt, Words, after, words_of, to_come}
 use Rattle.rand_chacha.specs.ChaCha.{ChaCha, word_at}
 use Rattle.streams.specs.Fate.{key_of_seed}
-use Rattle.network.specs.Words.{Words, after, words_of}
-use Rattle.network.specs.Inside.Coming.{to_come}
 
 -- the first of them stands at the generator's place
 pub to_come-first : (g : ChaCha) → g.word_pos < 2 ^ 68 → word_at 4 g.key g.stream g.word_pos ≡ to_come g 0

@@ -1,10 +1,5 @@
 -- The first number of a range that passes, and what is said of each item.
-use Rattle.std.proofs.Common.{◌≡◌, ℕ, suc, ◌<◌, ◌+◌, ◌-◌, Bool, true, false, cond, Some, List, [], ◌∷◌, map, refl, ap, ◌∙◌, arith, add-one}
-use Rattle.std.specs.List.{find, range_with_len}
-use Rattle.toml.specs.Data.{Data}
-use Rattle.toml.specs.View.{view, items_view}
-use Rattle.toml.specs.declared.value.Value.{Value}
-use Rattle.network.specs.Reading.{each}
+use Rattle.network.proofs.Basics.{◌≡◌, ℕ, suc, ◌<◌, ◌+◌, ◌-◌, Bool, true, false, cond, Some, List, [], ◌∷◌, map, refl, ap, ◌∙◌, arith, add-one, find, range_with_len, Data, view, items_view, Value, each}
 
 pub range_next : (i n : ℕ) → i < n → range_with_len (i + 1) (n - i) ≡ (i + 1) ∷ range_with_len (i + 1 + 1) (n - (i + 1))
 range_next i n low =

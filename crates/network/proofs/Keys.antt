@@ -1,11 +1,5 @@
 -- The keys of a table.
-use Rattle.std.proofs.Common.{Bor, ◌≡◌, ℕ, suc, length, List, [], ◌∷◌, map, Bool, not, refl, ap, ◌||◌, String, string_bytes, Global, is_some}
-use Rattle.std.specs.List.{list_any}
-use Rattle.scenario.specs.Table.{keys_of, same_text}
-use Rattle.toml.specs.Data.{Members}
-use Rattle.toml.specs.View.{members_view}
-use Rattle.toml.specs.declared.value.Value.{Value}
-use Rattle.network.specs.Fields.{field_of, fields_of, fault_at, has_fault, has_unlisted, is_listed}
+use Rattle.network.proofs.Basics.{Bor, ◌≡◌, ℕ, suc, length, List, [], ◌∷◌, map, Bool, not, refl, ap, ◌||◌, String, string_bytes, Global, is_some, list_any, keys_of, same_text, Members, members_view, Value, field_of, fields_of, fault_at, has_fault, has_unlisted, is_listed}
 use Rattle.network.specs.declared.field.Field as code
 
 pub any_map : {A B : Type 0} (p : B → Bool) (f : A → B) (xs : List A) → list_any p (map f xs) ≡ list_any (λ x. p (f x)) xs

@@ -1,8 +1,6 @@
 -- What is said last of a link.
-use Rattle.std.proofs.Common.{◌≡◌, ℕ, ◌+◌, ◌<◌, Bool, true, false, cond, refl, ap, ◌∙◌, List, [], ◌∷◌, ◌++◌, length, get_or, map, take, Option, Some, None, if◌then◌else◌, append-nil}
+use Rattle.network.proofs.Basics.{◌≡◌, ℕ, ◌+◌, ◌<◌, Bool, true, false, cond, refl, ap, ◌∙◌, List, [], ◌∷◌, ◌++◌, length, get_or, map, take, Option, Some, None, if◌then◌else◌, append-nil, map-append, filter_more}
 use Rattle.std.specs.List.{filter, last_or}
-use Rattle.std.proofs.lemmas.List.{map-append}
-use Rattle.std.proofs.lemmas.List.Elements.{filter_more}
 
 last_or-append : {A : Type 0} (o : Option A) (ys : List A) (y : A) → last_or o (ys ++ y ∷ []) ≡ Some y
 last_or-append o [] y = refl

@@ -1,3 +1,4 @@
+pub mod Basics
 pub mod Coming
 pub mod Adding
 pub mod Turns

@@ -1,9 +1,5 @@
 -- The groups of a table, and their members above n.
-use Rattle.std.proofs.Common.{◌≡◌, ℕ, ◌+◌, ◌-◌, List, [], ◌∷◌, map, take, Some, None, ap, sym, arith}
-use Rattle.std.specs.List.{All}
-use Rattle.std.proofs.lemmas.List.{take-map}
-use Rattle.std.proofs.lemmas.List.Elements.{All-nil, All-cons, All-map}
-use Rattle.network.specs.Above.{AreAllWithin, AreWithin, HasKeyAbove, Named, member_above, named}
+use Rattle.network.proofs.Basics.{◌≡◌, ℕ, ◌+◌, ◌-◌, List, [], ◌∷◌, map, take, Some, None, ap, sym, arith, All, take-map, All-nil, All-cons, All-map, AreAllWithin, AreWithin, HasKeyAbove, Named, member_above, named}
 use Rattle.network.specs.declared.group.Group.{Group}
 
 module _ (n : ℕ) where

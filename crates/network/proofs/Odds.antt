@@ -1,8 +1,5 @@
 -- The odds of a geometric number's digits, and what its digits say.
-use Rattle.std.proofs.Common.{◌≡◌, ℕ, ◌+◌, ◌-◌, ◌*◌, ◌/◌, ◌^◌, ◌<◌, ◌≤◌, refl, ap, add-one, if◌then◌else◌, arith}
-use Rattle.std.proofs.Math.Nat.{div-lt_iff_lt-mul, mul-le-mul_right}
-use Rattle.network.specs.Words.{Words}
-use Rattle.network.specs.Spells.{digits, geometric, is_one, odds}
+use Rattle.network.proofs.Basics.{◌≡◌, ℕ, ◌+◌, ◌-◌, ◌*◌, ◌/◌, ◌^◌, ◌<◌, ◌≤◌, refl, ap, add-one, if◌then◌else◌, arith, div-lt_iff_lt-mul, mul-le-mul_right, Words, digits, geometric, is_one, odds}
 
 pub odds-zero : (mean : ℕ) → 2 ^ 32 * (mean - 1) / mean ≡ odds mean 0
 unfolding odds

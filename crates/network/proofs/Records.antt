@@ -1,11 +1,5 @@
 -- Records that are played again and again, for some links at once.
-use Rattle.std.proofs.Common.{◌≡◌, ℕ, ◌+◌, ◌*◌, ◌/◌, ◌%◌, ap, sym, ◌∙◌, List}
-use Rattle.std.specs.List.{flat_map, range_with_len}
-use Rattle.network.specs.Words.{Words}
-use Rattle.network.specs.Drawn.{on_each}
-use Rattle.network.specs.Replays.{replayed, replayed_in}
-use Rattle.network.specs.declared.group.Ends.{Ends}
-use Rattle.network.specs.declared.network.Replay.{Replay}
+use Rattle.network.proofs.Basics.{◌≡◌, ℕ, ◌+◌, ◌*◌, ◌/◌, ◌%◌, ap, sym, ◌∙◌, List, flat_map, range_with_len, Words, on_each, replayed, replayed_in, Ends, Replay}
 use Rattle.network.proofs.Adding.{each_group}
 
 pub replayed-turns : (r : Replay) (words : Words) (links : List Ends) (horizon place : ℕ) → place ≡ words 0 % r.lasts

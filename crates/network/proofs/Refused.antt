@@ -1,15 +1,5 @@
 -- A file that is refused is no network file.
-use Rattle.std.proofs.Common.{◌≡◌, ◌≢◌, ℕ, zero, suc, ◌<◌, List, length, get_or, Bool, true, false, not, Some, is_some, refl, ap, ◌∙◌, subst, arith}
-use Rattle.std.specs.List.{All, Contains, list_any}
-use Rattle.std.proofs.lemmas.List.Elements.{All-get_or}
-use Rattle.std.proofs.lemmas.List.Folds.{list_any_at}
-use Rattle.std.proofs.lemmas.Option.{slice_get-get_or, slice_get_within}
-use Rattle.toml.specs.Data.{Members}
-use Rattle.scenario.specs.Table.{keys_of, tables_at}
-use Rattle.scenario.specs.Place.{numbered}
-use Rattle.network.specs.Fields.{Field, fault_at, fields_in, file_keys, has_fault, has_unlisted, is_listed, key_of, keys_in}
-use Rattle.network.specs.Refusals.{HasFaultAt, HasOther, IsNetworkFile, IsTableOf, Refuses}
-use Rattle.network.specs.declared.field.TableKind.{TableKind}
+use Rattle.network.proofs.Basics.{◌≡◌, ◌≢◌, ℕ, zero, suc, ◌<◌, List, length, get_or, Bool, true, false, not, Some, is_some, refl, ap, ◌∙◌, subst, arith, All, Contains, list_any, All-get_or, list_any_at, slice_get-get_or, slice_get_within, Members, keys_of, tables_at, numbered, Field, fault_at, fields_in, file_keys, has_fault, has_unlisted, is_listed, key_of, keys_in, HasFaultAt, HasOther, IsNetworkFile, IsTableOf, Refuses, TableKind}
 use Rattle.network.specs.declared.refusal.NetworkError.{NetworkError}
 use Rattle.network.specs.declared.refusal.NetworkError.TheVariants as error
 use Rattle.network.specs.declared.refusal.ValueFault.{ValueFault}

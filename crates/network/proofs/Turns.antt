@@ -1,20 +1,9 @@
 -- The episodes of a source, one after the other.
-use Rattle.std.proofs.Common.{◌≡◌, ℕ, zero, suc, ◌+◌, ◌-◌, ◌<◌, ◌≤◌, Bool, true, false, cond, refl, ap, sym, ◌∙◌, List, [], ◌∷◌, ◌++◌, map, length, min, nat_lt, add-one, add-zero, zero-add, append-nil, append_assoc, length-append, arith}
-use Rattle.std.specs.List.{range_with_len, take_while}
+use Rattle.network.proofs.Basics.{◌≡◌, ℕ, zero, suc, ◌+◌, ◌-◌, ◌<◌, ◌≤◌, Bool, true, false, cond, refl, ap, sym, ◌∙◌, List, [], ◌∷◌, ◌++◌, map, length, min, nat_lt, add-one, add-zero, zero-add, append-nil, append_assoc, length-append, arith, range_with_len, take_while, flat_map-append, map-append, map-range_with_len_more, Outage, Words, after, ticks_of, words_taken, first_ticks_of, first_words_taken, on_each, outage_on, Ends, LinkOutage, Rhythm}
 use borrow.Author.Count.{below_more}
 use Rattle.std.proofs.lemmas.Bool.Decides.{nat_tests}
-use Rattle.std.proofs.lemmas.Grind.{flat_map-append}
-use Rattle.std.proofs.lemmas.List.{map-append}
-use Rattle.std.proofs.lemmas.List.FromFn.{map-range_with_len_more}
 use Rattle.std.proofs.lemmas.List.Sums.{take_while-cons}
-use Rattle.scenario_record.specs.declared.outage.Outage.{Outage}
-use Rattle.network.specs.Words.{Words, after}
-use Rattle.network.specs.Spells.{ticks_of, words_taken, first_ticks_of, first_words_taken}
 use Rattle.network.specs.Episodes.{Coming, coming, cut_at, episodes, first, next}
-use Rattle.network.specs.Drawn.{on_each, outage_on}
-use Rattle.network.specs.declared.group.Ends.{Ends}
-use Rattle.scenario.specs.declared.drawn.LinkOutage.{LinkOutage}
-use Rattle.network.specs.declared.rhythm.Rhythm.{Rhythm}
 
 -- of a list by numbers, a front that passes stays
 passing : {X : Type 0} (p : X → Bool) (f : ℕ → X) (a m r : ℕ) → ((j : ℕ) → j < m → p (f (a + j)) ≡ true)

@@ -1,12 +1,6 @@
 -- Events in a ring and a map, by their ticks.
-use Rattle.pending_events.proofs.Words.{◌≡◌, ◌≢◌, ◌≤◌, ◌<◌, inl, inr, refl, sym, ap, ◌∙◌, subst, arith, Bool, true, false, cond, List, [], ◌∷◌, ◌++◌, length, map, ℕ, ◌+◌, ◌-◌, ◌%◌, slice_set, min, get_or, Result, Ok, Err, AllByRecursion, AllocError, cases_eq, nat_tests, Calendar, bucket, IsCleared, IsFull, IsPut, IsCalendar, IsTaken, ahead, came, due, lane, Event, both}
-use Rattle.std.proofs.Common.{All, suc, zero, nat_le, nat_lt, ◌&&◌, append_assoc}
+use Rattle.pending_events.proofs.Words.{◌≡◌, ◌≢◌, ◌≤◌, ◌<◌, inl, inr, refl, sym, ap, ◌∙◌, subst, arith, Bool, true, false, cond, List, [], ◌∷◌, ◌++◌, length, map, ℕ, ◌+◌, ◌-◌, ◌%◌, slice_set, min, get_or, Result, Ok, Err, AllByRecursion, AllocError, cases_eq, nat_tests, Calendar, bucket, IsCleared, IsFull, IsPut, IsCalendar, IsTaken, ahead, came, due, lane, Event, both, All, suc, zero, nat_le, nat_lt, ◌&&◌, append_assoc, get_or-map, get_or-set_same, get_or-set_other, length-map, map-set, cases_lt, All-head, All-tail, Buckets, IsFirst}
 use Rattle.std.specs.Global.{Vec}
-use Rattle.std.proofs.lemmas.List.{get_or-map, get_or-set_same, get_or-set_other, length-map, map-set}
-use Rattle.std.proofs.lemmas.Bool.{cases_lt}
-use Rattle.std.proofs.lemmas.List.Elements.{All-head, All-tail}
-use Rattle.pending_events.specs.Inside.Buckets.{Buckets}
-use Rattle.pending_events.specs.Inside.Calendar.{IsFirst}
 
 abbrev pub calendar_of : ℕ → Vec (Vec Event) → Buckets → Calendar
 calendar_of from ring map = record { from = from; ring = ring; map = map }

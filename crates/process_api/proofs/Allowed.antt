@@ -1,34 +1,16 @@
 -- What a process does is allowed: receivers are among 1 to n, and pauses are at least 1.
-use Rattle.std.proofs.Common.{ℕ, ◌+◌, ◌%◌, ◌<◌, ◌≤◌, refl, sym, subst, Bool, true, false, cond, ◌&&◌, arith, nat_eq, nat_lt, nat_le, Option, None, Some, IfSome, is_some, unwrap_or, List, [], ◌∷◌, ◌++◌, mod-lt}
-use Rattle.std.specs.Prelude.{IsTrue}
-use Rattle.std.specs.List.{AllByRecursion, All}
-use Rattle.std.proofs.lemmas.List.Elements.{All-from_recursion}
+use Rattle.process_api.proofs.Basics.{ℕ, ◌+◌, ◌%◌, ◌<◌, ◌≤◌, refl, sym, subst, Bool, true, false, cond, ◌&&◌, arith, nat_eq, nat_lt, nat_le, Option, None, Some, IfSome, is_some, unwrap_or, List, [], ◌∷◌, ◌++◌, mod-lt, IsTrue, AllByRecursion, All, All-from_recursion, IsAllowed, Answer, still, after, to_all, Exchange, Coordinator, Lower, AlgorithmState, Idle, Exchanging, Coordinating, Mind, is_mind_at, is_paced, suspects_of, stands_at, Place, react_lower, react_algorithm, react, ReductionState, step_reduction, gathered, coordinator, greatest_round, is_own, majority, count_to, Processes, changes, suspected_by, step_detector, Action, Payload, StepInput, cond_both, leb-true}
 use Rattle.std.specs.FinSet as set
-use Rattle.process_api.specs.Actions.{IsAllowed}
-use Rattle.process_api.specs.Answer.{Answer, still, after, to_all}
-use Rattle.process_api.specs.ConsensusS.{Exchange}
 use Rattle.process_api.specs.ConsensusS as exchange
-use Rattle.process_api.specs.Coordinator.{Coordinator}
 use Rattle.process_api.specs.Coordinator as rotating
-use Rattle.process_api.specs.Mind.{Lower, AlgorithmState, Idle, Exchanging, Coordinating, Mind, is_mind_at, is_paced, suspects_of, stands_at}
-use Rattle.process_api.specs.Place.{Place}
-use Rattle.process_api.specs.React.{react_lower, react_algorithm, react}
-use Rattle.process_api.specs.Reduction.{ReductionState, step_reduction, gathered}
 use Rattle.process_api.specs.Diffusion.{also_seen}
-use Rattle.process_api.specs.Rounds.{coordinator, greatest_round, is_own, majority, count_to}
-use Rattle.process_api.specs.Sets.{Processes, changes}
-use Rattle.process_api.specs.Detector.{suspected_by, step_detector}
-use Rattle.process_api.specs.declared.action.Action.{Action}
 use Rattle.process_api.specs.declared.action.Action.TheVariants as action
 use Rattle.process_api.specs.declared.action.Note.TheVariants as note
 use Rattle.process_api.specs.declared.consensus.Phase.{Phase}
 use Rattle.process_api.specs.declared.consensus.Phase.TheVariants.{Opening, Collect, Await, Tally, Decided, Ended}
-use Rattle.process_api.specs.declared.message.Payload.{Payload}
 use Rattle.process_api.specs.declared.message.Payload.TheVariants as payload
-use Rattle.process_api.specs.declared.message.StepInput.{StepInput}
 use Rattle.process_api.specs.declared.message.StepInput.TheVariants as input
 use Rattle.process_api.specs.declared.message.Tag.TheVariants as tag
-use Rattle.std.proofs.lemmas.Bool.{cond_both, leb-true}
 use Rattle.process_api.proofs.DetectorLaws.{detector_laws}
 use Rattle.process_api.proofs.Lists.{both, images, always, option_both}
 use Rattle.process_api.proofs.Minds.{both_true, same_count, mind_place, mind_paced, mind_stands}

@@ -1,16 +1,7 @@
 -- The bits of words in a row.
-use Rattle.std.proofs.Common.{◌≡◌, ◌≢◌, ℕ, zero, suc, ◌+◌, ◌-◌, ◌*◌, ◌/◌, ◌%◌, ◌^◌, ◌<◌, ◌≤◌, inl, inr, refl, sym, ap, ◌∙◌, true, false, cond, not, ◌&&◌, ◌||◌, nat_eq, nat_lt, List, get_or, set, length, max, min, bit_and, bit_or, bit_xor, arith, nat_cmp, w64}
-use Rattle.std.specs.Int.{bit_at, bit_not, trailing_zeros}
-use Rattle.std.specs.Prelude.{count_ones}
+use Rattle.process_api.proofs.Basics.{◌≡◌, ◌≢◌, ℕ, zero, suc, ◌+◌, ◌-◌, ◌*◌, ◌/◌, ◌%◌, ◌^◌, ◌<◌, ◌≤◌, inl, inr, refl, sym, ap, ◌∙◌, true, false, cond, not, ◌&&◌, ◌||◌, nat_eq, nat_lt, List, get_or, set, length, max, min, bit_and, bit_or, bit_xor, arith, nat_cmp, w64, bit_at, bit_not, trailing_zeros, count_ones, mod-one, mod-eq_of_lt, cases_eq, cases_lt, nat_tests, get_or-set_same, get_or-set_other, pow_pos, mod-pow-add, mod_below, ones_cat, bit_at-zero, bit_at-lt, bit_at_or, bit_at_and, bit_at_xor, bit_at_ones, bit_at_ones_above, bit_at_set_same, bit_at_set_other, bit_at_clear_same, bit_at_clear_other, bit_at-trailing_zeros, is_set, members}
 use Rattle.std.specs.FinSet as finite
-use Rattle.std.proofs.Math.Nat.{mod-one, mod-eq_of_lt}
 use lib.Count.{ones}
-use Rattle.std.proofs.lemmas.Bool.{cases_eq, cases_lt}
-use Rattle.std.proofs.lemmas.Bool.Decides.{nat_tests}
-use Rattle.std.proofs.lemmas.List.{get_or-set_same, get_or-set_other}
-use Rattle.std.proofs.lemmas.Nat.{pow_pos, mod-pow-add, mod_below, ones_cat}
-use Rattle.std.proofs.lemmas.Nat.Bits.{bit_at-zero, bit_at-lt, bit_at_or, bit_at_and, bit_at_xor, bit_at_ones, bit_at_ones_above, bit_at_set_same, bit_at_set_other, bit_at_clear_same, bit_at_clear_other, bit_at-trailing_zeros}
-use Rattle.process_api.specs.Inside.Bits.{is_set, members}
 use Rattle.process_api.proofs.Told.{len-more}
 
 -- the place of a bit in its word

@@ -1,13 +1,7 @@
 -- How the suspects of a layer change: some join, or one leaves.
-use Rattle.std.proofs.Common.{◌≤◌, length, length-append, arith, ◌≡◌, ℕ, sym, ap, ◌∙◌, append-nil, [], ◌∷◌, ◌++◌, map, Bool, true, false, not, ◌&&◌}
-use Rattle.std.proofs.lemmas.Bool.{leb-true, and_parts}
-use Rattle.std.proofs.lemmas.Bool.Decides.{nat_tests}
-use Rattle.std.proofs.lemmas.List.{length-map}
+use Rattle.process_api.proofs.Basics.{◌≤◌, length, length-append, arith, ◌≡◌, ℕ, sym, ap, ◌∙◌, append-nil, [], ◌∷◌, ◌++◌, map, Bool, true, false, not, ◌&&◌, leb-true, and_parts, nat_tests, length-map, filter, numbers_to, is_process, Processes, insert_all, gone, changes}
 use Rattle.std.proofs.lemmas.Simd.{map-map}
-use Rattle.std.specs.List.{filter}
 use Rattle.std.specs.FinSet as set
-use Rattle.process_api.specs.Numbers.{numbers_to, is_process}
-use Rattle.process_api.specs.Sets.{Processes, insert_all, gone, changes}
 use Rattle.process_api.specs.declared.action.Action.TheVariants as action
 use Rattle.process_api.specs.declared.action.Note.TheVariants as note
 use Rattle.process_api.proofs.Numbering.{length-apart, filter-same, filter-none, filter-one}

@@ -1,13 +1,6 @@
 -- Who is in a set after a change.
-use Rattle.std.proofs.Common.{◌≡◌, ◌≢◌, ℕ, zero, suc, ◌+◌, add-one, refl, sym, ap, ◌∙◌, List, [], ◌∷◌, ◌++◌, Bool, true, false, cond, not, ◌&&◌, ◌||◌, nat_eq, nat_le, arith}
+use Rattle.process_api.proofs.Basics.{◌≡◌, ◌≢◌, ℕ, zero, suc, ◌+◌, add-one, refl, sym, ap, ◌∙◌, List, [], ◌∷◌, ◌++◌, Bool, true, false, cond, not, ◌&&◌, ◌||◌, nat_eq, nat_le, arith, nat_cmp_total, unsigned_tied, filter, nat_cmp-IsAntisymmetric, ne_eqb, and_right, nat_tests, numbers_to, is_process, Processes, insert_all, up_to}
 use Rattle.std.specs.FinSet as set
-use Rattle.std.specs.Cmp.{nat_cmp_total, unsigned_tied}
-use Rattle.std.specs.List.{filter}
-use Rattle.std.specs.FinMap.{nat_cmp-IsAntisymmetric}
-use Rattle.std.proofs.lemmas.Bool.{ne_eqb, and_right}
-use Rattle.std.proofs.lemmas.Bool.Decides.{nat_tests}
-use Rattle.process_api.specs.Numbers.{numbers_to, is_process}
-use Rattle.process_api.specs.Sets.{Processes, insert_all, up_to}
 use Rattle.process_api.proofs.Numbering.{filter-suc}
 
 pub contains-insert_is : (s : Processes) (q p : ℕ) → set.contains (set.insert s q) p ≡ (nat_eq p q || set.contains s p)

@@ -1,17 +1,6 @@
 -- Each kind of base detector has the laws of a base detector; and what these make of a base detector alone.
-use Rattle.std.proofs.Common.{◌≡◌, ℕ, ◌+◌, ◌≤◌, ap, sym, ◌∙◌, length, None, arith}
-use Rattle.std.specs.List.{All}
-use Rattle.std.proofs.lemmas.List.Elements.{All-from_recursion}
-use Rattle.std.specs.Prelude.{IsTrue}
-use Rattle.process_api.specs.Actions.{IsAllowed, notes_of_layer}
-use Rattle.process_api.specs.Bounds.{most_first_actions}
+use Rattle.process_api.proofs.Basics.{◌≡◌, ℕ, ◌+◌, ◌≤◌, ap, sym, ◌∙◌, length, None, arith, All, All-from_recursion, IsTrue, IsAllowed, notes_of_layer, most_first_actions, DetectorState, ByTimeout, ByFreshness, suspected_by, has_pauses, step_detector, Lower, most_actions, Place, react_lower, Processes, changes, StepInput}
 use Rattle.process_api.specs.Laws.{OpensTrusting, StepsByLaws}
-use Rattle.process_api.specs.Detector.{DetectorState, ByTimeout, ByFreshness, suspected_by, has_pauses, step_detector}
-use Rattle.process_api.specs.Mind.{Lower, most_actions}
-use Rattle.process_api.specs.Place.{Place}
-use Rattle.process_api.specs.React.{react_lower}
-use Rattle.process_api.specs.Sets.{Processes, changes}
-use Rattle.process_api.specs.declared.message.StepInput.{StepInput}
 use Rattle.process_api.specs.declared.numbers.DetectorNumbers.TheVariants as numbers
 use Rattle.process_api.proofs.FreshnessLaws.{freshness_opens, freshness_laws}
 use Rattle.process_api.proofs.TimeoutLaws.{timeout_opens, timeout_laws}

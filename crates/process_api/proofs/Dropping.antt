@@ -1,12 +1,9 @@
 -- The first entry of a table leaves.
-use Rattle.std.proofs.Common.{◌≡◌, ◌<◌, ◌≤◌, arith, IsSome, ℕ, refl, sym, ap, ◌∙◌, subst, Bool, true, false, cond, Option, None, Some, List, [], ◌∷◌, length, nat_eq, nat_lt, BTreeMap, slice_get, IfSome, IfNone, true≢false}
-use Rattle.std.proofs.lemmas.Bool.{eqb-true, lt-ltb, ltb-true}
+use Rattle.process_api.proofs.Basics.{◌≡◌, ◌<◌, ◌≤◌, arith, IsSome, ℕ, refl, sym, ap, ◌∙◌, subst, Bool, true, false, cond, Option, None, Some, List, [], ◌∷◌, length, nat_eq, nat_lt, BTreeMap, slice_get, IfSome, IfNone, true≢false, eqb-true, lt-ltb, ltb-true, Row, by_number, by_row, in_row, since, since_round}
 use Rattle.std.specs.Ordering.{nat_cmp}
 use Rattle.std.proofs.lemmas.Map.Keys.{le_from_not_gt}
 use Rattle.std.specs.Map.{lookup}
 use Rattle.std.specs.BTreeMap as tree
-use Rattle.process_api.specs.declared.row.Row.{Row}
-use Rattle.process_api.specs.Letters.{by_number, by_row, in_row, since, since_round}
 use Rattle.process_api.proofs.Rows.{same_number}
 
 unsome : {A : Type 0} (d : A) (a b : A) → Some a ≡ Some b → a ≡ b

@@ -1,23 +1,10 @@
 -- The detector with freshness points has the laws of a base detector.
-use Rattle.std.proofs.Common.{◌≡◌, inr, ℕ, ◌+◌, ◌≤◌, refl, sym, ap, ◌∙◌, [], ◌++◌, map, length, length-append, append-nil, true, ◌&&◌, ◌||◌, nat_le, nat_cmp, arith}
-use Rattle.std.proofs.lemmas.Bool.{leb-true, and_parts, and_right, cond_both}
-use Rattle.std.proofs.Math.Bool.{and-false, or-false}
-use Rattle.std.specs.List.{AllByRecursion}
+use Rattle.process_api.proofs.Basics.{◌≡◌, inr, ℕ, ◌+◌, ◌≤◌, refl, sym, ap, ◌∙◌, [], ◌++◌, map, length, length-append, append-nil, true, ◌&&◌, ◌||◌, nat_le, nat_cmp, arith, leb-true, and_parts, and_right, cond_both, and-false, or-false, AllByRecursion, IsTrue, IsAllowed, notes_of_layer, Answer, still, IsOfDetector, TrustsAll, IsDetectorStep, is_process, others, Place, Processes, gone, changes, is_other, Action, StepInput}
 use Rattle.std.specs.FinSet as set
-use Rattle.std.specs.Prelude.{IsTrue}
-use Rattle.process_api.specs.Actions.{IsAllowed, notes_of_layer}
-use Rattle.process_api.specs.Answer.{Answer, still}
-use Rattle.process_api.specs.BaseDetector.{IsOfDetector, TrustsAll, IsDetectorStep}
 use Rattle.process_api.specs.Freshness.{FreshnessState, opening_freshness, next, watches, is_stale, suspected, noted, heartbeat_to_others, next_beat, next_check, checked, heard, step_freshness}
-use Rattle.process_api.specs.Numbers.{is_process, others}
-use Rattle.process_api.specs.Place.{Place}
-use Rattle.process_api.specs.Sets.{Processes, gone, changes}
-use Rattle.process_api.specs.Watching.{is_other}
-use Rattle.process_api.specs.declared.action.Action.{Action}
 use Rattle.process_api.specs.declared.action.Action.TheVariants as action
 use Rattle.process_api.specs.declared.action.Note.TheVariants as note
 use Rattle.process_api.specs.declared.message.Payload.TheVariants as payload
-use Rattle.process_api.specs.declared.message.StepInput.{StepInput}
 use Rattle.process_api.specs.declared.message.StepInput.TheVariants as input
 use Rattle.process_api.specs.declared.message.Tag.{Tag}
 use Rattle.process_api.specs.declared.message.Tag.TheVariants as tag

@@ -1,17 +1,7 @@
 -- What a step keeps of a mind: where it stands, its pauses, and that the process suspects itself on no layer.
-use Rattle.std.proofs.Common.{◌≡◌, ◌⊎◌, inl, inr, ℕ, ◌≤◌, refl, sym, ap, ◌∙◌, true, false, not, ◌&&◌, nat_le, Option, None, Some, true≢false}
-use Rattle.std.specs.Prelude.{IsTrue}
+use Rattle.process_api.proofs.Basics.{◌≡◌, ◌⊎◌, inl, inr, ℕ, ◌≤◌, refl, sym, ap, ◌∙◌, true, false, not, ◌&&◌, nat_le, Option, None, Some, true≢false, IsTrue, eq-eqb, not-true, both_ways, false_from_ne_true, Lower, AlgorithmState, Idle, Exchanging, Coordinating, Mind, is_mind_at, is_paced, trusts_itself, stands_at, suspects_of, Place, same_place, react_lower, react_algorithm, react, is_other, ReductionState, step_reduction, Processes, up_to, DetectorState, suspected_by, step_detector, StepInput}
 use Rattle.std.specs.FinSet as set
-use Rattle.std.proofs.lemmas.Bool.{eq-eqb, not-true, both_ways, false_from_ne_true}
-use Rattle.process_api.specs.Mind.{Lower, AlgorithmState, Idle, Exchanging, Coordinating, Mind, is_mind_at, is_paced, trusts_itself, stands_at, suspects_of}
-use Rattle.process_api.specs.Place.{Place, same_place}
-use Rattle.process_api.specs.React.{react_lower, react_algorithm, react}
-use Rattle.process_api.specs.Watching.{is_other}
-use Rattle.process_api.specs.Reduction.{ReductionState, step_reduction}
-use Rattle.process_api.specs.Sets.{Processes, up_to}
-use Rattle.process_api.specs.Detector.{DetectorState, suspected_by, step_detector}
 use Rattle.process_api.specs.declared.message.Payload.TheVariants as payload
-use Rattle.process_api.specs.declared.message.StepInput.{StepInput}
 use Rattle.process_api.specs.declared.message.StepInput.TheVariants as input
 use Rattle.process_api.specs.declared.message.Tag.TheVariants as tag
 use Rattle.process_api.proofs.DetectorLaws.{detector_laws}

@@ -1,11 +1,5 @@
 -- The order of keys is total, and tells all keys apart.
-use Rattle.std.proofs.Common.{◌≡◌, ◌≢◌, ◌⊎◌, ℕ, ◌<◌, ◌≤◌, inl, inr, refl, sym, ap, ◌∙◌, subst, Ordering, Less, Equal, Greater, arith, nat_cmp, is_lt, is_gt, true≢false}
-use Rattle.std.specs.Ordering.{ordering_then, ordering_reverse}
-use Rattle.std.specs.Cmp.{IsTotalOrder, nat_cmp_total}
-use Rattle.std.proofs.lemmas.Cmp.{on_total, then_total, tied_itself, ranked}
-use Rattle.std.specs.FinMap.{IsAntisymmetric, nat_cmp-IsAntisymmetric}
-use Rattle.process_api.specs.Order.{key_cmp}
-use Rattle.process_api.specs.declared.key.Key.{Key}
+use Rattle.process_api.proofs.Basics.{◌≡◌, ◌≢◌, ◌⊎◌, ℕ, ◌<◌, ◌≤◌, inl, inr, refl, sym, ap, ◌∙◌, subst, Ordering, Less, Equal, Greater, arith, nat_cmp, is_lt, is_gt, true≢false, ordering_then, ordering_reverse, IsTotalOrder, nat_cmp_total, on_total, then_total, tied_itself, ranked, IsAntisymmetric, nat_cmp-IsAntisymmetric, key_cmp, Key}
 
 pub keys_total : IsTotalOrder key_cmp
 keys_total = then_total (on_total (λ (k : Key). k.tick) nat_cmp_total)

@@ -1,18 +1,9 @@
 -- Which notes of a layer some actions leave.
-use Rattle.std.proofs.Common.{◌≡◌, ℕ, refl, sym, ap, ◌∙◌, cond, nat_eq, List, [], ◌∷◌, ◌++◌, map, append_assoc}
-use Rattle.std.proofs.lemmas.Bool.{eq-eqb, cond-true}
-use Rattle.std.proofs.Math.Bool.{and-not_self}
-use Rattle.std.proofs.lemmas.List.{map-append}
-use Rattle.std.specs.List.{AllByRecursion}
+use Rattle.process_api.proofs.Basics.{◌≡◌, ℕ, refl, sym, ap, ◌∙◌, cond, nat_eq, List, [], ◌∷◌, ◌++◌, map, append_assoc, eq-eqb, cond-true, and-not_self, map-append, AllByRecursion, of_layer, notes_of_layer, IsOfDetector, Processes, changes, gone, Action, Payload}
 use Rattle.std.specs.FinSet as set
-use Rattle.process_api.specs.Actions.{of_layer, notes_of_layer}
-use Rattle.process_api.specs.BaseDetector.{IsOfDetector}
-use Rattle.process_api.specs.Sets.{Processes, changes, gone}
-use Rattle.process_api.specs.declared.action.Action.{Action}
 use Rattle.process_api.specs.declared.action.Action.TheVariants as action
 use Rattle.process_api.specs.declared.action.Note.{Note}
 use Rattle.process_api.specs.declared.action.Note.TheVariants as note
-use Rattle.process_api.specs.declared.message.Payload.{Payload}
 use Rattle.process_api.proofs.Numbering.{filter-none}
 
 pub notes_of_layer-append : (layer : ℕ) (xs ys : List Action) → notes_of_layer layer (xs ++ ys) ≡ notes_of_layer layer xs ++ notes_of_layer layer ys

@@ -1,3 +1,4 @@
+pub mod Basics
 pub mod Allowed
 pub mod BitWords
 pub mod Changes

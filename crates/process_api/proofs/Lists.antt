@@ -1,7 +1,5 @@
 -- What holds of all of a list, and of parts of 1 to n.
-use Rattle.std.proofs.Common.{◌≡◌, ℕ, zero, suc, ◌≤◌, refl, Bool, true, false, cond, Option, None, Some, List, [], ◌∷◌, ◌++◌, map, arith}
-use Rattle.std.specs.List.{AllByRecursion, filter}
-use Rattle.process_api.specs.Numbers.{numbers_to}
+use Rattle.process_api.proofs.Basics.{◌≡◌, ℕ, zero, suc, ◌≤◌, refl, Bool, true, false, cond, Option, None, Some, List, [], ◌∷◌, ◌++◌, map, arith, AllByRecursion, filter, numbers_to}
 
 pub both : {X : Type 0} (P : X → Type 0) (xs ys : List X) → AllByRecursion P xs → AllByRecursion P ys → AllByRecursion P (xs ++ ys)
 both P [] ys a b = b

@@ -1,9 +1,6 @@
 -- What a test of a mind says.
-use Rattle.std.proofs.Common.{◌≡◌, refl, sym, Bool, true, false, ◌&&◌, true≢false}
-use Rattle.std.specs.Prelude.{IsTrue}
+use Rattle.process_api.proofs.Basics.{◌≡◌, refl, sym, Bool, true, false, ◌&&◌, true≢false, IsTrue, Mind, is_mind_at, is_paced, trusts_itself, stands_at, Place, same_place}
 use borrow.Author.Tests.{eqb-true}
-use Rattle.process_api.specs.Mind.{Mind, is_mind_at, is_paced, trusts_itself, stands_at}
-use Rattle.process_api.specs.Place.{Place, same_place}
 
 pub both_true : (a b : Bool) → (a && b) ≡ true → (a ≡ true) × (b ≡ true)
 both_true true b h = (refl, h)

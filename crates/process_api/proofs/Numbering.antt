@@ -1,11 +1,6 @@
 -- Tests of the numbers 1 to n.
-use Rattle.std.proofs.Common.{add-one, length, length-append, ◌≡◌, ◌≢◌, ⊎_elim, ℕ, zero, suc, ◌+◌, ◌≤◌, refl, sym, ap, ◌∙◌, List, [], ◌∷◌, ◌++◌, Bool, true, false, cond, nat_eq, append-nil, append_assoc, map, arith}
-use Rattle.std.proofs.lemmas.Bool.{cases_eq, eq-eqb, ne_eqb}
-use Rattle.std.proofs.lemmas.List.Elements.{filter-append}
-use Rattle.std.proofs.lemmas.List.{map-append}
+use Rattle.process_api.proofs.Basics.{add-one, length, length-append, ◌≡◌, ◌≢◌, ⊎_elim, ℕ, zero, suc, ◌+◌, ◌≤◌, refl, sym, ap, ◌∙◌, List, [], ◌∷◌, ◌++◌, Bool, true, false, cond, nat_eq, append-nil, append_assoc, map, arith, cases_eq, eq-eqb, ne_eqb, filter-append, map-append, filter, numbers_to}
 use Rattle.std.proofs.lemmas.List.Sums.{length-filter, count_by-le-length}
-use Rattle.std.specs.List.{filter}
-use Rattle.process_api.specs.Numbers.{numbers_to}
 
 pub filter-suc : (p : ℕ → Bool) (n : ℕ) → filter p (numbers_to (suc n)) ≡ filter p (numbers_to n) ++ cond (p (suc n)) (suc n ∷ []) []
 filter-suc p n = filter-append p (numbers_to n) (suc n ∷ [])

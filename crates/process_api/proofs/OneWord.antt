@@ -1,16 +1,7 @@
 -- The words of a set that one word says, and of one that it doesn't.
 use Rattle.std.proofs.Common.{◌≡◌, ℕ, zero, suc, ◌+◌, ◌-◌, ◌*◌, ◌/◌, ◌%◌, ◌^◌, ◌<◌, ◌≤◌, inl, inr, ap, ◌∙◌, Bool, ◌&&◌, nat_eq, nat_lt, List, filter, get_or, bit_or, arith, nat_cmp, w64}
-use Rattle.std.specs.Int.{bit_at, trailing_zeros}
+use Rattle.process_api.proofs.Basics.{bit_at, trailing_zeros, eq-zero-or-pos, cases_lt, nat_tests, le_or_l, le_or_r, bit_at-trailing_zeros, most_processes, numbers_to, HasAbove, insert_all, of_word, is_set, members}
 use Rattle.std.specs.FinSet as set
-use Rattle.std.proofs.Math.Nat.{eq-zero-or-pos}
-use Rattle.std.proofs.lemmas.Bool.{cases_lt}
-use Rattle.std.proofs.lemmas.Bool.Decides.{nat_tests}
-use Rattle.std.proofs.lemmas.Nat.{le_or_l, le_or_r}
-use Rattle.std.proofs.lemmas.Nat.Bits.{bit_at-trailing_zeros}
-use Rattle.process_api.specs.Bounds.{most_processes}
-use Rattle.process_api.specs.Numbers.{numbers_to}
-use Rattle.process_api.specs.Sets.{HasAbove, insert_all, of_word}
-use Rattle.process_api.specs.Inside.Bits.{is_set, members}
 use Rattle.process_api.proofs.BitWords.{none_set}
 use Rattle.process_api.proofs.Contains.{contains-insert_all, same_members}
 use Rattle.process_api.proofs.Told.{contains-members, told_in_range}

@@ -1,9 +1,5 @@
 -- Keys whose tick, receiver and sender are packed into one number.
-use Rattle.std.proofs.Common.{◌≡◌, ◌≢◌, ℕ, ◌+◌, ◌*◌, ◌<◌, refl, sym, ap, ◌∙◌, Ordering, Less, Equal, Greater, arith, nat_cmp, nat_lt}
-use Rattle.std.specs.Ordering.{ordering_then}
-use Rattle.std.proofs.lemmas.Cmp.{ranked}
-use Rattle.process_api.specs.Order.{key_cmp, is_less, is_before}
-use Rattle.process_api.specs.declared.key.Key.{Key}
+use Rattle.process_api.proofs.Basics.{◌≡◌, ◌≢◌, ℕ, ◌+◌, ◌*◌, ◌<◌, refl, sym, ap, ◌∙◌, Ordering, Less, Equal, Greater, arith, nat_cmp, nat_lt, ordering_then, ranked, key_cmp, is_less, is_before, Key}
 
 -- tick, receiver and sender, as one number
 abbrev pub packed : Key → ℕ

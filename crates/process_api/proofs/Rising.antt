@@ -1,17 +1,8 @@
 -- The members of a set in rising order, one after the other.
-use Rattle.std.proofs.Common.{◌≡◌, ◌≢◌, ℕ, zero, suc, ◌+◌, ◌-◌, ◌<◌, ◌≤◌, refl, sym, ap, ◌∙◌, subst, Bool, true, false, cond, not, ◌&&◌, nat_le, List, [], ◌∷◌, ◌++◌, arith, ⊎_elim, append-nil, nat_cmp, length, Option, Some}
-use Rattle.std.proofs.lemmas.Bool.{cases_eq}
-use Rattle.std.specs.List.{filter}
+use Rattle.process_api.proofs.Basics.{◌≡◌, ◌≢◌, ℕ, zero, suc, ◌+◌, ◌-◌, ◌<◌, ◌≤◌, refl, sym, ap, ◌∙◌, subst, Bool, true, false, cond, not, ◌&&◌, nat_le, List, [], ◌∷◌, ◌++◌, arith, ⊎_elim, append-nil, nat_cmp, length, Option, Some, cases_eq, filter, nat_cmp_total, nat_tests, members, most_processes, in_order, numbers_to, Processes, up_to, gone}
 use Rattle.std.specs.FinSet as set
 use Rattle.std.specs.Iterator.{YieldsFirst, MakesProgress, item_count}
 use borrow.Author.Tests.{eq-eqb, ne_eqb}
-use Rattle.std.specs.Cmp.{nat_cmp_total}
-use Rattle.std.proofs.lemmas.Bool.Decides.{nat_tests}
-use Rattle.process_api.specs.Inside.Bits.{members}
-use Rattle.process_api.specs.Bounds.{most_processes}
-use Rattle.process_api.specs.InOrder.{in_order}
-use Rattle.process_api.specs.Numbers.{numbers_to}
-use Rattle.process_api.specs.Sets.{Processes, up_to, gone}
 use Rattle.process_api.proofs.Contains.{contains-remove_is, contains-up_to}
 use Rattle.process_api.proofs.Numbering.{filter-suc, filter-none, filter-same}
 use Rattle.process_api.proofs.Told.{told_in_range, members-none, members-remove}

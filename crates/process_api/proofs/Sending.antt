@@ -1,12 +1,5 @@
 -- Letters to all, and to all others.
-use Rattle.std.proofs.Common.{◌≡◌, ℕ, ◌≤◌, ◌∙◌, not, nat_eq, length, arith}
-use Rattle.std.proofs.lemmas.List.{length-map}
-use Rattle.std.specs.List.{AllByRecursion}
-use Rattle.process_api.specs.Answer.{to_all, to_others}
-use Rattle.process_api.specs.Numbers.{numbers_to, others}
-use Rattle.process_api.specs.declared.action.Action.{Action}
-use Rattle.process_api.specs.declared.action.Action.TheVariants.{Send}
-use Rattle.process_api.specs.declared.message.Payload.{Payload}
+use Rattle.process_api.proofs.Basics.{◌≡◌, ℕ, ◌≤◌, ◌∙◌, not, nat_eq, length, arith, length-map, AllByRecursion, to_all, to_others, numbers_to, others, Action, Send, Payload}
 use Rattle.process_api.proofs.Lists.{images, weaker, filtered, numbers_are}
 use Rattle.process_api.proofs.Numbering.{length-numbers_to, length-filter_to}
 

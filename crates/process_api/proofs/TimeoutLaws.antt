@@ -1,24 +1,10 @@
 -- The time-out detector has the laws of a base detector.
-use Rattle.std.proofs.Common.{◌≡◌, ◌⊎◌, inl, inr, ℕ, ◌+◌, ◌-◌, ◌≤◌, refl, sym, ap, ◌∙◌, List, [], ◌∷◌, ◌++◌, map, length, length-append, true, false, not, ◌&&◌, nat_eq, nat_le, nat_cmp, arith}
-use Rattle.std.proofs.lemmas.Bool.{leb-true, and_parts, or_cases, cond_both}
-use Rattle.std.proofs.Math.Bool.{and-false}
-use Rattle.std.proofs.lemmas.List.{length-map}
-use Rattle.std.specs.List.{AllByRecursion}
+use Rattle.process_api.proofs.Basics.{◌≡◌, ◌⊎◌, inl, inr, ℕ, ◌+◌, ◌-◌, ◌≤◌, refl, sym, ap, ◌∙◌, List, [], ◌∷◌, ◌++◌, map, length, length-append, true, false, not, ◌&&◌, nat_eq, nat_le, nat_cmp, arith, leb-true, and_parts, or_cases, cond_both, and-false, length-map, AllByRecursion, IsTrue, IsAllowed, notes_of_layer, Answer, still, IsOfDetector, TrustsAll, IsDetectorStep, is_process, others, Place, changes, is_other, Action, StepInput}
 use Rattle.std.specs.FinSet as set
-use Rattle.std.specs.Prelude.{IsTrue}
-use Rattle.process_api.specs.Actions.{IsAllowed, notes_of_layer}
-use Rattle.process_api.specs.Answer.{Answer, still}
-use Rattle.process_api.specs.BaseDetector.{IsOfDetector, TrustsAll, IsDetectorStep}
-use Rattle.process_api.specs.Numbers.{is_process, others}
-use Rattle.process_api.specs.Place.{Place}
-use Rattle.process_api.specs.Sets.{changes}
 use Rattle.process_api.specs.Timeout.{TimeoutState, opening_timeout, alive_to_others, next_beat, next_check, watches, is_overdue, overdue, noticed, trusted_again, heard, step_timeout}
-use Rattle.process_api.specs.Watching.{is_other}
-use Rattle.process_api.specs.declared.action.Action.{Action}
 use Rattle.process_api.specs.declared.action.Action.TheVariants as action
 use Rattle.process_api.specs.declared.action.Note.TheVariants as note
 use Rattle.process_api.specs.declared.message.Payload.TheVariants as payload
-use Rattle.process_api.specs.declared.message.StepInput.{StepInput}
 use Rattle.process_api.specs.declared.message.StepInput.TheVariants as input
 use Rattle.process_api.specs.declared.message.Tag.TheVariants as tag
 use Rattle.process_api.specs.declared.numbers.TimeoutNumbers.{TimeoutNumbers}

@@ -1,10 +1,6 @@
 -- The set of those that a test tells: process q is told at place q - 1.
-use Rattle.std.proofs.Common.{◌≡◌, ◌≢◌, ℕ, zero, suc, ◌+◌, ◌-◌, ◌<◌, ◌≤◌, ap, ◌∙◌, Bool, true, false, cond, not, ◌&&◌, ◌||◌, nat_lt, nat_le, arith, nat_cmp}
+use Rattle.process_api.proofs.Basics.{◌≡◌, ◌≢◌, ℕ, zero, suc, ◌+◌, ◌-◌, ◌<◌, ◌≤◌, ap, ◌∙◌, Bool, true, false, cond, not, ◌&&◌, ◌||◌, nat_lt, nat_le, arith, nat_cmp, nat_cmp_total, nat_tests, Processes, up_to, members}
 use Rattle.std.specs.FinSet as set
-use Rattle.std.specs.Cmp.{nat_cmp_total}
-use Rattle.std.proofs.lemmas.Bool.Decides.{nat_tests}
-use Rattle.process_api.specs.Sets.{Processes, up_to}
-use Rattle.process_api.specs.Inside.Bits.{members}
 use Rattle.process_api.proofs.Contains.{contains-insert_is, contains-remove_is, contains-up_to, same_members}
 
 -- q is among 1 to n, and told

@@ -1,7 +1,6 @@
 -- Vectors, cell by cell, and without the empty cells at their ends.
-use Rattle.std.proofs.Common.{◌≡◌, ◌⊎◌, inl, inr, ℕ, zero, suc, ◌+◌, ◌-◌, ◌<◌, ◌≤◌, refl, sym, ap, ◌∙◌, subst, Bool, true, false, not, ◌&&◌, true≢false, Option, None, List, [], ◌∷◌, ◌++◌, length, get_or, replicate, arith}
+use Rattle.process_api.proofs.Basics.{◌≡◌, ◌⊎◌, inl, inr, ℕ, zero, suc, ◌+◌, ◌-◌, ◌<◌, ◌≤◌, refl, sym, ap, ◌∙◌, subst, Bool, true, false, not, ◌&&◌, true≢false, Option, None, List, [], ◌∷◌, ◌++◌, length, get_or, replicate, arith, and-false}
 use Rattle.std.specs.Cmp.Lexicographic.{pointwise}
-use Rattle.std.proofs.Math.Bool.{and-false}
 use Rattle.std.proofs.lemmas.List.{append_assoc, length-append, length-replicate}
 
 module _ {K : Type 0} (E : K → K → Bool) (d : K) where

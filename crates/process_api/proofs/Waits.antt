@@ -1,8 +1,5 @@
 -- Waits that end one after the other, each as soon as it can, of whichever algorithm.
-use Rattle.std.proofs.Common.{◌≡◌, ℕ, zero, suc, ◌<◌, ◌≤◌, refl, sym, ap, ◌∙◌, subst, arith, Option, None, Some, IfSome}
-use Rattle.std.specs.List.{AllByRecursion}
-use Rattle.process_api.specs.Answer.{Answer, still, after}
-use Rattle.process_api.specs.declared.action.Action.{Action}
+use Rattle.process_api.proofs.Basics.{◌≡◌, ℕ, zero, suc, ◌<◌, ◌≤◌, refl, sym, ap, ◌∙◌, subst, arith, Option, None, Some, IfSome, AllByRecursion, Answer, still, after, Action}
 use Rattle.process_api.proofs.Lists.{both}
 
 module _ {S : Type 0} (end_wait : S → Option (Answer S)) (end_waits : ℕ → S → Answer S) where

@@ -1,6 +1,5 @@
 -- A follower that may be there.
-use Rattle.std.proofs.Common.{◌≡◌, Bool, true, false, refl, Option, None, Some, List}
-use Rattle.process_api.specs.EntryRecord.{EntryRecord}
+use Rattle.process_api.proofs.Basics.{◌≡◌, Bool, true, false, refl, Option, None, Some, List, EntryRecord}
 use Rattle.process_api.specs.Following.{HasFollowedWhere, IsWhere}
 
 module _ {F : Type 0} (followed : F → F → List EntryRecord → Type 0) (told : List EntryRecord) where

@@ -1,12 +1,6 @@
 -- Worked bounds: what the definitions give, by computing. The numbers were reckoned by hand, from tick to tick.
-use Rattle.std.proofs.Common.{◌≡◌, ℕ, refl, Some, None, Option, true, false}
-use Rattle.process_api.specs.declared.numbers.DetectorNumbers.{DetectorNumbers}
-use Rattle.process_api.specs.declared.numbers.DetectorNumbers.TheVariants.{Timeout, Freshness}
+use Rattle.promised.proofs.Words.{◌≡◌, ℕ, refl, Some, None, Option, true, false, DetectorNumbers, Timeout, Freshness, Link, detected_by, is_late, is_timely, latency, needed, WatchedLink}
 use Rattle.process_api.specs.declared.numbers.Watch.TheVariants.{All}
-use Rattle.scenario_record.specs.declared.link.Link.{Link}
-use Rattle.detector_bounds.specs.Detected.{detected_by}
-use Rattle.promised.specs.Promised.{is_late, is_timely, latency, needed}
-use Rattle.promised.specs.declared.watching.WatchedLink.{WatchedLink}
 
 -- beats at ticks 0, 4, 8 and so on, and checks at ticks 3, 6, 9 and so on
 abbrev time_outs : DetectorNumbers

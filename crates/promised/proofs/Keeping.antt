@@ -1,17 +1,9 @@
 -- The numbers of a scenario say of its traces what they are to.
-use Rattle.std.proofs.Common.{◌≡◌, ◌∙◌, sym, ap, refl, ℕ, ◌+◌, ◌-◌, ◌<◌, ◌≤◌, suc, nat_le, nat_lt, Bool, true, false, true≢false, not, ◌&&◌, Option, Some, None, List, [], map, filter_map, arith, unwrap_or, option_map, if◌then◌else◌, le-leb, leb-true, ltb-true}
-use Rattle.std.specs.List.{range_with_len}
+use Rattle.promised.proofs.Words.{◌≡◌, ◌∙◌, sym, ap, refl, ℕ, ◌+◌, ◌-◌, ◌<◌, ◌≤◌, suc, nat_le, nat_lt, Bool, true, false, true≢false, not, ◌&&◌, Option, Some, None, List, [], map, filter_map, arith, unwrap_or, option_map, if◌then◌else◌, le-leb, leb-true, ltb-true, range_with_len, both_true, and_true, is_watched, is_other, is_chosen, DetectorNumbers, Timeout, Freshness, Record, crash, link, outages_on, Link, IsIn, trusts, detected_by, Watches, IsReliable, IsTimely, watch_of, HasNotGrown, IsToDetect, IsLossless, AlwaysSuspects, KeepsPromises, waiting, crash_for, watched_link, watched_by, links_to, watched_links, loses, needed, patience, is_reliable, latency, is_late, lossless, promised, WatchedLink}
 use Rattle.std.specs.Option.{option_map_or}
-use Rattle.process_api.proofs.Minds.{both_true, and_true}
 use Rattle.process_api.specs.EntryRecord.{EntryRecord}
 use Rattle.process_api.specs.Numbers.{is_process}
-use Rattle.process_api.specs.Watching.{is_watched, is_other, is_chosen}
-use Rattle.process_api.specs.declared.numbers.DetectorNumbers.{DetectorNumbers}
-use Rattle.process_api.specs.declared.numbers.DetectorNumbers.TheVariants.{Timeout, Freshness}
 use Rattle.scenario_record.specs.Ranges.{IsInRange}
-use Rattle.scenario_record.specs.Record.{Record, crash, link, outages_on}
-use Rattle.scenario_record.specs.declared.link.Link.{Link}
-use Rattle.trace_laws.specs.History.{IsIn}
 use Rattle.trace_laws.specs.ScenarioSetting.{setting_of}
 use Rattle.trace_laws.specs.World.{IsTrace}
 use Rattle.judges.specs.Crashes.{crash_tick, is_correct, is_crashed}
@@ -19,13 +11,7 @@ use Rattle.judges.specs.Meaning.{IsProcess}
 use Rattle.judges.specs.Verdicts.{strong_accuracy}
 use Rattle.judges.proofs.Members.{in_filter, in_image, of_image}
 use Rattle.detector_bounds.specs.Bounds.{HasNoMistake}
-use Rattle.detector_bounds.specs.Detected.{trusts, detected_by}
-use Rattle.detector_bounds.specs.Watched.{Watches, IsReliable, IsTimely, watch_of}
 use Rattle.detector_bounds.proofs.Kept.{bounds_kept}
-use Rattle.promised.specs.Kept.{HasNotGrown, IsToDetect, IsLossless, AlwaysSuspects, KeepsPromises, waiting}
-use Rattle.promised.specs.Links.{crash_for, watched_link, watched_by, links_to, watched_links}
-use Rattle.promised.specs.Promised.{loses, needed, patience, is_reliable, latency, is_late, lossless, promised}
-use Rattle.promised.specs.declared.watching.WatchedLink.{WatchedLink}
 use Rattle.promised.proofs.Elements.{in_range, in_each, in_chosen, below_greatest, none_passes, all_pass, of_range, of_each, of_filter, of_chosen, greatest_in, some_passes}
 use Rattle.promised.proofs.Reliable.{timely_from, is_lossless, lossless_keeps, reliable_is}
 

@@ -1,3 +1,4 @@
+pub mod Words
 pub mod Elements
 pub mod Linking
 pub mod Reliable

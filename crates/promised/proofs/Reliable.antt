@@ -1,16 +1,8 @@
 -- A link counts as reliable exactly where the bounds call it so.
-use Rattle.std.proofs.Common.{◌≡◌, ◌∙◌, sym, ap, refl, ℕ, ◌≤◌, ◌==◌, Bool, true, false, not, ◌||◌, true≢false, List, [], ◌∷◌, length, arith, le-leb, eq-eqb}
+use Rattle.promised.proofs.Words.{◌≡◌, ◌∙◌, sym, ap, refl, ℕ, ◌≤◌, ◌==◌, Bool, true, false, not, ◌||◌, true≢false, List, [], ◌∷◌, length, arith, le-leb, eq-eqb, both_true, and_true, DetectorNumbers, Timeout, Freshness, Record, link, outages_on, Link, IsTimely, IsReliable, watched_link, loses, needed, patience, is_timely, is_reliable}
 use Rattle.std.specs.Prelude.{◌↔◌}
 use Rattle.std.proofs.lemmas.Bool.{leb-true, eqb-true}
-use Rattle.process_api.proofs.Minds.{both_true, and_true}
-use Rattle.process_api.specs.declared.numbers.DetectorNumbers.{DetectorNumbers}
-use Rattle.process_api.specs.declared.numbers.DetectorNumbers.TheVariants.{Timeout, Freshness}
-use Rattle.scenario_record.specs.Record.{Record, link, outages_on}
-use Rattle.scenario_record.specs.declared.link.Link.{Link}
 use Rattle.scenario_record.specs.declared.outage.Outage.{Outage}
-use Rattle.detector_bounds.specs.Watched.{IsTimely, IsReliable}
-use Rattle.promised.specs.Links.{watched_link}
-use Rattle.promised.specs.Promised.{loses, needed, patience, is_timely, is_reliable}
 
 neither : (a b : Bool) → not (not a || not b) ≡ true → (a ≡ true) × (b ≡ true)
 neither true true h = (refl, refl)

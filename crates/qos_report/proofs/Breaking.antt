@@ -1,24 +1,10 @@
 -- A run by windows from its trace to its texts: what it leaves once it is done, and once it breaks off.
-use Rattle.std.proofs.Common.{◌≡◌, ◌≢◌, ◌⊎◌, ℕ, ◌+◌, inl, inr, refl, sym, ap, ◌∙◌, subst, arith, Bool, true, false, Option, None, Some, List, [], ◌++◌, Err, append-nil}
-use Rattle.std.specs.Prelude.{IsTrue}
+use Rattle.qos_report.proofs.Words.{◌≡◌, ◌≢◌, ◌⊎◌, ℕ, ◌+◌, inl, inr, refl, sym, ap, ◌∙◌, subst, arith, Bool, true, false, Option, None, Some, List, [], ◌++◌, Err, append-nil, IsTrue, setting_of, IsTrace, RunError, Limit, Memory, Write, EntryRecord, Record, writes_of, report_text, IsTextWhere, WroteFirst, WroteFront, WroteWhere, rows_text, trace_header, trace_text, Wrote, WrotePart, WroteNothing, part_of_more, wrote_both, wrote_then_part}
 use Rattle.std.specs.Global.{Vec}
-use Rattle.trace_laws.specs.ScenarioSetting.{setting_of}
-use Rattle.trace_laws.specs.World.{IsTrace}
-use Rattle.process_api.specs.declared.run_error.RunError.{RunError}
-use Rattle.process_api.specs.declared.run_error.RunError.TheVariants.{Limit, Memory, Write}
-use Rattle.process_api.specs.EntryRecord.{EntryRecord}
-use Rattle.scenario_record.specs.Record.{Record}
-use Rattle.windows.specs.Sink.{writes_of}
 use Rattle.process_api.specs.declared.print_choice.PrintChoice.{PrintChoice}
 use Rattle.process_api.specs.declared.print_choice.PrintChoice.TheVariants as choice
 use Rattle.reporting.specs.Printed.{items_of, printed, prints_report, prints_trace}
 use Rattle.runs.specs.Finishing.{BreaksOff, WroteRows, IsLonger}
-use Rattle.reporting.specs.ReportText.{report_text}
-use Rattle.reporting.specs.Running.{IsTextWhere}
-use Rattle.qos_report.specs.Inside.Streaming.{WroteFirst, WroteFront, WroteWhere}
-use Rattle.reporting.specs.TraceText.{rows_text, trace_header, trace_text}
-use Rattle.reporting.specs.Writing.{Wrote, WrotePart, WroteNothing}
-use Rattle.reporting.proofs.Written.{part_of_more, wrote_both, wrote_then_part}
 
 trace_text_is : (trace : List EntryRecord) → trace_header ++ rows_text trace ≡ trace_text trace
 unfolding trace_text

@@ -1,21 +1,7 @@
 -- What a sink took, window by window.
-use Rattle.std.proofs.Common.{◌≡◌, ℕ, inl, inr, refl, sym, ap, ◌∙◌, subst, Bool, true, false, true≢false, Option, List, [], ◌∷◌, ◌++◌, append_assoc, append-nil, ◌≤◌, length, Result, Ok, Err, OnOk, OnErr}
-use Rattle.process_api.specs.EntryRecord.{EntryRecord}
-use Rattle.reporting.specs.Rows.{row_of, written}
-use Rattle.qos_report.specs.Inside.Streaming.{AreUnderWay, WroteFront, WroteWhere, StreamedFront, StreamedTrace, TookFrontOfPart, TookPart}
-use Rattle.reporting.specs.TraceText.{Holds, fields_of, rows_text}
+use Rattle.qos_report.proofs.Words.{◌≡◌, ℕ, inl, inr, refl, sym, ap, ◌∙◌, subst, Bool, true, false, true≢false, Option, List, [], ◌∷◌, ◌++◌, append_assoc, append-nil, ◌≤◌, length, Result, Ok, Err, OnOk, OnErr, EntryRecord, row_of, written, AreUnderWay, WroteFront, WroteWhere, StreamedFront, StreamedTrace, TookFrontOfPart, TookPart, Holds, fields_of, rows_text, Wrote, WrotePart, part_of_more, rows_both, rows_one, wrote_both, wrote_nothing, wrote_then_part, setting_of, IsSound, IsTrace, RunError, trace_rises, Record, TookAll, TookFront, TookTrace, RunningFollowed}
 use Rattle.reporting.specs.declared.trace_text.TraceText.{TraceText}
-use Rattle.reporting.specs.Writing.{Wrote, WrotePart}
-use Rattle.reporting.proofs.Written.{part_of_more, rows_both, rows_one, wrote_both, wrote_nothing, wrote_then_part}
-use Rattle.trace_laws.specs.ScenarioSetting.{setting_of}
-use Rattle.trace_laws.specs.Setting.{IsSound}
-use Rattle.trace_laws.specs.World.{IsTrace}
-use Rattle.process_api.specs.declared.run_error.RunError.{RunError}
-use Rattle.trace_laws.proofs.Closed.{trace_rises}
-use Rattle.scenario_record.specs.Record.{Record}
-use Rattle.windows.specs.Sink.{TookAll, TookFront, TookTrace}
 use Rattle.window_laws.specs.Theorems.{end_to_end}
-use Rattle.reporting.specs.Running.{RunningFollowed}
 use Rattle.qos_report.specs.declared.streaming.Streaming.{Streaming}
 use Rattle.reporting.proofs.Followed.{running_same, running_told}
 

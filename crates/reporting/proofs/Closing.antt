@@ -1,27 +1,8 @@
 -- Meters, as they open, as they are fed with one more entry, and at the close.
-use Rattle.std.proofs.Common.{◌≡◌, ℕ, arith, None, Some, ◌≢◌, ◌<◌, ◌≤◌, min, cond, sym, ap, ◌∙◌, List, [], ◌∷◌, ◌++◌, suc, ◌+◌, ◌-◌, ◌*◌, refl, subst, map, get_or, add-one}
-use Rattle.std.proofs.lemmas.Bool.Decides.{nat_tests}
-use Rattle.process_api.specs.EntryRecord.{EntryRecord}
-use Rattle.scenario_record.specs.Record.{Record}
-use Rattle.judges.specs.Crashes.{crash_tick, end_of}
+use Rattle.reporting.proofs.Words.{◌≡◌, ℕ, arith, None, Some, ◌≢◌, ◌<◌, ◌≤◌, min, cond, sym, ap, ◌∙◌, List, [], ◌∷◌, ◌++◌, suc, ◌+◌, ◌-◌, ◌*◌, refl, subst, map, get_or, add-one, nat_tests, EntryRecord, Record, crash_tick, end_of, all_turned, opened, kept_at, noted_turns, entry_turns, Pair, fed_more, turns_own, turns_late, turns_other, in_order_more, is_measured, pair_measures, layer_measures, crash_between, closed, counted, new_tally, told, Tally, others, suspects, ArePairs, fed, Pairs, IsKnown, fed_known, pair, metered, closed_row, closed_rows}
 use Rattle.judges.specs.Judging.{AreUntil}
-use Rattle.judges.specs.Pair.{all_turned, opened, kept_at}
-use Rattle.judges.specs.Turns.{noted_turns, entry_turns}
-use Rattle.judges.specs.declared.pair.Pair.{Pair}
-use Rattle.judges.proofs.Entering.{fed_more}
-use Rattle.judges.proofs.Turns.{turns_own, turns_late, turns_other, in_order_more}
-use Rattle.reporting.specs.Measures.{is_measured, pair_measures, layer_measures}
-use Rattle.reporting.specs.Meter.{crash_between, closed}
 use Rattle.reporting.specs.MeterFed.{IsFed}
-use Rattle.reporting.specs.Tally.{counted, new_tally, told}
 use Rattle.reporting.specs.declared.meter.Meter.{Meter}
-use Rattle.reporting.specs.declared.tally.Tally.{Tally}
-use Rattle.process_api.specs.Numbers.{others}
-use Rattle.judges.specs.Out.{suspects}
-use Rattle.judges.specs.Pairs.{ArePairs, fed}
-use Rattle.judges.specs.declared.pairs.Pairs.{Pairs}
-use Rattle.judges.proofs.Standing.{IsKnown, fed_known}
-use Rattle.reporting.specs.LayerPairs.{pair, metered, closed_row, closed_rows}
 use Rattle.reporting.proofs.Passes.{Knows, tallies_keep, none_known, told_is}
 use Rattle.reporting.proofs.EachProcess.{others_same, rows_same}
 

@@ -1,17 +1,12 @@
 -- Worked runs: what the definitions give of them, by computing.
-use Rattle.std.proofs.Common.{◌≡◌, ℕ, List, [], ◌∷◌, refl, Option, Some, None}
-use Rattle.process_api.specs.EntryRecord.{EntryRecord}
-use Rattle.process_api.specs.declared.action.Note.{Note}
+use Rattle.reporting.proofs.Words.{◌≡◌, ℕ, List, [], ◌∷◌, refl, Option, Some, None, EntryRecord, Note, Record, pair_durations, pair_measures, layer_measures, all_measures, Na, NoTick, At}
 use Rattle.process_api.specs.declared.action.Note.TheVariants.{Suspect, Trust}
 use Rattle.process_api.specs.declared.entry.Kind.TheVariants as kind
 use Rattle.process_api.specs.declared.numbers.DetectorNumbers.TheVariants as numbers
 use Rattle.process_api.specs.declared.numbers.Watch.TheVariants as watch
-use Rattle.scenario_record.specs.Record.{Record}
 use Rattle.scenario_record.specs.declared.algorithm.AlgorithmKind.TheVariants as algorithm
-use Rattle.reporting.specs.Measures.{pair_durations, pair_measures, layer_measures, all_measures}
 use Rattle.reporting.specs.declared.pair_measures.PairMeasures.{PairMeasures}
 use Rattle.reporting.specs.declared.pair_measures.Detection.{Detection}
-use Rattle.reporting.specs.declared.pair_measures.Detection.TheVariants.{Na, NoTick, At}
 
 -- a step with these notes; no measure reads its kind or its counts
 abbrev step : (tick receiver sender number : ℕ) → List Note → EntryRecord

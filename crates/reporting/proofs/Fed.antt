@@ -1,22 +1,10 @@
 -- What whoever follows a run tells of it.
 use Rattle.std.proofs.Common.{◌≡◌, ℕ, suc, ◌<◌, ◌^◌, Bool, true, false, cond, sym, ap, ◌∙◌, subst, arith, Option, Some, None, is_some, List, [], ◌∷◌, ◌++◌, flat_map, length, take, drop, get_or, append_assoc, Result, Ok, Err, OnOk, OnErr, IfOk, IfErr}
-use Rattle.std.specs.Global.{Vec}
-use Rattle.std.specs.List.{sum_by}
-use Rattle.std.proofs.lemmas.List.{take-append-drop}
-use Rattle.std.proofs.Math.Seq.{drop-cons}
+use Rattle.reporting.proofs.Words.{Vec, sum_by, take-append-drop, drop-cons, EntryRecord, Record, verdicts, second_text, found_text, layers, all_measures, items_of, Text, report_header, run_text, verdict_text, pair_text, decisions_text, report_text, IsCounting, IsTextWhere, Counts}
 use Rattle.process_api.specs.declared.run_error.RunError.{RunError}
 use Rattle.process_api.specs.declared.run_error.RunError.TheVariants.{Write}
-use Rattle.process_api.specs.EntryRecord.{EntryRecord}
-use Rattle.scenario_record.specs.Record.{Record}
 use Rattle.judges.specs.Outcomes.{outcomes}
-use Rattle.judges.specs.Verdicts.{verdicts}
-use Rattle.reporting.specs.Inside.Findings.{second_text, found_text}
 use Rattle.reporting.specs.Measured.{AreFindings, second_verdicts}
-use Rattle.reporting.specs.Measures.{layers, all_measures}
-use Rattle.reporting.specs.Printed.{items_of}
-use Rattle.reporting.specs.ReportText.{Text, report_header, run_text, verdict_text, pair_text, decisions_text, report_text}
-use Rattle.reporting.specs.Running.{IsCounting, IsTextWhere}
-use Rattle.reporting.specs.declared.counts.Counts.{Counts}
 use Rattle.reporting.specs.declared.findings.RunFindings.{RunFindings}
 use Rattle.reporting.proofs.Layers.{layered}
 

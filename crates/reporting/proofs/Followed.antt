@@ -1,16 +1,8 @@
 -- Whoever follows a run, as it is put together: fed with nothing, and told of a trace.
-use Rattle.std.proofs.Common.{◌≡◌, ℕ, Bool, true, false, sym, ap, subst, is_some, Option, List, [], ◌++◌, append-nil}
-use Rattle.process_api.specs.Following.{HasFollowedWhere}
-use Rattle.process_api.proofs.Where.{same_where, then_where}
-use Rattle.process_api.specs.EntryRecord.{EntryRecord}
+use Rattle.reporting.proofs.Words.{◌≡◌, ℕ, Bool, true, false, sym, ap, subst, is_some, Option, List, [], ◌++◌, append-nil, HasFollowedWhere, same_where, then_where, EntryRecord, Record, prints_report, prints_trace, AreLayers, IsLayer, IsMeasuring, IsRecording, IsRunning, IsSumming, LayerFollowed, LayersFollowed, Running, RunningFollowed, SummingFollowed, Holds, rows_text, trace_header, trace_text, Counts}
 use Rattle.process_api.specs.Order.{is_rising}
-use Rattle.scenario_record.specs.Record.{Record}
 use Rattle.judges.specs.declared.outcomes.RunningOutcomes.{RunningOutcomes}
 use Rattle.process_api.specs.declared.print_choice.PrintChoice.{PrintChoice}
-use Rattle.reporting.specs.Printed.{prints_report, prints_trace}
-use Rattle.reporting.specs.Running.{AreLayers, IsLayer, IsMeasuring, IsRecording, IsRunning, IsSumming, LayerFollowed, LayersFollowed, Running, RunningFollowed, SummingFollowed}
-use Rattle.reporting.specs.TraceText.{Holds, rows_text, trace_header, trace_text}
-use Rattle.reporting.specs.declared.counts.Counts.{Counts}
 use Rattle.reporting.specs.declared.layer.Layer.{Layer}
 use Rattle.reporting.specs.declared.trace_text.TraceText.{TraceText}
 

@@ -1,12 +1,6 @@
 -- Rows of a report that begin with the same fields.
-use Rattle.std.proofs.Common.{◌≡◌, ℕ, suc, ◌+◌, ◌<◌, List, [], ◌∷◌, ◌++◌, length, take, map, get_or, decimal, refl, ap, ◌∙◌, append-nil, arith}
-use Rattle.std.proofs.Math.Seq.{take-suc}
-use Rattle.std.proofs.lemmas.Grind.{flat_map-append}
+use Rattle.reporting.proofs.Words.{◌≡◌, ℕ, suc, ◌+◌, ◌<◌, List, [], ◌∷◌, ◌++◌, length, take, map, get_or, decimal, refl, ap, ◌∙◌, append-nil, arith, take-suc, flat_map-append, join_with_byte, front_of, row_about, rows_about, Text, report_row, report_rows, row_of}
 use Rattle.std.proofs.lemmas.List.{append_assoc, map-append}
-use Rattle.std.specs.List.{join_with_byte}
-use Rattle.reporting.specs.Inside.Values.{front_of, row_about, rows_about}
-use Rattle.reporting.specs.ReportText.{Text, report_row, report_rows}
-use Rattle.reporting.specs.Rows.{row_of}
 use Rattle.reporting.specs.declared.report_rows.About.{About}
 
 -- fields that are joined already stand as they would one by one

@@ -1,8 +1,5 @@
 -- Lemmas on joined texts.
-use Rattle.std.proofs.Common.{◌≡◌, ℕ, List, [], ◌∷◌, ◌++◌, length, refl, ap, sym, ◌∙◌, arith, append-nil, map}
-use Rattle.std.specs.List.{join_with_byte, flat_map}
-use Rattle.reporting.specs.TraceText.{notes_text, note_text}
-use Rattle.process_api.specs.declared.action.Note.{Note}
+use Rattle.reporting.proofs.Words.{◌≡◌, ℕ, List, [], ◌∷◌, ◌++◌, length, refl, ap, sym, ◌∙◌, arith, append-nil, map, join_with_byte, flat_map, notes_text, note_text, Note}
 
 joined : (c : ℕ) (x : List ℕ) (xs : List (List ℕ)) → join_with_byte c (x ∷ xs) ≡ x ++ flat_map (λ y. c ∷ y) xs
 joined c x [] = sym (append-nil x)

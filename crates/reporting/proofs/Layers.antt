@@ -1,8 +1,6 @@
 -- What is told of all layers, from what is told of each.
 use Rattle.std.proofs.Common.{◌≡◌, ℕ, Bool, true, false, cond, refl, sym, ap, ◌∙◌, is_some, List, [], ◌∷◌, ◌++◌, flat_map, append-nil}
-use Rattle.process_api.specs.EntryRecord.{EntryRecord}
-use Rattle.scenario_record.specs.Record.{Record}
-use Rattle.reporting.specs.Measures.{layer_measures, second_measures, all_measures}
+use Rattle.reporting.proofs.Words.{EntryRecord, Record, layer_measures, second_measures, all_measures}
 
 pub layered : {X : Type 0} (of : ℕ → List X) (b : Bool) → of 1 ++ cond b (of 2) [] ≡ flat_map of (cond b (1 ∷ 2 ∷ []) (1 ∷ []))
 layered of true = ap (λ xs. of 1 ++ xs) (sym (append-nil (of 2)))

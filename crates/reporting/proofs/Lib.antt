@@ -1,3 +1,4 @@
+pub mod Words
 pub mod NoQuotes
 pub mod PlainRows
 pub mod Passes

@@ -1,13 +1,8 @@
 -- Fields that call for no quotes.
-use Rattle.std.proofs.Common.{◌≡◌, ℕ, ◌+◌, ◌%◌, ◌^◌, ◌<◌, ◌≤◌, ◌||◌, List, [], ◌∷◌, ◌++◌, false, decimal, refl, sym, subst, ap, ◌∙◌, arith}
-use Rattle.std.proofs.lemmas.Bool.{ne_eqb}
-use Rattle.std.proofs.lemmas.Fmt.{decimal_by_steps}
+use Rattle.reporting.proofs.Words.{◌≡◌, ℕ, ◌+◌, ◌%◌, ◌^◌, ◌<◌, ◌≤◌, ◌||◌, List, [], ◌∷◌, ◌++◌, false, decimal, refl, sym, subst, ap, ◌∙◌, arith, ne_eqb, decimal_by_steps, default_writer, needs_byte, IsPlain, kind_text}
 use Rattle.std.proofs.lemmas.List.Folds.{list_any-append}
-use Rattle.csv.specs.Writing.{default_writer, needs_byte}
 use Rattle.process_api.specs.declared.entry.Kind.{Kind}
 use Rattle.process_api.specs.declared.entry.Kind.TheVariants as kind
-use Rattle.reporting.specs.Inside.Plain.{IsPlain}
-use Rattle.reporting.specs.Kinds.{kind_text}
 
 digit_byte : (b : ℕ) → 48 ≤ b → b ≤ 57 → needs_byte default_writer b ≡ false
 digit_byte b low high =

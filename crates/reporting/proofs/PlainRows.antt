@@ -1,9 +1,5 @@
 -- Rows that csv writes with no quotes.
-use Rattle.std.proofs.Common.{◌≡◌, ℕ, ◌≤◌, List, [], ◌∷◌, ◌++◌, length, ap, arith, append-nil}
-use Rattle.std.specs.List.{join_with_byte}
-use Rattle.csv.specs.Writing.{default_writer, row_text, field_text, fields_text, is_blank}
-use Rattle.reporting.specs.Inside.Plain.{IsPlain, ArePlain}
-use Rattle.reporting.specs.Rows.{row_of, plain_writer}
+use Rattle.reporting.proofs.Words.{◌≡◌, ℕ, ◌≤◌, List, [], ◌∷◌, ◌++◌, length, ap, arith, append-nil, join_with_byte, default_writer, row_text, field_text, fields_text, is_blank, IsPlain, ArePlain, row_of, plain_writer}
 
 fields_text-plain : (x : List ℕ) (xs : List (List ℕ)) → x ++ fields_text plain_writer xs ≡ join_with_byte 44 (x ∷ xs)
 unfolding fields_text

@@ -1,14 +1,7 @@
 -- Texts that went out one after the other.
-use Rattle.std.proofs.Common.{◌≡◌, ℕ, ◌+◌, refl, sym, ap, ◌∙◌, subst, arith, Option, List, [], ◌∷◌, ◌++◌, length, append-nil}
-use Rattle.std.proofs.KnownBytes.{Appends-nil, Appends-trans}
-use Rattle.std.proofs.lemmas.Grind.{flat_map-append}
+use Rattle.reporting.proofs.Words.{◌≡◌, ℕ, ◌+◌, refl, sym, ap, ◌∙◌, subst, arith, Option, List, [], ◌∷◌, ◌++◌, length, append-nil, Appends-nil, Appends-trans, flat_map-append, take-append-add, Appends, EntryRecord, row_of, Wrote, WrotePart}
 use Rattle.std.proofs.lemmas.List.{take-append-le, length-append}
-use Rattle.std.proofs.Math.Seq.{take-append-add}
-use Rattle.std.specs.Io.KnownBytes.{Appends}
-use Rattle.process_api.specs.EntryRecord.{EntryRecord}
-use Rattle.reporting.specs.Rows.{row_of}
 use Rattle.reporting.specs.TraceText.{fields_of, rows_text}
-use Rattle.reporting.specs.Writing.{Wrote, WrotePart}
 
 pub rows_both : (xs ys : List EntryRecord) → rows_text (xs ++ ys) ≡ rows_text xs ++ rows_text ys
 rows_both xs ys = flat_map-append (λ e. row_of (fields_of e)) xs ys

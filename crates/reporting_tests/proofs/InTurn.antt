@@ -1,15 +1,6 @@
 -- Shards that are swept one after the other, into memory.
-use Rattle.std.proofs.Common.{◌≡◌, ℕ, ◌+◌, List, [], ◌∷◌, ◌++◌, Some, sym, ap, ◌∙◌, subst, arith}
-use Rattle.std.specs.List.{AllZip, flat_map, range_with_len}
-use Rattle.std.proofs.lemmas.List.{flat_map_more}
-use Rattle.study.specs.Sources.{SourcesRecord}
-use Rattle.reporting.specs.Outlet.{Held}
-use Rattle.study.specs.Grid.{GridRecord}
+use Rattle.reporting_tests.proofs.Words.{◌≡◌, ℕ, ◌+◌, List, [], ◌∷◌, ◌++◌, Some, sym, ap, ◌∙◌, subst, arith, AllZip, flat_map, range_with_len, flat_map_more, SourcesRecord, Held, GridRecord, WroteStudy, Text, IsStudyText, zip_push, range_more}
 use Rattle.sweep.specs.Layout.{LayoutRecord}
-use Rattle.sweep.specs.Outcome.{WroteStudy}
-use Rattle.sweep.specs.RowText.{Text}
-use Rattle.sweep.specs.StudyText.{IsStudyText}
-use Rattle.sweep.proofs.Zipped.{zip_push, range_more}
 
 module _ (sources : SourcesRecord) (g : GridRecord) (layout : LayoutRecord) (of : ℕ) where
   abbrev IsNumbered : ℕ → Text → Type 0

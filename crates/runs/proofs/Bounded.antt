@@ -1,20 +1,7 @@
 -- Every row of layer 1 keeps to the bounds.
-use Rattle.std.proofs.Common.{◌≡◌, inl, inr, ℕ, zero, suc, ◌-◌, ◌<◌, ◌≤◌, refl, sym, ap, ◌∙◌, subst, Bool, true, not, cond, arith, List, unwrap_or}
-use Rattle.std.proofs.lemmas.Bool.{cond-true, cond-false, cases_Bool, lt-ltb, le-ltb}
-use Rattle.process_api.specs.EntryRecord.{EntryRecord}
-use Rattle.process_api.proofs.Minds.{both_true, and_true}
-use Rattle.scenario_record.specs.Record.{Record}
-use Rattle.judges.specs.Crashes.{crash_tick, is_crashed, is_correct, end_of}
+use Rattle.runs.proofs.Words.{◌≡◌, inl, inr, ℕ, zero, suc, ◌-◌, ◌<◌, ◌≤◌, refl, sym, ap, ◌∙◌, subst, Bool, true, not, cond, arith, List, unwrap_or, cond-true, cond-false, cases_Bool, lt-ltb, le-ltb, EntryRecord, both_true, and_true, Record, crash_tick, is_crashed, is_correct, end_of, suspects, all_from, least_from, all_from-from, CrashesAt, KeepsBounds, detected_at, IsBounded, KeepsToBounds, count_below, delay_after, detection, is_measured, measured, pair_measures, starts, At, Na}
 use Rattle.judges.specs.Meaning.{IsCorrect}
-use Rattle.judges.specs.Out.{suspects}
-use Rattle.judges.specs.Ticks.{all_from, least_from}
-use Rattle.judges.proofs.Lasting.{all_from-from}
-use Rattle.detector_bounds.specs.Bounds.{CrashesAt, KeepsBounds, detected_at}
 use Rattle.detector_bounds.specs.Watched.{IsReliable, Watches}
-use Rattle.runs.specs.Grounds.{IsBounded, KeepsToBounds}
-use Rattle.reporting.specs.Distances.{count_below}
-use Rattle.reporting.specs.Measures.{delay_after, detection, is_measured, measured, pair_measures, starts}
-use Rattle.reporting.specs.declared.pair_measures.Detection.TheVariants.{At, Na}
 use Rattle.runs.proofs.Least.{least_by}
 
 -- ---- ticks

@@ -1,26 +1,9 @@
 -- Letters, and what the trace has of them.
-use Rattle.std.proofs.Common.{◌≡◌, ◌≢◌, ◌⊎◌, ◌+◌, ◌<◌, inl, inr, refl, sym, ap, ◌∙◌, subst, Bool, true, false, cond, true≢false, nat_le, List, [], ◌∷◌, map, Some, arith}
-use Rattle.std.proofs.lemmas.Bool.{leb-false, lt-leb}
-use Rattle.process_api.specs.EntryRecord.{EntryRecord}
+use Rattle.runs.proofs.Words.{◌≡◌, ◌≢◌, ◌⊎◌, ◌+◌, ◌<◌, inl, inr, refl, sym, ap, ◌∙◌, subst, Bool, true, false, cond, true≢false, nat_le, List, [], ◌∷◌, map, Some, arith, leb-false, lt-leb, EntryRecord, Key, IsInRange, Record, Fate, Posted, posted_in, posted_along, setting_of, Setting, IsSound, has_crashed, Event, kind_of, kind_of_payload, World, Has, IsWorld, Run, opening, taken, entries, IsTrace, closed_of_run, opening_world, starts_are, one_run, setting_sound, in_append, in_images, in_left, in_right, of_images, due_of, fate_of, letter_of, AreLetters, IsEntryOf, AreInTrace, Letter}
 use Rattle.process_api.specs.declared.entry.Kind.TheVariants as kind
-use Rattle.process_api.specs.declared.key.Key.{Key}
-use Rattle.scenario_record.specs.Ranges.{IsInRange}
-use Rattle.scenario_record.specs.Record.{Record}
-use Rattle.streams.specs.declared.fate.Fate.{Fate}
 use Rattle.streams.specs.declared.fate.Fate.TheVariants as link
 use Rattle.trace_laws.specs.History.{IsIn, IsTaken, Pair}
-use Rattle.steps.specs.Posting.{Posted, posted_in, posted_along}
-use Rattle.trace_laws.specs.ScenarioSetting.{setting_of}
-use Rattle.trace_laws.specs.Setting.{Setting, IsSound, has_crashed}
-use Rattle.trace_laws.specs.Step.{Event, kind_of, kind_of_payload}
-use Rattle.trace_laws.specs.World.{World, Has, IsWorld, Run, opening, taken, entries, IsTrace}
-use Rattle.trace_laws.proofs.Closed.{closed_of_run, opening_world, starts_are}
-use Rattle.trace_laws.proofs.Runs.{one_run}
-use Rattle.trace_laws.proofs.Sound.{setting_sound}
-use Rattle.trace_laws.proofs.Steps.{in_append, in_images, in_left, in_right, of_images}
 use Rattle.trace_laws.proofs.Worlds.{taken_cases, taken_new, taken_world}
-use Rattle.runs.specs.Letters.{due_of, fate_of, letter_of, AreLetters, IsEntryOf, AreInTrace}
-use Rattle.reporting.specs.declared.letter.Letter.{Letter}
 use Rattle.reporting.specs.declared.letter.LetterFate.{LetterFate}
 use Rattle.reporting.specs.declared.letter.LetterFate.TheVariants as fate
 use Rattle.runs.proofs.OneStep.{event_of, Becomes, step_joins, step_posted, step_kind}

@@ -1,15 +1,8 @@
 -- A run from its trace to its texts: what it leaves once it is done, and once it is refused.
-use Rattle.std.proofs.Common.{◌≡◌, ◌≢◌, ℕ, ◌<◌, sym, subst, refl, List, length, Option, Result, Ok, Err, IfOk, IfErr, OnOk}
+use Rattle.runs.proofs.Words.{◌≡◌, ◌≢◌, ℕ, ◌<◌, sym, subst, refl, List, length, Option, Result, Ok, Err, IfOk, IfErr, OnOk, setting_of, IsTrace, Agree, agrees, EntryRecord, IsInRange, Record}
 use Rattle.trace_laws.specs.Effects.{HasCauses, TakesOnce}
-use Rattle.trace_laws.specs.ScenarioSetting.{setting_of}
-use Rattle.trace_laws.specs.World.{IsTrace}
 use Rattle.process_api.specs.declared.run_error.RunError.{RunError}
 use Rattle.process_api.specs.declared.run_error.RunError.TheVariants.{Limit, Memory, Spawn, Write}
-use Rattle.judges.specs.Agreement.{Agree}
-use Rattle.judges.proofs.Agreement.Agreed.{agrees}
-use Rattle.process_api.specs.EntryRecord.{EntryRecord}
-use Rattle.scenario_record.specs.Ranges.{IsInRange}
-use Rattle.scenario_record.specs.Record.{Record}
 use Rattle.reporting.specs.Printed.{printed}
 use Rattle.runs.specs.Finishing.{IsTraceWithin, Finishes, Refuses}
 use Rattle.reporting.specs.Summary.{IsSummary}

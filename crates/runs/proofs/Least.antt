@@ -1,8 +1,6 @@
 -- The least tick that passes a test.
-use Rattle.std.proofs.Common.{◌≡◌, ◌⊎◌, inl, inr, ℕ, zero, suc, ◌<◌, ◌≤◌, refl, sym, ap, ◌∙◌, Bool, true, cond, arith, None, Some}
-use Rattle.std.proofs.lemmas.Bool.{cond-true}
+use Rattle.runs.proofs.Words.{◌≡◌, ◌⊎◌, inl, inr, ℕ, zero, suc, ◌<◌, ◌≤◌, refl, sym, ap, ◌∙◌, Bool, true, cond, arith, None, Some, cond-true, first_of, least_below}
 use Rattle.std.proofs.lemmas.Option.{cond_some}
-use Rattle.judges.specs.Ticks.{first_of, least_below}
 
 pub least_passes : (test : ℕ → Bool) (end t : ℕ) → least_below test end ≡ Some t → (t < end) × (test t ≡ true)
 least_passes test zero t e = absurd (cc)

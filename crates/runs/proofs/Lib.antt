@@ -1,3 +1,4 @@
+pub mod Words
 pub mod Ordered
 mod OneStep
 pub mod Coming

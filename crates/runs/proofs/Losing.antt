@@ -1,24 +1,11 @@
 -- As many letters are lost as the entries of the trace count.
-use Rattle.std.proofs.Common.{◌≡◌, ℕ, ◌+◌, refl, sym, ap, ◌∙◌, Bool, true, false, cond, List, [], ◌∷◌, map, nat_le, arith, ◌==◌}
+use Rattle.runs.proofs.Words.{◌≡◌, ℕ, ◌+◌, refl, sym, ap, ◌∙◌, Bool, true, false, cond, List, [], ◌∷◌, map, nat_le, arith, ◌==◌, sum_by-append, sum_by-cons, EntryRecord, Action, Key, StepInput, Record, Fate, Posted, posting, posted_by, posted_in, posted_along, setting_of, Setting, has_crashed, one_run, letter_of, due_of, fate_of, AreLetters, AreLostAs, is_lost, Letter}
 use Rattle.std.specs.List.{count_by, sum_by}
-use Rattle.std.proofs.lemmas.List.Sums.{sum_by-append, sum_by-cons}
-use Rattle.process_api.specs.EntryRecord.{EntryRecord}
-use Rattle.process_api.specs.declared.action.Action.{Action}
 use Rattle.process_api.specs.declared.action.Action.TheVariants.{Send, Wake, Note}
-use Rattle.process_api.specs.declared.key.Key.{Key}
-use Rattle.process_api.specs.declared.message.StepInput.{StepInput}
-use Rattle.scenario_record.specs.Record.{Record}
-use Rattle.streams.specs.declared.fate.Fate.{Fate}
 use Rattle.streams.specs.declared.fate.Fate.TheVariants as link
-use Rattle.steps.specs.Posting.{Posted, posting, posted_by, posted_in, posted_along}
-use Rattle.trace_laws.specs.ScenarioSetting.{setting_of}
-use Rattle.trace_laws.specs.Setting.{Setting, has_crashed}
 use Rattle.trace_laws.specs.Step.{Process, counted, is_lost as loses, lost, lost_by, step}
 use Rattle.trace_laws.specs.World.{World, Pair, IsTrace, Run, entries, opening, taken}
-use Rattle.trace_laws.proofs.Runs.{one_run}
 use Rattle.runs.proofs.OneStep.{step_cases}
-use Rattle.runs.specs.Letters.{letter_of, due_of, fate_of, AreLetters, AreLostAs, is_lost}
-use Rattle.reporting.specs.declared.letter.Letter.{Letter}
 use Rattle.reporting.specs.declared.letter.LetterFate.TheVariants as fate
 
 module _ {Mind : Type 0} (S : Setting Mind) where

@@ -1,22 +1,9 @@
 -- On each link letters are numbered from 1, without a gap.
-use Rattle.std.proofs.Common.{◌≡◌, ◌≢◌, ℕ, ◌+◌, refl, sym, ap, ◌∙◌, subst, Bool, true, false, cond, List, [], ◌∷◌, ◌++◌, filter, length, map, arith, ◌==◌, ◌&&◌}
-use Rattle.std.specs.List.{range_with_len}
+use Rattle.runs.proofs.Words.{◌≡◌, ◌≢◌, ℕ, ◌+◌, refl, sym, ap, ◌∙◌, subst, Bool, true, false, cond, List, [], ◌∷◌, ◌++◌, filter, length, map, arith, ◌==◌, ◌&&◌, range_with_len, filter-append, eqb-true, eqb-false, eq-eqb, ne_eqb, Action, Key, StepInput, Record, Posted, posting, posted_by, posted_in, posted_along, setting_of, Setting, Process, counted, counts_after, raised, step, letter_of, AreLetters, AreNumbered, numbers_on, Letter}
 use Rattle.std.proofs.lemmas.List.{length-append, map-append}
-use Rattle.std.proofs.lemmas.List.Elements.{filter-append}
-use Rattle.std.proofs.lemmas.Bool.{eqb-true, eqb-false, eq-eqb, ne_eqb}
-use Rattle.process_api.specs.declared.action.Action.{Action}
 use Rattle.process_api.specs.declared.action.Action.TheVariants.{Send, Wake, Note}
-use Rattle.process_api.specs.declared.key.Key.{Key}
-use Rattle.process_api.specs.declared.message.StepInput.{StepInput}
-use Rattle.scenario_record.specs.Record.{Record}
-use Rattle.steps.specs.Posting.{Posted, posting, posted_by, posted_in, posted_along}
-use Rattle.trace_laws.specs.ScenarioSetting.{setting_of}
-use Rattle.trace_laws.specs.Setting.{Setting}
-use Rattle.trace_laws.specs.Step.{Process, counted, counts_after, raised, step}
 use Rattle.trace_laws.specs.World.{World, Pair, opening, taken}
 use Rattle.runs.proofs.OneStep.{step_cases}
-use Rattle.runs.specs.Letters.{letter_of, AreLetters, AreNumbered, numbers_on}
-use Rattle.reporting.specs.declared.letter.Letter.{Letter}
 
 -- ---- numbers that follow one another
 

@@ -1,20 +1,10 @@
 -- Letters of one step, and the events that they become.
-use Rattle.std.proofs.Common.{◌≡◌, ◌≢◌, ℕ, ◌+◌, ◌<◌, inl, inr, refl, sym, ap, ◌∙◌, subst, Bool, true, false, cond, List, [], ◌∷◌, arith, ◌==◌}
-use Rattle.std.proofs.lemmas.Bool.{lt-ltb}
-use Rattle.process_api.specs.declared.action.Action.{Action}
+use Rattle.runs.proofs.Words.{◌≡◌, ◌≢◌, ℕ, ◌+◌, ◌<◌, inl, inr, refl, sym, ap, ◌∙◌, subst, Bool, true, false, cond, List, [], ◌∷◌, arith, ◌==◌, lt-ltb, Action, Key, StepInput, Fate, IsIn, Posted, posting, posted_by, posted_in, Setting, has_crashed, Event, Process, Made, in_time, by_fate, counted, joining, added, step, made_by, dead, kind_of, in_append, in_left, in_right, in_time_is}
 use Rattle.process_api.specs.declared.action.Action.TheVariants.{Send, Wake, Note}
 use Rattle.process_api.specs.declared.entry.Kind.TheVariants as kind
-use Rattle.process_api.specs.declared.key.Key.{Key}
 use Rattle.process_api.specs.declared.message.Payload.{Payload}
-use Rattle.process_api.specs.declared.message.StepInput.{StepInput}
 use Rattle.process_api.specs.declared.message.StepInput.TheVariants as input
-use Rattle.streams.specs.declared.fate.Fate.{Fate}
 use Rattle.streams.specs.declared.fate.Fate.TheVariants as link
-use Rattle.trace_laws.specs.History.{IsIn}
-use Rattle.steps.specs.Posting.{Posted, posting, posted_by, posted_in}
-use Rattle.trace_laws.specs.Setting.{Setting, has_crashed}
-use Rattle.trace_laws.specs.Step.{Event, Process, Made, in_time, by_fate, counted, joining, added, step, made_by, dead, kind_of}
-use Rattle.trace_laws.proofs.Steps.{in_append, in_left, in_right, in_time_is}
 
 -- the event that a letter becomes so many ticks after it was sent
 abbrev pub event_of : Posted → ℕ → Event

@@ -1,28 +1,11 @@
 -- Letters in the order of the steps that send them.
-use Rattle.std.proofs.Common.{◌≡◌, ◌⊎◌, ℕ, ◌+◌, ◌<◌, ◌≤◌, inl, inr, refl, sym, ◌∙◌, subst, Bool, true, false, cond, Less, List, [], ◌∷◌, ◌++◌, map, arith, ◌==◌}
-use Rattle.std.specs.List.{AllByRecursion}
+use Rattle.runs.proofs.Words.{◌≡◌, ◌⊎◌, ℕ, ◌+◌, ◌<◌, ◌≤◌, inl, inr, refl, sym, ◌∙◌, subst, Bool, true, false, cond, Less, List, [], ◌∷◌, ◌++◌, map, arith, ◌==◌, AllByRecursion, All-from_recursion, both, images, weaker, Action, Key, StepInput, IsInRange, Record, Posted, posting, posted_by, posted_in, posted_along, setting_of, Setting, Process, counted, World, opening, taken, trace_is_closed, setting_sound, letter_of, IsNotAfter, AreInOrder, AreLetters, Letter}
 use Rattle.std.proofs.lemmas.Bool.Decides.{nat_tests}
-use Rattle.std.proofs.lemmas.List.Elements.{All-from_recursion}
-use Rattle.process_api.proofs.Lists.{both, images, weaker}
 use Rattle.process_api.specs.Order.{key_cmp}
-use Rattle.process_api.specs.declared.action.Action.{Action}
 use Rattle.process_api.specs.declared.action.Action.TheVariants.{Send, Wake, Note}
-use Rattle.process_api.specs.declared.key.Key.{Key}
-use Rattle.process_api.specs.declared.message.StepInput.{StepInput}
-use Rattle.scenario_record.specs.Ranges.{IsInRange}
-use Rattle.scenario_record.specs.Record.{Record}
 use Rattle.trace_laws.specs.History.{IsIn, Pair}
-use Rattle.steps.specs.Posting.{Posted, posting, posted_by, posted_in, posted_along}
-use Rattle.trace_laws.specs.ScenarioSetting.{setting_of}
-use Rattle.trace_laws.specs.Setting.{Setting}
-use Rattle.trace_laws.specs.Step.{Process, counted}
-use Rattle.trace_laws.specs.World.{World, opening, taken}
-use Rattle.trace_laws.proofs.Closed.{trace_is_closed}
 use Rattle.trace_laws.proofs.Rising.{IsRising, rising_pairs}
-use Rattle.trace_laws.proofs.Sound.{setting_sound}
 use Rattle.runs.proofs.OneStep.{step_cases}
-use Rattle.runs.specs.Letters.{letter_of, IsNotAfter, AreInOrder, AreLetters}
-use Rattle.reporting.specs.declared.letter.Letter.{Letter}
 
 -- of two keys that rise, the tick rises, or else the receiver doesn't fall
 step_first : (a b : Key) → key_cmp a b ≡ Less → (a.tick < b.tick) ⊎ ((a.tick ≡ b.tick) × (a.receiver ≤ b.receiver))

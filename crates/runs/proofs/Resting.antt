@@ -1,29 +1,9 @@
 -- Every row of layer 2 with a mistake or a detection rests on an earlier suspicion of layer 1, and every row of layer 1
 -- keeps to the bounds.
-use Rattle.std.proofs.Common.{◌≡◌, inl, inr, ℕ, zero, suc, ◌<◌, ◌≤◌, refl, sym, subst, Bool, true, arith, List, [], ◌∷◌, map, Option, None, Some}
-use Rattle.std.specs.List.{All, AllByRecursion, flat_map}
-use Rattle.std.proofs.lemmas.Bool.{cases_Bool, cond-false, cond_both}
-use Rattle.std.proofs.lemmas.List.Elements.{All-from_recursion}
-use Rattle.process_api.specs.EntryRecord.{EntryRecord}
+use Rattle.runs.proofs.Words.{◌≡◌, inl, inr, ℕ, zero, suc, ◌<◌, ◌≤◌, refl, sym, subst, Bool, true, arith, List, [], ◌∷◌, map, Option, None, Some, All, AllByRecursion, flat_map, cases_Bool, cond-false, cond_both, All-from_recursion, EntryRecord, both, images, always, both_true, IsInRange, Record, setting_of, IsTrace, crash_tick, end_of, suspects, all_from, least_from, blamed_by_out, shares_suspicions, all_from-at, KeepsBounds, IsBounded, HasGrounds, HasBlame, RestsOnBlame, count_below, starts, delay_after, is_measured, detection, measured, pair_measures, layer_measures, layers, all_measures, Na, At}
 use Rattle.process_api.specs.Numbers.{numbers_to, others}
-use Rattle.process_api.proofs.Lists.{both, images, always}
-use Rattle.process_api.proofs.Minds.{both_true}
-use Rattle.scenario_record.specs.Ranges.{IsInRange}
-use Rattle.scenario_record.specs.Record.{Record}
-use Rattle.trace_laws.specs.ScenarioSetting.{setting_of}
-use Rattle.trace_laws.specs.World.{IsTrace}
-use Rattle.judges.specs.Crashes.{crash_tick, end_of}
-use Rattle.judges.specs.Out.{suspects}
-use Rattle.judges.specs.Ticks.{all_from, least_from}
-use Rattle.judges.proofs.Blamed.{blamed_by_out, shares_suspicions}
-use Rattle.judges.proofs.Lasting.{all_from-at}
 use Rattle.judges.proofs.Meaning.{verdicts_mean}
-use Rattle.detector_bounds.specs.Bounds.{KeepsBounds}
 use Rattle.detector_bounds.proofs.Kept.{bounds_kept}
-use Rattle.runs.specs.Grounds.{IsBounded, HasGrounds, HasBlame, RestsOnBlame}
-use Rattle.reporting.specs.Distances.{count_below}
-use Rattle.reporting.specs.Measures.{starts, delay_after, is_measured, detection, measured, pair_measures, layer_measures, layers, all_measures}
-use Rattle.reporting.specs.declared.pair_measures.Detection.TheVariants.{Na, At}
 use Rattle.reporting.specs.declared.pair_measures.PairMeasures.{PairMeasures}
 use Rattle.runs.proofs.Bounded.{bounded}
 use Rattle.runs.proofs.Least.{least_passes}

@@ -1,14 +1,5 @@
 -- Two files that have the same at each key but `outage`.
-use Rattle.std.proofs.Common.{◌≡◌, ℕ, ℤ, List, Bool, false, refl, ap, ◌∙◌, codes, option_and_then, is_some}
-use Rattle.std.specs.Option.{unwrap_or}
-use Rattle.std.specs.Ordering.{nat_cmp, is_eq}
-use Rattle.std.specs.Cmp.Lexicographic.{slice_cmp}
-use Rattle.toml.specs.Data.{Members, get_member, as_integer, as_str, as_table}
-use Rattle.scenario_record.specs.Record.{Record}
-use Rattle.scenario.specs.Table.{number_or, text_or, integers_at, has_key, table_at, tables_at}
-use Rattle.scenario.specs.Text.{number_at, is_second, processes_of, outages_among, record_of}
-use Rattle.scenario.specs.Rules.{is_outside, is_negative, pair_below}
-use Rattle.scenario.specs.Refusals.{number_refusals, part_refusals}
+use Rattle.scenario.proofs.Words.{◌≡◌, ℕ, ℤ, List, Bool, false, refl, ap, ◌∙◌, codes, option_and_then, is_some, unwrap_or, nat_cmp, is_eq, slice_cmp, Members, get_member, as_integer, as_str, as_table, Record, number_or, text_or, integers_at, has_key, table_at, tables_at, number_at, is_second, processes_of, outages_among, record_of, is_outside, is_negative, pair_below, number_refusals, part_refusals}
 
 -- the key is another one
 abbrev pub is_other : List ℕ → Bool

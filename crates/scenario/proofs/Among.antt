@@ -1,12 +1,5 @@
 -- The tables, and the integers, among some values.
-use Rattle.std.proofs.Common.{◌≡◌, ◌∙◌, ◌++◌, ◌<◌, ◌+◌, ℕ, List, [], ◌∷◌, length, get_or, take, Some, None, Option, ap, sym, refl}
-use Rattle.std.specs.List.{cons_option, filter_map}
-use Rattle.std.proofs.lemmas.List.{append-nil, take_more}
-use Rattle.std.proofs.lemmas.List.Elements.{filter_map-append}
-use Rattle.toml.specs.Data.{Data, integer, table, Items, item, as_table, as_integer}
-use Rattle.toml.specs.View.{view, items_view}
-use Rattle.toml.specs.declared.value.Value.{Value}
-use Rattle.scenario.specs.Table.{the_tables, the_integers}
+use Rattle.scenario.proofs.Words.{◌≡◌, ◌∙◌, ◌++◌, ◌<◌, ◌+◌, ℕ, List, [], ◌∷◌, length, get_or, take, Some, None, Option, ap, sym, refl, cons_option, filter_map, append-nil, take_more, filter_map-append, Data, integer, table, Items, item, as_table, as_integer, view, items_view, Value, the_tables, the_integers}
 
 pub tables_of : (vs : List Value) → the_tables (items_view vs) ≡ filter_map (λ v. as_table (view v)) vs
 tables_of [] = refl

@@ -1,14 +1,5 @@
 -- The outage tables, taken one after the other.
-use Rattle.std.proofs.Common.{◌≡◌, ℕ, ◌*◌, ◌≤◌, ◌++◌, List, [], ◌∷◌, map, filter, length, set, get_or, replicate, true, false, cond, refl, ap, sym, ◌∙◌, subst, arith}
-use Rattle.std.specs.List.{AllByRecursion}
-use Rattle.std.proofs.lemmas.Bool.{leb-false}
-use Rattle.std.proofs.lemmas.List.{map-append, length-replicate, get_or-replicate}
-use Rattle.toml.specs.Data.{Members}
-use Rattle.scenario.specs.Text.{pair_of, same_pair, outage_of, pair_outages, each_pairs_outages, outages_among}
-use Rattle.scenario_record.specs.Ranges.{IsOutage}
-use Rattle.scenario.specs.Rules.{is_bad_outage, are_bad_outages}
-use Rattle.scenario.specs.Parts.{AreProcesses}
-use Rattle.scenario_record.specs.declared.outage.Outage.{Outage}
+use Rattle.scenario.proofs.Words.{◌≡◌, ℕ, ◌*◌, ◌≤◌, ◌++◌, List, [], ◌∷◌, map, filter, length, set, get_or, replicate, true, false, cond, refl, ap, sym, ◌∙◌, subst, arith, AllByRecursion, leb-false, map-append, length-replicate, get_or-replicate, Members, pair_of, same_pair, outage_of, pair_outages, each_pairs_outages, outages_among, IsOutage, is_bad_outage, are_bad_outages, AreProcesses, Outage}
 use Rattle.scenario.proofs.KeyFacts.{pair_place, pair_within, pair_keys}
 use Rattle.scenario.proofs.Grid.{grid_at, grid_length, grid_whole}
 use Rattle.scenario.proofs.Slots.{of, AreHeld, put}

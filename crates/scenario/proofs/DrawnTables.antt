@@ -1,21 +1,7 @@
 -- A file's table with drawn outages.
-use Rattle.std.proofs.Common.{◌≡◌, ℕ, ◌+◌, ◌<◌, length, take, get_or, nat_le, ◌==◌, List, [], ◌∷◌, ◌++◌, map, Bool, true, false, not, ◌&&◌, ◌||◌, Option, Some, None, is_some, refl, ap, sym, ◌∙◌, Ordering, Less, Equal, Greater}
-use Rattle.std.proofs.Math.Bool.{or-true}
-use Rattle.std.specs.List.{list_any}
-use Rattle.std.specs.Ordering.{nat_cmp, match_ordering, is_eq}
-use Rattle.std.specs.Cmp.Lexicographic.{slice_cmp}
+use Rattle.scenario.proofs.Words.{◌≡◌, ℕ, ◌+◌, ◌<◌, length, take, get_or, nat_le, ◌==◌, List, [], ◌∷◌, ◌++◌, map, Bool, true, false, not, ◌&&◌, ◌||◌, Option, Some, None, is_some, refl, ap, sym, ◌∙◌, Ordering, Less, Equal, Greater, or-true, list_any, nat_cmp, match_ordering, is_eq, slice_cmp, take_more, map-append, length-map, get_or-map, list_any-append, list_any_at, Data, table, Members, no_members, member, get_member, items_of, Field, number_or, all_items, is_table, the_tables, is_listed, keys_of, has_unlisted, is_lacking, has_lacking, is_mistyped, has_mistyped, outage_fields, number_at, pair_of, outage_of, is_outside, is_bad_outage, put, outage_table, LinkOutage}
 use Rattle.std.proofs.lemmas.Map.Lookups.{exact_bytes}
 use Rattle.std.proofs.lemmas.Cmp.{nat_list_cmp_total, tied_itself}
-use Rattle.std.proofs.lemmas.List.{take_more, map-append, length-map, get_or-map}
-use Rattle.std.proofs.lemmas.List.Folds.{list_any-append, list_any_at}
-use Rattle.toml.specs.Data.{Data, table, Members, no_members, member, get_member}
-use Rattle.toml.specs.View.{items_of}
-use Rattle.scenario.specs.Table.{Field, number_or, all_items, is_table, the_tables, is_listed, keys_of, has_unlisted, is_lacking, has_lacking, is_mistyped, has_mistyped}
-use Rattle.scenario.specs.Keys.{outage_fields}
-use Rattle.scenario.specs.Text.{number_at, pair_of, outage_of}
-use Rattle.scenario.specs.Rules.{is_outside, is_bad_outage}
-use Rattle.scenario.specs.Drawn.{put, outage_table}
-use Rattle.scenario.specs.declared.drawn.LinkOutage.{LinkOutage}
 
 -- ---- one drawn outage
 

@@ -1,15 +1,6 @@
 -- Elements of lists.
-use Rattle.std.proofs.Common.{Bor, BTreeMap, ◌≡◌, ℕ, ◌<◌, ◌+◌, List, [], ◌∷◌, map, length, get_or, Some, refl, ap, sym, ◌∙◌, add-one, String, Global, string_bytes}
-use Rattle.std.specs.List.{Contains, All}
-use Rattle.std.proofs.lemmas.List.{length-map, get_or-map}
+use Rattle.scenario.proofs.Words.{Bor, BTreeMap, ◌≡◌, ℕ, ◌<◌, ◌+◌, List, [], ◌∷◌, map, length, get_or, Some, refl, ap, sym, ◌∙◌, add-one, String, Global, string_bytes, Contains, All, length-map, get_or-map, slice_get-get_or, Members, members_view, table_view, tables_in, Value, keys_of, tables_at, numbered}
 use Rattle.std.proofs.lemmas.Simd.{map-map}
-use Rattle.std.proofs.lemmas.Option.{slice_get-get_or}
-use Rattle.toml.specs.Data.{Members}
-use Rattle.toml.specs.View.{members_view, table_view}
-use Rattle.scenario.specs.Parts.{tables_in}
-use Rattle.toml.specs.declared.value.Value.{Value}
-use Rattle.scenario.specs.Table.{keys_of, tables_at}
-use Rattle.scenario.specs.Place.{numbered}
 
 -- an element's image is among the images
 pub contains_image : {A B : Type 0} (f : A → B) (xs : List A) (k : ℕ) (d : A) → k < length xs → Contains (map f xs) (f (get_or xs k d))

@@ -1,12 +1,7 @@
 -- Lemmas on the keys of a table.
 use Rattle.std.proofs.Common.{is_some, is_none, option_map, ◌≡◌, ℕ, List, [], ◌∷◌, map, Bool, not, refl, ap, ◌||◌, String, string_bytes, Global, Option, Some, None}
-use Rattle.std.specs.List.{list_any}
-use Rattle.scenario.specs.Parts.{field_of, fields_of}
+use Rattle.scenario.proofs.Words.{list_any, field_of, fields_of, Members, members_view, Value, Field, same_text, is_listed, has_unlisted, is_lacking, has_lacking, is_mistyped, has_mistyped}
 use Rattle.scenario.specs.declared.field.Field as code
-use Rattle.toml.specs.Data.{Members}
-use Rattle.toml.specs.View.{members_view}
-use Rattle.toml.specs.declared.value.Value.{Value}
-use Rattle.scenario.specs.Table.{Field, same_text, is_listed, has_unlisted, is_lacking, has_lacking, is_mistyped, has_mistyped}
 
 pub some_of_map : {A B : Type 0} (f : A → B) (o : Option A) → is_some (option_map f o) ≡ is_some o
 some_of_map f None = refl

@@ -1,11 +1,6 @@
 -- What is found with a refusal.
-use Rattle.std.proofs.Common.{◌≡◌, ℕ, ℤ, List, true, Option, Some, None, IfSome, refl, rules, codes}
-use Rattle.std.specs.Option.{option_or}
+use Rattle.scenario.proofs.Words.{◌≡◌, ℕ, ℤ, List, true, Option, Some, None, IfSome, refl, rules, codes, option_or, Data, integer, as_integer, Members, Subject, subject_of, IsFault, IsFoundBy, IsValueFault, has_integer, integer_in, is_of_pair, ScenarioError}
 use Rattle.std.proofs.lemmas.Bool.Decides.{Decides-int_eq}
-use Rattle.toml.specs.Data.{Data, integer, as_integer, Members}
-use Rattle.scenario.specs.Ranges.{Subject, subject_of}
-use Rattle.scenario.specs.Faults.{IsFault, IsFoundBy, IsValueFault, has_integer, integer_in, is_of_pair}
-use Rattle.scenario.specs.declared.error.ScenarioError.{ScenarioError}
 use Rattle.scenario.specs.declared.fault.Fault.{Fault}
 use Rattle.scenario.specs.declared.fault.Fault.TheVariants as fault
 use Rattle.scenario.specs.declared.place.Place.{Place}

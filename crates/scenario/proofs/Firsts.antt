@@ -1,8 +1,6 @@
 -- Lemmas on the first of some refusals that applies.
-use Rattle.std.proofs.Common.{◌≡◌, ℕ, List, [], ◌∷◌, ◌++◌, Bool, true, false, Option, Some, None, is_some, refl, sym, ap, subst, Result, Ok, Err}
+use Rattle.scenario.proofs.Words.{◌≡◌, ℕ, List, [], ◌∷◌, ◌++◌, Bool, true, false, Option, Some, None, is_some, refl, sym, ap, subst, Result, Ok, Err, IsAnswer, Judges, when, when_below, first_of, ScenarioError}
 use Rattle.std.specs.Result.{IsErrAnd}
-use Rattle.scenario.specs.Refusals.{IsAnswer, Judges, when, when_below, first_of}
-use Rattle.scenario.specs.declared.error.ScenarioError.{ScenarioError}
 
 -- none applies
 abbrev pub AreNone : List (Option ScenarioError) → Type 0

@@ -1,9 +1,6 @@
 -- Items of an array.
-use Rattle.std.proofs.Common.{◌≡◌, ℕ, suc, ◌<◌, ◌+◌, List, [], ◌∷◌, length, get_or, Some, refl, ap, sym, ◌∙◌, add-one}
-use Rattle.toml.specs.View.{view, items_view}
-use Rattle.toml.specs.declared.value.Value.{Value}
+use Rattle.scenario.proofs.Words.{◌≡◌, ℕ, suc, ◌<◌, ◌+◌, List, [], ◌∷◌, length, get_or, Some, refl, ap, sym, ◌∙◌, add-one, view, items_view, Value, count, item_numbered}
 use Rattle.toml.proofs.Views.{get_item_within}
-use Rattle.scenario.specs.Faults.{count, item_numbered}
 
 pub count_view : (vs : List Value) → count (items_view vs) ≡ length vs
 count_view [] = refl

@@ -1,10 +1,5 @@
 -- The keys of tables: processes, and pairs of them.
-use Rattle.std.proofs.Common.{◌≡◌, ℕ, ◌+◌, ◌-◌, ◌*◌, ◌/◌, ◌<◌, ◌==◌, true, refl, ap, sym, ◌∙◌, arith}
-use Rattle.std.proofs.lemmas.Bool.{eqb-true, eq-eqb}
-use Rattle.std.proofs.lemmas.Nat.{div-mul-add, mul-add-lt}
-use Rattle.scenario.specs.Text.{pair_of, same_pair, crash_process}
-use Rattle.scenario.specs.Rules.{same_process}
-use Rattle.scenario.specs.Parts.{IsProcess, AreProcesses}
+use Rattle.scenario.proofs.Words.{◌≡◌, ℕ, ◌+◌, ◌-◌, ◌*◌, ◌/◌, ◌<◌, ◌==◌, true, refl, ap, sym, ◌∙◌, arith, eqb-true, eq-eqb, div-mul-add, mul-add-lt, pair_of, same_pair, crash_process, same_process, IsProcess, AreProcesses}
 use Rattle.scenario.proofs.Slots.{Keys}
 use Rattle.scenario.proofs.Within.{both}
 

@@ -1,3 +1,4 @@
+pub mod Words
 pub mod Among
 pub mod FieldFacts
 pub mod NumberFacts

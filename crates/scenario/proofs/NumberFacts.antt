@@ -1,9 +1,5 @@
 -- Lemmas on the numbers of a table.
-use Rattle.std.proofs.Common.{◌≡◌, refl, true}
-use Rattle.toml.specs.Data.{no_members}
-use Rattle.scenario.specs.Table.{number_or, text_or}
-use Rattle.scenario.specs.Text.{is_fresh}
-use Rattle.scenario.specs.Rules.{is_outside, is_other_kind, is_bad_timeout, is_bad_detector, is_bad_link}
+use Rattle.scenario.proofs.Words.{◌≡◌, refl, true, no_members, number_or, text_or, is_fresh, is_outside, is_other_kind, is_bad_timeout, is_bad_detector, is_bad_link}
 
 -- where there is no table its numbers are out of their ranges
 pub no_detector : is_bad_detector no_members ≡ true

@@ -1,14 +1,6 @@
 -- Lemmas on the proposals of a table.
-use Rattle.std.proofs.Common.{◌≡◌, ℕ, zero, suc, ◌≤◌, ◌==◌, List, [], length, map, true, false, not, ◌||◌, Some, None, option_and_then, is_some, refl, ap, ◌∙◌, arith}
-use Rattle.std.proofs.Math.Bool.{or-true}
-use Rattle.std.specs.List.{list_any}
-use Rattle.std.specs.Option.{option_map_or}
-use Rattle.std.proofs.lemmas.List.{length-map}
+use Rattle.scenario.proofs.Words.{◌≡◌, ℕ, zero, suc, ◌≤◌, ◌==◌, List, [], length, map, true, false, not, ◌||◌, Some, None, option_and_then, is_some, refl, ap, ◌∙◌, arith, or-true, list_any, option_map_or, length-map, Members, Items, as_array, get_member, array_in, the_integers, integers_at, has_key, natural, is_bad_proposal, are_other_than}
 use Rattle.std.proofs.Math.Dec.{eqb-zero-suc}
-use Rattle.toml.specs.Data.{Members, Items, as_array, get_member}
-use Rattle.scenario.specs.Table.{array_in, the_integers, integers_at, has_key}
-use Rattle.scenario.specs.Text.{natural}
-use Rattle.scenario.specs.Rules.{is_bad_proposal, are_other_than}
 
 none_of_some : (n : ℕ) → 1 ≤ n → (0 == n) ≡ false
 none_of_some zero low = absurd (omega arith)

@@ -1,10 +1,5 @@
 -- What reading a scenario answers, from what reading its table answers.
-use Rattle.std.proofs.Common.{◌≡◌, ℕ, List, Some, None, Result, Ok, Err, IfOk, IfErr, refl, false}
-use Rattle.toml.specs.Data.{Members}
-use Rattle.scenario_record.specs.Record.{Record}
-use Rattle.scenario.specs.Text.{record_of}
-use Rattle.scenario.specs.Refusals.{Accepts, Refuses, IsDocumentOf, Judges, is_memory, refusal_of}
-use Rattle.scenario.specs.declared.error.ScenarioError.{ScenarioError}
+use Rattle.scenario.proofs.Words.{◌≡◌, ℕ, List, Some, None, Result, Ok, Err, IfOk, IfErr, refl, false, Members, Record, record_of, Accepts, Refuses, IsDocumentOf, Judges, is_memory, refusal_of, ScenarioError}
 use Rattle.scenario.specs.declared.error.ScenarioError.TheVariants as error
 
 pub accepted : (bytes : List ℕ) (t : Members) (r : Result Record ScenarioError) → IsDocumentOf bytes (Some t)

@@ -1,17 +1,5 @@
 -- What is answered of a file with drawn outages, from what is read of the file.
-use Rattle.std.proofs.Common.{◌≡◌, ◌∙◌, ℕ, ◌<◌, ◌^◌, List, ◌++◌, true, false, Option, None, ap, sym, subst, codes, refl}
-use Rattle.toml.specs.Data.{Members}
-use Rattle.scenario_record.specs.Record.{Record}
-use Rattle.scenario_record.specs.Ranges.{IsInRange}
-use Rattle.scenario_record.specs.declared.outage.Outage.{Outage}
-use Rattle.scenario.specs.Table.{has_mistyped}
-use Rattle.scenario.specs.Keys.{some_table}
-use Rattle.scenario.specs.Text.{number_at, processes_of, outages_among, record_of}
-use Rattle.scenario.specs.Rules.{are_bad_outages, outages_refused}
-use Rattle.scenario.specs.Refusals.{when, first_of, key_refusals, number_refusals, part_refusals, outage_refusals, refusal_of, IsAnswer}
-use Rattle.scenario.specs.Drawn.{all_outages, lacks_outages, with_outages}
-use Rattle.scenario.specs.declared.drawn.LinkOutage.{LinkOutage}
-use Rattle.scenario.specs.declared.error.ScenarioError.{ScenarioError}
+use Rattle.scenario.proofs.Words.{◌≡◌, ◌∙◌, ℕ, ◌<◌, ◌^◌, List, ◌++◌, true, false, Option, None, ap, sym, subst, codes, refl, Members, Record, IsInRange, Outage, has_mistyped, some_table, number_at, processes_of, outages_among, record_of, are_bad_outages, outages_refused, when, first_of, key_refusals, number_refusals, part_refusals, outage_refusals, refusal_of, IsAnswer, all_outages, lacks_outages, with_outages, LinkOutage, ScenarioError}
 use Rattle.scenario.specs.declared.error.ScenarioError.TheVariants as error
 use Rattle.scenario.proofs.Firsts.{are_none, joined, kept as kept_first, alone, untrue}
 use Rattle.scenario.proofs.RangeFacts.{in_range}

@@ -1,15 +1,6 @@
 -- Tables put in places by their keys, and lists of tables of which two have the same key.
-use Rattle.std.proofs.Common.{◌≡◌, ◌≢◌, ℕ, ◌+◌, ◌<◌, List, [], ◌∷◌, ◌++◌, length, take, drop, set, get_or, Bool, true, false, cond, ◌||◌, Option, Some, None, find, is_some, refl, ap, sym, ◌∙◌, subst}
-use Rattle.std.proofs.Math.Bool.{or-true}
-use Rattle.std.specs.Option.{option_map}
+use Rattle.scenario.proofs.Words.{◌≡◌, ◌≢◌, ℕ, ◌+◌, ◌<◌, List, [], ◌∷◌, ◌++◌, length, take, drop, set, get_or, Bool, true, false, cond, ◌||◌, Option, Some, None, find, is_some, refl, ap, sym, ◌∙◌, subst, or-true, option_map, take_more, map-append, append-nil, take-append-drop, length-map, length-set, get_or-map, get_or-set_same, get_or-set_other, get_or_default, filter-append, list_any-append, list_any_at, Members, table_view, tables_in, has_repeat}
 use Rattle.std.specs.List.{filter, list_any}
-use Rattle.std.proofs.lemmas.List.{take_more, map-append, append-nil, take-append-drop, length-map, length-set, get_or-map, get_or-set_same, get_or-set_other, get_or_default}
-use Rattle.std.proofs.lemmas.List.Elements.{filter-append}
-use Rattle.std.proofs.lemmas.List.Folds.{list_any-append, list_any_at}
-use Rattle.toml.specs.Data.{Members}
-use Rattle.toml.specs.View.{table_view}
-use Rattle.scenario.specs.Parts.{tables_in}
-use Rattle.scenario.specs.Rules.{has_repeat}
 use Rattle.scenario.proofs.FieldFacts.{some_of_map}
 use Rattle.scenario.proofs.Elements.{Lent, IsAt}
 

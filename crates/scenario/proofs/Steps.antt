@@ -1,8 +1,5 @@
 -- Steps of a search over the pairs.
-use Rattle.std.proofs.Common.{◌≡◌, ℕ, suc, ◌+◌, ◌-◌, ◌<◌, List, ◌∷◌, map, filter, find, Bool, true, false, ◌&&◌, Option, refl, ap, sym, ◌∙◌, arith}
-use Rattle.std.proofs.lemmas.List.Folds.{find-append}
-use Rattle.std.specs.Option.{option_or}
-use Rattle.std.specs.List.{flat_map, range_with_len}
+use Rattle.scenario.proofs.Words.{◌≡◌, ℕ, suc, ◌+◌, ◌-◌, ◌<◌, List, ◌∷◌, map, filter, find, Bool, true, false, ◌&&◌, Option, refl, ap, sym, ◌∙◌, arith, find-append, option_or, flat_map, range_with_len}
 
 -- the numbers from a up to the end, one at a time
 range_step : (a m k : ℕ) → m ≡ suc k → range_with_len a m ≡ a ∷ range_with_len (a + 1) k

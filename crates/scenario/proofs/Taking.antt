@@ -1,13 +1,5 @@
 -- The crashes and the links of a file, by what is held in their places.
-use Rattle.std.proofs.Common.{◌≡◌, ℕ, ◌+◌, ◌*◌, ◌<◌, ◌==◌, List, map, length, get_or, Option, None, ap, sym, ◌∙◌, arith, subst}
-use Rattle.std.specs.Option.{option_map, unwrap_or}
-use Rattle.std.specs.List.{range_with_len}
-use Rattle.std.proofs.lemmas.List.{ext_get_or, length-map, get_or-map}
-use Rattle.std.proofs.lemmas.List.FromFn.{get_or-map-range_with_len, length-map-range_with_len}
-use Rattle.toml.specs.Data.{Members}
-use Rattle.scenario.specs.Text.{crash_process, crash_tick, crash_among, crashes_among, delays_of, pair_of, same_pair, link_among, links_among}
-use Rattle.scenario.specs.Parts.{IsProcess, AreProcesses}
-use Rattle.scenario_record.specs.declared.link.Link.{Link}
+use Rattle.scenario.proofs.Words.{◌≡◌, ℕ, ◌+◌, ◌*◌, ◌<◌, ◌==◌, List, map, length, get_or, Option, None, ap, sym, ◌∙◌, arith, subst, option_map, unwrap_or, range_with_len, ext_get_or, length-map, get_or-map, get_or-map-range_with_len, length-map-range_with_len, Members, crash_process, crash_tick, crash_among, crashes_among, delays_of, pair_of, same_pair, link_among, links_among, IsProcess, AreProcesses, Link}
 use Rattle.scenario.proofs.Slots.{AreHeld, once, find_first}
 use Rattle.scenario.proofs.KeyFacts.{process_keys, pair_keys, pair_place, pair_within}
 use Rattle.scenario.proofs.Grid.{grid_at, grid_length, grid_whole}

@@ -1,20 +1,5 @@
 -- A file with drawn outages, beside the file.
-use Rattle.std.proofs.Common.{◌≡◌, ℕ, List, [], ◌∷◌, map, Bool, true, false, not, ◌||◌, cond, Option, Some, None, is_some, refl, ap, sym, ◌∙◌, codes}
-use Rattle.std.proofs.Math.Bool.{or-false}
-use Rattle.std.proofs.lemmas.Bool.{not-false, not-true}
-use Rattle.std.specs.List.{list_any}
-use Rattle.std.specs.Option.{option_map_or}
-use Rattle.std.proofs.lemmas.List.{append-nil}
-use Rattle.std.proofs.lemmas.List.Folds.{list_any-append}
-use Rattle.toml.specs.Data.{Data, array, table, Members, get_member}
-use Rattle.toml.specs.View.{items_of}
-use Rattle.scenario.specs.Table.{Field, tables_at, is_of, is_listed, has_unlisted, is_lacking, has_lacking, is_mistyped, has_mistyped}
-use Rattle.scenario.specs.Keys.{some_table, top_fields, outages_field, outage_fields}
-use Rattle.scenario.specs.Text.{is_second, processes_of, outages_among, record_of}
-use Rattle.scenario.specs.Rules.{are_bad_outages, outages_refused}
-use Rattle.scenario.specs.Refusals.{key_refusals}
-use Rattle.scenario.specs.Drawn.{put, outage_table, all_outages, lacks_outages, with_outages}
-use Rattle.scenario.specs.declared.drawn.LinkOutage.{LinkOutage}
+use Rattle.scenario.proofs.Words.{◌≡◌, ℕ, List, [], ◌∷◌, map, Bool, true, false, not, ◌||◌, cond, Option, Some, None, is_some, refl, ap, sym, ◌∙◌, codes, or-false, not-false, not-true, list_any, option_map_or, append-nil, list_any-append, Data, array, table, Members, get_member, items_of, Field, tables_at, is_of, is_listed, has_unlisted, is_lacking, has_lacking, is_mistyped, has_mistyped, some_table, top_fields, outages_field, outage_fields, is_second, processes_of, outages_among, record_of, are_bad_outages, outages_refused, key_refusals, put, outage_table, all_outages, lacks_outages, with_outages, LinkOutage}
 use Rattle.scenario.proofs.Alike.{is_other, inner, tables, second, processes, record_alike}
 use Rattle.scenario.proofs.Within.{neither}
 use Rattle.scenario.proofs.DrawnTables.{listed_drawn, whole_drawn, typed_drawn, read_put, keep_put, unlisted_put, unlisted_there, all_tables, back, none_drawn}

@@ -1,11 +1,5 @@
 -- Tests of numbers, and what they say.
-use Rattle.std.proofs.Common.{◌≡◌, ℕ, ◌≤◌, pos, nat_le, List, Bool, true, false, not, ◌&&◌, ◌||◌, Option, Some, None, refl}
-use Rattle.std.specs.Option.{option_map_or, unwrap_or}
-use Rattle.std.proofs.lemmas.Bool.{leb-true, not-false}
-use Rattle.toml.specs.Data.{Members}
-use Rattle.scenario.specs.Table.{number_or}
-use Rattle.scenario.specs.Text.{natural_of, number_at}
-use Rattle.scenario.specs.Rules.{is_outside}
+use Rattle.scenario.proofs.Words.{◌≡◌, ℕ, ◌≤◌, pos, nat_le, List, Bool, true, false, not, ◌&&◌, ◌||◌, Option, Some, None, refl, option_map_or, unwrap_or, leb-true, not-false, Members, number_or, natural_of, number_at, is_outside}
 
 pub neither : (a b : Bool) → (a || b) ≡ false → (a ≡ false) × (b ≡ false)
 neither true b e = cc

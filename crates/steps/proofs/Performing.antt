@@ -1,14 +1,6 @@
 -- One action more, where what was done so far and what the rest does is what all actions do.
-use Rattle.std.proofs.Common.{slice_index_or, slice_set, [], length, ◌<◌, ◌≡◌, ◌≤◌, ◌+◌, ◌++◌, ◌∷◌, ℕ, List, sym, ap, subst, ◌∙◌, append_assoc, append-nil, arith}
-use Rattle.std.specs.List.{AllByRecursion}
-use Rattle.std.specs.Prelude.{drop, Result, Ok, Err, OnOk}
-use Rattle.process_api.specs.declared.action.Action.{Action}
+use Rattle.steps.proofs.Words.{slice_index_or, slice_set, [], length, ◌<◌, ◌≡◌, ◌≤◌, ◌+◌, ◌++◌, ◌∷◌, ℕ, List, sym, ap, subst, ◌∙◌, append_assoc, append-nil, arith, AllByRecursion, drop, Result, Ok, Err, OnOk, Action, HaveJoined, drop-set-lt, drop_more, Joined, joined_next, Setting, counted, sent_by, lost_by, noted_by, counts_after, sent, lost, noted}
 use Rattle.process_api.specs.declared.action.Note.{Note}
-use Rattle.trace_laws.specs.Joins.{HaveJoined}
-use Rattle.std.proofs.lemmas.List.{drop-set-lt, drop_more}
-use Rattle.trace_laws.proofs.Joining.{Joined, joined_next}
-use Rattle.trace_laws.specs.Setting.{Setting}
-use Rattle.trace_laws.specs.Step.{counted, sent_by, lost_by, noted_by, counts_after, sent, lost, noted}
 
 lost_by-le : {Mind : Type 0} (S : Setting Mind) (p now : ℕ) (f : ℕ → ℕ) (a : Action) → lost_by S p now f a ≤ 1
 lost_by-le S p now f a = grind arith

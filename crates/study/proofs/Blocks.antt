@@ -1,11 +1,7 @@
 -- Blocks of points.
-use Rattle.std.proofs.Common.{◌≡◌, ℕ, zero, suc, ◌+◌, ◌-◌, ◌*◌, ◌/◌, ◌≤◌, ◌<◌, List, [], ◌∷◌, ◌++◌, length, take, drop, refl, sym, ◌∙◌, ap, arith}
-use Rattle.std.specs.List.{flat_map, range_with_len}
-use Rattle.std.proofs.Math.Nat.{div-lt_iff_lt-mul, div-mul-le_self, mul-le-mul_left, mul-div_left, mul-zero, zero-div, mul-suc, add-mul, lt-div-mul-add}
-use Rattle.std.proofs.lemmas.Nat.{le-div}
+use Rattle.study.proofs.Basics.{◌≡◌, ℕ, zero, suc, ◌+◌, ◌-◌, ◌*◌, ◌/◌, ◌≤◌, ◌<◌, List, [], ◌∷◌, ◌++◌, length, take, drop, refl, sym, ◌∙◌, ap, arith, flat_map, range_with_len, div-lt_iff_lt-mul, div-mul-le_self, mul-le-mul_left, mul-div_left, mul-zero, zero-div, mul-suc, add-mul, lt-div-mul-add, le-div, length-range_with_len}
 use Rattle.std.proofs.lemmas.List.{length-drop, length-take, drop_all}
 use Rattle.std.proofs.Math.Seq.{take-length}
-use Rattle.std.proofs.lemmas.List.FromFn.{length-range_with_len}
 use Rattle.study.specs.Shard.{ShardRecord, IsShard, before, begin_of, end_of, block, AreAll, AreEven}
 
 -- two parts that meet

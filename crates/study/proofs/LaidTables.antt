@@ -1,18 +1,11 @@
 -- Arrays of tables, as the code changes them.
 use Rattle.std.proofs.Common.{◌≡◌, ◌≢◌, ℕ, suc, List, [], ◌∷◌, ◌++◌, map, filter, length, codes, ◌==◌, Bool, true, false, not, Option, Some, None, option_and_then, if◌then◌else◌, refl, sym, ◌∙◌, ap, arith}
-use Rattle.std.specs.Option.{option_map_or}
-use Rattle.std.proofs.lemmas.Bool.{ne_eqb}
-use Rattle.std.proofs.lemmas.List.{map-append}
+use Rattle.study.proofs.Basics.{option_map_or, ne_eqb, map-append, Data, array, table, Items, no_items, item, Members, get_member, as_array, as_table, Value, outage_table, with_outages, put, LinkOutage, listed, values_in, with_tables, with_rows, is_laid, StaysAsItIs, HasValues}
 use Rattle.std.proofs.lemmas.Simd.{map-map}
-use Rattle.toml.specs.Data.{Data, array, table, Items, no_items, item, Members, get_member, as_array, as_table}
 use Rattle.toml.specs.View.{view, items_of, items_view}
-use Rattle.toml.specs.declared.value.Value.{Value}
 use Rattle.scenario.specs.Table.{all_items, is_table, the_tables, tables_at, is_of, is_mistyped}
-use Rattle.scenario.specs.Drawn.{outage_table, with_outages, put}
-use Rattle.scenario.specs.declared.drawn.LinkOutage.{LinkOutage}
 use Rattle.scenario.specs.declared.field.Kind.TheVariants as kind
 use Rattle.network.specs.declared.laid.LaidLink.{LaidLink}
-use Rattle.study.specs.Laid.{listed, values_in, with_tables, with_rows, is_laid, StaysAsItIs, HasValues}
 
 -- an array's values, and back
 pub values_listed : (vs : List Value) → listed (items_view vs) ≡ map view vs

@@ -1,3 +1,4 @@
+pub mod Basics
 pub mod Blocks
 pub mod Points
 pub mod Placing

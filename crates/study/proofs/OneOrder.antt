@@ -1,12 +1,9 @@
 -- Outages in their order are one list, where they are the same.
-use Rattle.std.proofs.Common.{◌≡◌, ◌⊎◌, ℕ, suc, ◌+◌, ◌<◌, ◌≤◌, List, [], ◌∷◌, get_or, true, false, ◌&&◌, ◌==◌, cond, Less, Equal, refl, sym, ◌∙◌, ap, subst, inl, inr, arith}
-use Rattle.std.proofs.lemmas.Bool.{and_parts, eqb-true, eq-eqb, false≢true, cases_Bool, cases_lt}
+use Rattle.study.proofs.Basics.{◌≡◌, ◌⊎◌, ℕ, suc, ◌+◌, ◌<◌, ◌≤◌, List, [], ◌∷◌, get_or, true, false, ◌&&◌, ◌==◌, cond, Less, Equal, refl, sym, ◌∙◌, ap, subst, inl, inr, arith, and_parts, eqb-true, eq-eqb, false≢true, cases_Bool, cases_lt, sum_by, nat_cmp, is_lt, ordering_then}
 use Rattle.std.proofs.lemmas.List.Sorted.{sum_by-IsPermutation}
 use Rattle.std.proofs.lemmas.List.Sums.{sum_by-cons}
 use Rattle.std.specs.Cmp.{nat_cmp_is}
-use Rattle.std.specs.List.{sum_by}
 use Rattle.std.specs.List.Sorted.{IsSorted, IsPermutation}
-use Rattle.std.specs.Ordering.{nat_cmp, is_lt, ordering_then}
 use Rattle.scenario_record.specs.declared.outage.Outage.{Outage}
 use Rattle.network.specs.Ranges.{outage_cmp}
 

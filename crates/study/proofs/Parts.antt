@@ -1,10 +1,6 @@
 -- Parts of a word.
-use Rattle.std.proofs.Common.{◌≡◌, ◌≢◌, ℕ, ◌<◌, List, [], ◌∷◌, ◌++◌, map, take, drop, length, get_or, Bor, Some, true, false, ◌==◌, refl, ◌∙◌, ap, arith}
+use Rattle.study.proofs.Basics.{◌≡◌, ◌≢◌, ℕ, ◌<◌, List, [], ◌∷◌, ◌++◌, map, take, drop, length, get_or, Bor, Some, true, false, ◌==◌, refl, ◌∙◌, ap, arith, eq-eqb, ne_eqb, get_or_default, list_any-append, list_any_none, IsSplitOnceResult, split_parts, split_once_first}
 use Rattle.std.proofs.Math.Bool.{or-true}
-use Rattle.std.proofs.lemmas.Bool.{eq-eqb, ne_eqb}
-use Rattle.std.proofs.lemmas.List.{get_or_default}
-use Rattle.std.proofs.lemmas.List.Folds.{list_any-append, list_any_none}
-use Rattle.std.proofs.lemmas.Str.Pattern.{IsSplitOnceResult, split_parts, split_once_first}
 use Rattle.study.specs.Words.{Word, has, before, after}
 
 pub has_not : (c : ℕ) (w : Word) → ((i : ℕ) → i < length w → get_or w i 0 ≢ c) → has c w ≡ false

@@ -1,19 +1,10 @@
 -- What a change of the code's tables does to the members that they stand for.
-use Rattle.std.proofs.Common.{◌≡◌, ℕ, zero, suc, ◌<◌, ◌≤◌, List, [], ◌∷◌, length, get_or, set, BTreeMap, Result, Ok, IfOk, MatchResult, String, Global, Ordering, Less, string_bytes, refl, sym, ap, ◌∙◌, arith, Err, ◌-◌, ◌++◌, ◌+◌, drop}
-use Rattle.std.specs.Ordering.{match_ordering}
+use Rattle.study.proofs.Basics.{◌≡◌, ℕ, zero, suc, ◌<◌, ◌≤◌, List, [], ◌∷◌, length, get_or, set, BTreeMap, Result, Ok, IfOk, MatchResult, String, Global, Ordering, Less, string_bytes, refl, sym, ap, ◌∙◌, arith, Err, ◌-◌, ◌++◌, ◌+◌, drop, match_ordering, AllZip, drop_more, Data, Items, no_items, item, table, array, Members, get_member, view, members_view, items_view, table_view, Value, put, every, PlaceError}
 use Rattle.std.specs.BTreeMap.{insert_entry}
-use Rattle.std.specs.List.{AllZip}
-use Rattle.std.proofs.lemmas.List.{drop_more}
 use Rattle.std.proofs.Math.ListN.{drop_of_length-le}
 use Rattle.std.specs.String.{string_cmp}
-use Rattle.toml.specs.Data.{Data, Items, no_items, item, table, array, Members, get_member}
-use Rattle.toml.specs.View.{view, members_view, items_view, table_view}
-use Rattle.toml.specs.declared.value.Value.{Value}
 use Rattle.toml.proofs.Views.{Entry, get_item_within, get_item_past, view-Table}
-use Rattle.scenario.specs.Drawn.{put}
-use Rattle.study.specs.Settings.{every}
 use Rattle.study.specs.Placed.{put_item, put_in_each, put_in_all, set_in_file, items_of, table_of, table_there, element_of, then}
-use Rattle.study.specs.declared.error.PlaceError.{PlaceError}
 use Rattle.study.specs.declared.error.PlaceError.TheVariants as error
 
 by_order : (o : Ordering) (a b c : List Entry)

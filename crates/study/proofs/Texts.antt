@@ -1,12 +1,6 @@
 -- The table, the scenario and the text of a run.
-use Rattle.std.proofs.Common.{◌≡◌, Option, None, Some, MatchOption, Ok, Err, sym, ap, ◌∙◌}
-use Rattle.toml.specs.Data.{Members}
+use Rattle.study.proofs.Basics.{◌≡◌, Option, None, Some, MatchOption, Ok, Err, sym, ap, ◌∙◌, Members, with_outages, record_of, processes_of, laid_links, SourcesRecord, horizon_of, seed_of, lay_links, IsLaidBy, file_over}
 use Rattle.scenario_record.specs.Record.{Record}
-use Rattle.scenario.specs.Drawn.{with_outages}
-use Rattle.scenario.specs.Text.{record_of, processes_of}
-use Rattle.network.specs.Laid.{laid_links}
-use Rattle.study.specs.Sources.{SourcesRecord}
-use Rattle.study.specs.Laid.{horizon_of, seed_of, lay_links, IsLaidBy, file_over}
 use Rattle.study.proofs.OneNetwork.{one_drawn, one_links}
 use Rattle.study.specs.Runs.{RunSources, IsRunTable, IsScenarioOf}
 

@@ -1,12 +1,7 @@
 -- Files that are accepted: their one scenario, and what is told of it.
-use Rattle.std.proofs.Common.{◌≡◌, ◌∙◌, ◌++◌, ap, sym, ℕ, List}
+use Rattle.study_commands.proofs.Words.{◌≡◌, ◌∙◌, ◌++◌, ap, sym, ℕ, List, Describes, entries_in, longest_window, Accepts, record_of, Record, accepted_line, accepted_text}
 use Rattle.std.specs.Prelude.{unwrap_or}
-use Rattle.diagnosis.specs.Diagnosis.{Describes, entries_in, longest_window}
 use Rattle.diagnosis.specs.declared.answer.Accepted.{Accepted}
-use Rattle.scenario.specs.Refusals.{Accepts}
-use Rattle.scenario.specs.Text.{record_of}
-use Rattle.scenario_record.specs.Record.{Record}
-use Rattle.study_commands.specs.Check.{accepted_line, accepted_text}
 
 pub same_scenario : (bytes : List ℕ) (s t : Record) → Accepts bytes s → Accepts bytes t → s ≡ t
 same_scenario bytes s t one other =

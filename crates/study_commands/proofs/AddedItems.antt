@@ -1,9 +1,5 @@
 -- Optional items, added one after the other.
-use Rattle.std.proofs.Common.{◌≡◌, ◌∙◌, ap, append_assoc, refl, sym, ℕ, ◌+◌, ◌<◌, List, [], ◌∷◌, ◌++◌, length, map, get_or, take, Option, Some, None, option_to_list}
-use Rattle.std.proofs.lemmas.List.{map-append, take_more}
-use Rattle.std.proofs.lemmas.List.Elements.{filter_map-append}
-use Rattle.std.specs.List.{cons_option, filter_map}
-use Rattle.std.specs.Option.{option_map}
+use Rattle.study_commands.proofs.Words.{◌≡◌, ◌∙◌, ap, append_assoc, refl, sym, ℕ, ◌+◌, ◌<◌, List, [], ◌∷◌, ◌++◌, length, map, get_or, take, Option, Some, None, option_to_list, map-append, take_more, filter_map-append, cons_option, filter_map, option_map}
 
 -- one more of something for each
 pub filter_map_more : {X Y : Type 0} (h : X → Option Y) (xs : List X) (k : ℕ) (d : X) → k < length xs

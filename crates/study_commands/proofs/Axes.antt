@@ -1,13 +1,5 @@
 -- Axes, groups of pairs, assignments and processes of words, one after the other.
-use Rattle.std.proofs.Common.{◌≡◌, ℕ, ◌+◌, ◌<◌, List, [], ◌∷◌, ◌++◌, map, length, get_or, take, Bor, Some}
-use Rattle.std.proofs.lemmas.List.{map-append, take_more}
-use Rattle.std.specs.List.{AllZip}
-use Rattle.study.specs.AxisWords.{SaysAxis}
-use Rattle.study_commands.specs.Draw.{process_said}
-use Rattle.study.specs.SetWords.{SaysAssignment}
-use Rattle.study.specs.declared.assignment.Assignment.{Assignment}
-use Rattle.study.specs.declared.axis.Axis.{Axis}
-use Rattle.sweep.specs.GroupWords.{SaysGroup}
+use Rattle.study_commands.proofs.Words.{◌≡◌, ℕ, ◌+◌, ◌<◌, List, [], ◌∷◌, ◌++◌, map, length, get_or, take, Bor, Some, map-append, take_more, AllZip, SaysAxis, process_said, SaysAssignment, Assignment, Axis, SaysGroup}
 use Rattle.sweep.specs.declared.group.PairGroup.{PairGroup}
 
 -- one more of both

@@ -1,16 +1,8 @@
 -- Links of pairs' own, as they are looked for.
-use Rattle.std.proofs.Common.{◌≡◌, ◌∙◌, ap, sym, refl, ℕ, suc, ◌+◌, ◌-◌, ◌<◌, ◌≤◌, ◌==◌, ◌&&◌, ◌||◌, Bool, true, false, not, cond, List, [], ◌∷◌, map, filter, arith, Option, Some, None, if◌then◌else◌}
-use Rattle.std.specs.List.{cons_option, filter_map, list_any, range_with_len}
-use Rattle.std.specs.Option.{option_and_then, option_map, option_map_or}
+use Rattle.study_commands.proofs.Words.{◌≡◌, ◌∙◌, ap, sym, refl, ℕ, suc, ◌+◌, ◌-◌, ◌<◌, ◌≤◌, ◌==◌, ◌&&◌, ◌||◌, Bool, true, false, not, cond, List, [], ◌∷◌, map, filter, arith, Option, Some, None, if◌then◌else◌, cons_option, filter_map, list_any, range_with_len, option_and_then, option_map, option_map_or, pair_of, same_pair, ends_from, is_no_end, pair_in, tables_in, goes_by_link, sends_by_link, Data, Items, Members, as_array, as_table, get_member, items_view, view, Value}
 use Rattle.scenario.proofs.Among.{tables_of}
 use Rattle.scenario.specs.Table.{all_items, is_of, is_table, tables_at, the_tables}
 use Rattle.scenario.specs.declared.field.Kind.TheVariants as kind
-use Rattle.scenario.specs.Text.{pair_of, same_pair}
-use Rattle.study_commands.specs.Inside.Warned.{ends_from, is_no_end, pair_in, tables_in}
-use Rattle.study_commands.specs.Warnings.{goes_by_link, sends_by_link}
-use Rattle.toml.specs.Data.{Data, Items, Members, as_array, as_table, get_member}
-use Rattle.toml.specs.View.{items_view, view}
-use Rattle.toml.specs.declared.value.Value.{Value}
 
 -- the tables of `links`, by what stands there
 pub tables_there : (key : List ℕ) (t : Members) (d : Data) → Some d ≡ get_member key t → tables_in d ≡ tables_at key t

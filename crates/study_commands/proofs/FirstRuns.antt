@@ -1,15 +1,5 @@
 -- What the first runs of points have, one after the other.
-use Rattle.std.proofs.Common.{◌≡◌, ◌⊎◌, ◌∙◌, ap, sym, refl, subst, inl, inr, ℕ, suc, ◌+◌, ◌-◌, ◌<◌, ◌≤◌, List, [], ◌∷◌, ◌++◌, length, map, Option, Result, Ok, IfOk, slice_index_or, length-append, arith}
-use Rattle.std.proofs.lemmas.List.{get_or-append-add, get_or-map, get_or_append_left, length-map}
-use Rattle.std.specs.List.{AllZip, range_with_len}
-use Rattle.std.specs.declared.alloc.AllocError.{AllocError}
-use Rattle.scenario.specs.Text.{record_of}
-use Rattle.study.specs.Grid.{GridRecord}
-use Rattle.study.specs.Sources.{SourcesRecord}
-use Rattle.study_commands.specs.Inside.Warned.{AreFirst, IsFirstOf, IsRunOf}
-use Rattle.study_commands.specs.Warnings.{IsFirst, found, late, late_with, period_of, uneven, uneven_in, unlinked, unlinked_where, uses_link}
-use Rattle.study_commands.specs.declared.first_run.FirstRun.{FirstRun}
-use Rattle.toml.specs.Data.{Members}
+use Rattle.study_commands.proofs.Words.{◌≡◌, ◌⊎◌, ◌∙◌, ap, sym, refl, subst, inl, inr, ℕ, suc, ◌+◌, ◌-◌, ◌<◌, ◌≤◌, List, [], ◌∷◌, ◌++◌, length, map, Option, Result, Ok, IfOk, slice_index_or, length-append, arith, get_or-append-add, get_or-map, get_or_append_left, length-map, AllZip, range_with_len, AllocError, record_of, GridRecord, SourcesRecord, AreFirst, IsFirstOf, IsRunOf, IsFirst, found, late, late_with, period_of, uneven, uneven_in, unlinked, unlinked_where, uses_link, FirstRun, Members}
 
 module _ (sources : SourcesRecord) (g : GridRecord) where
   which : (a b : ℕ) → (a < b) ⊎ (b ≤ a)

@@ -1,3 +1,4 @@
+pub mod Words
 pub mod Axes
 pub mod Stopping
 pub mod Reasons

@@ -1,16 +1,8 @@
 -- Files of which one at most is standard input.
-use Rattle.std.proofs.Common.{◌≡◌, ◌≢◌, ◌⊎◌, inl, inr, ap, refl, sym, subst, ℕ, List, Bool, true, false, Option, None, Some, String}
+use Rattle.study_commands.proofs.Words.{◌≡◌, ◌≢◌, ◌⊎◌, inl, inr, ap, refl, sym, subst, ℕ, List, Bool, true, false, Option, None, Some, String, Global, Members, AreBytes, MayBeTable, NameInputTwice, network_path, FileRefusal, IsNoNetwork, IsOfFiles, IsOfNetwork, IsRightOfTable, absent, broken, too_long, unreadable, Fault, Memory, Refused, SourceTexts}
 use Rattle.std.proofs.lemmas.Slice.Eq.{bytes_eq-Decides}
 use Rattle.std.specs.Str.{bytes_eq}
-use Rattle.std.specs.declared.alloc.Global.{Global}
-use Rattle.toml.specs.Data.{Members}
 use Rattle.shell.specs.Input.{TakesAtMost, input_path}
-use Rattle.study_commands.specs.File.{AreBytes, MayBeTable, NameInputTwice, network_path}
-use Rattle.study_commands.specs.Refusal.{FileRefusal, IsNoNetwork, IsOfFiles, IsOfNetwork, IsRightOfTable, absent, broken}
-use Rattle.study_commands.specs.Refusal.{too_long, unreadable}
-use Rattle.study_commands.specs.declared.fault.Fault.{Fault}
-use Rattle.study_commands.specs.declared.fault.Fault.TheVariants.{Memory, Refused}
-use Rattle.study_line.specs.declared.order.SourceTexts.{SourceTexts}
 
 by_test : (a b : List ℕ) (r : Bool) → bytes_eq a b ≡ r → (a ≡ b) ⊎ (a ≢ b)
 by_test a b true told = inl ((bytes_eq-Decides a b).0 told)

@@ -1,21 +1,7 @@
 -- Why commands stop, for each of their faults.
-use Rattle.std.proofs.Common.{◌⊎◌, ℕ, List, None, Option, String}
-use Rattle.std.specs.declared.alloc.Global.{Global}
-use Rattle.study_commands.specs.Fault.{IsBefore, IsOfWordsFor}
-use Rattle.study_commands.specs.File.{AreBytes, IsScenario}
-use Rattle.study_commands.specs.Refusal.{AreNoSources, IsBeforeReading, IsOfBytes, IsOfFile, IsOfOwnFile, IsOfSources}
-use Rattle.study_commands.specs.Refusal.{IsOfTable, IsRight, IsToldWith, IsUnread}
-use Rattle.study_commands.specs.Refusal.{refusal_text, FileRefusal, broken}
+use Rattle.study_commands.proofs.Words.{◌⊎◌, ℕ, List, None, Option, String, Global, IsBefore, IsOfWordsFor, AreBytes, IsScenario, AreNoSources, IsBeforeReading, IsOfBytes, IsOfFile, IsOfOwnFile, IsOfSources, IsOfTable, IsRight, IsToldWith, IsUnread, refusal_text, FileRefusal, broken, HasNone, IsOfStudy, IsOfText, IsTooLong, StopsCheck, SaysNoSources, Fault, Limit, Memory, Refused, Words, WordsMemory, Write, IsDocumentOf, Record, GridRecord, SourceTexts}
 use Rattle.study_commands.specs.Runs.{IsOfRun, StopsLetters}
-use Rattle.study_commands.specs.Why.{HasNone, IsOfStudy, IsOfText, IsTooLong, StopsCheck}
-use Rattle.study_commands.specs.WordRefusals.{SaysNoSources}
-use Rattle.study_commands.specs.declared.fault.Fault.{Fault}
-use Rattle.study_commands.specs.declared.fault.Fault.TheVariants.{Limit, Memory, Refused, Words, WordsMemory, Write}
-use Rattle.scenario.specs.Refusals.{IsDocumentOf}
-use Rattle.scenario_record.specs.Record.{Record}
-use Rattle.study.specs.Grid.{GridRecord}
 use Rattle.study.specs.Runs.{RunSources}
-use Rattle.study_line.specs.declared.order.SourceTexts.{SourceTexts}
 
 -- a fault that comes before anything is written is one
 pub stops_so : (Holds : Fault → Type 0) (f : Fault) → IsBefore Holds f → Holds f

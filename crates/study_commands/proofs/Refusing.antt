@@ -1,20 +1,13 @@
 -- Pictures and their runs that are refused.
-use Rattle.std.proofs.Common.{◌≡◌, ◌⊎◌, inl, inr, sym, ℕ, List, Option, None, Some, Result, Ok, Err, IfErr, MatchOption, subst}
+use Rattle.study_commands.proofs.Words.{◌≡◌, ◌⊎◌, inl, inr, sym, ℕ, List, Option, None, Some, Result, Ok, Err, IfErr, MatchOption, subst, IsBefore, IsOfWordsFor, IsScenario, Fault, IsOfFile, Says, Limit, Memory, NotDrawn, Refused, Words, WordsMemory, Record, SourceTexts}
 use Rattle.drawing.specs.Refusals.{IsMemory, letters_refusal}
 use Rattle.drawing.specs.declared.error.DrawError.{DrawError}
 use Rattle.study_commands.specs.Draw.{AreNamed, IsOfPicture, IsRefused, NamesNone, StopsPicture, TellsOf, end_of_ticks, first_tick, of_word, picture_line}
-use Rattle.study_commands.specs.Fault.{IsBefore, IsOfWordsFor}
-use Rattle.study_commands.specs.File.{IsScenario}
-use Rattle.study_commands.specs.declared.fault.Fault.{Fault}
-use Rattle.study_commands.specs.Refusal.{IsOfFile, Says}
-use Rattle.study_commands.specs.declared.fault.Fault.TheVariants.{Limit, Memory, NotDrawn, Refused, Words, WordsMemory}
 use Rattle.runs.specs.Letters.{AreLetters}
 use Rattle.reporting.specs.declared.letter.Letter.{Letter}
-use Rattle.scenario_record.specs.Record.{Record}
 use Rattle.study_line.specs.declared.order.Picture.{Picture}
 use Rattle.study_line.specs.declared.order.Picture.TheVariants as picture
 use Rattle.study_line.specs.declared.order.PictureTexts.{PictureTexts}
-use Rattle.study_line.specs.declared.order.SourceTexts.{SourceTexts}
 
 -- what speaks against a picture is what its refusal says, unless memory was refused
 pub memory_or_refused : {T : Type 0} (r : Result T DrawError) (error : DrawError) (o : Option DrawError)

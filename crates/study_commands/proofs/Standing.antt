@@ -1,25 +1,8 @@
 -- Files that stand for a scenario, or for none.
-use Rattle.std.proofs.Common.{◌≡◌, ◌⊎◌, ◌==◌, arith, ◌&&◌, inl, inr, refl, subst, sym, ℕ, List, [], ◌∷◌, length, map, Bool, true, false, not, cond}
+use Rattle.study_commands.proofs.Words.{◌≡◌, ◌⊎◌, ◌==◌, arith, ◌&&◌, inl, inr, refl, subst, sym, ℕ, List, [], ◌∷◌, length, map, Bool, true, false, not, cond, ne_eqb, AllZip, Record, Members, GridRecord, SaysAssignment, Assignment, SourcesRecord, IsOfWordsFor, AreFiles, AreSet, AreSources, IsOwnScenario, IsScenario, IsTable, MayBeTable, is_alone, network_path, no_axes, set_words, AreNoSources, IsNoScenario, IsOfFile, IsOfFiles, IsOfOwnFile, IsOfSources, Decided, IsRefusedFile, SaysNoSources, Fault, Memory, Refused, Words, WordsMemory, SourceTexts}
 use Rattle.std.proofs.Common.{Bor, Option, None, Some, is_some, option_map, MatchOption}
-use Rattle.std.proofs.lemmas.Bool.{ne_eqb}
-use Rattle.std.specs.List.{AllZip}
-use Rattle.scenario_record.specs.Record.{Record}
-use Rattle.toml.specs.Data.{Members}
 use Rattle.study.specs.Laid.{IsLaid, IsLaidBy, is_run}
-use Rattle.study.specs.Grid.{GridRecord}
-use Rattle.study.specs.SetWords.{SaysAssignment}
-use Rattle.study.specs.declared.assignment.Assignment.{Assignment}
-use Rattle.study.specs.Sources.{SourcesRecord}
-use Rattle.study_commands.specs.Fault.{IsOfWordsFor}
-use Rattle.study_commands.specs.File.{AreFiles, AreSet, AreSources, IsOwnScenario, IsScenario, IsTable, MayBeTable, is_alone}
-use Rattle.study_commands.specs.File.{network_path, no_axes, set_words}
-use Rattle.study_commands.specs.Refusal.{AreNoSources, IsNoScenario, IsOfFile, IsOfFiles, IsOfOwnFile, IsOfSources}
-use Rattle.study_commands.specs.Refusal.{Decided, IsRefusedFile}
-use Rattle.study_commands.specs.WordRefusals.{SaysNoSources}
 use Rattle.study_commands.specs.Inside.Setting.{CannotSet, StandsForNone}
-use Rattle.study_commands.specs.declared.fault.Fault.{Fault}
-use Rattle.study_commands.specs.declared.fault.Fault.TheVariants.{Memory, Refused, Words, WordsMemory}
-use Rattle.study_line.specs.declared.order.SourceTexts.{SourceTexts}
 
 -- a scenario's file alone is the table of its run
 none_laid : (t : Members) (b : Bool) → MatchOption {T = Members} (cond b None None) (t ≡ t) (λ file. IsLaidBy t file t)

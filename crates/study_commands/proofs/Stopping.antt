@@ -1,15 +1,6 @@
 -- What stands where a run of the program stops.
-use Rattle.std.proofs.Common.{◌≡◌, ◌⊎◌, ap, inl, inr, refl, ℕ, List, Option, None, Some, Result, Ok, Err, IfErr, OnOk}
-use Rattle.study_commands.specs.Answer.{Answers, GoesFor, IsNoSweep, Writes}
-use Rattle.study_commands.specs.Fault.{end_of, status_of}
+use Rattle.study_commands.proofs.Words.{◌≡◌, ◌⊎◌, ap, inl, inr, refl, ℕ, List, Option, None, Some, Result, Ok, Err, IfErr, OnOk, Answers, GoesFor, IsNoSweep, Writes, end_of, status_of, StopsFor, Fault, Words, WordsMemory, Write, Wrote, WrotePart, goes_as, put_goes, Puts, AsksHelp, AsksVersion, Explains}
 use Rattle.study_commands.specs.Serve.{AreAnswered, IsNoFault, TellsLine, TellsOf}
-use Rattle.study_commands.specs.Why.{StopsFor}
-use Rattle.study_commands.specs.declared.fault.Fault.{Fault}
-use Rattle.study_commands.specs.declared.fault.Fault.TheVariants.{Words, WordsMemory, Write}
-use Rattle.reporting.specs.Writing.{Wrote, WrotePart}
-use Rattle.shell.proofs.Going.{goes_as, put_goes}
-use Rattle.shell.specs.Ending.{Puts}
-use Rattle.study_line.specs.Order.{AsksHelp, AsksVersion, Explains}
 use Rattle.study_line.specs.declared.order.Order.{Order}
 use Rattle.study_line.specs.declared.order.Order.TheVariants as order
 use Rattle.study_line.specs.declared.order.WordsError.{WordsError}

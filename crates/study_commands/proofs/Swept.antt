@@ -1,27 +1,15 @@
 -- Where a study stops, and what a sweep leaves.
-use Rattle.std.proofs.Common.{◌≡◌, ℕ, ◌<◌, ◌⊎◌, inl, inr, refl, subst, sym, Result, Err, IfErr, List, length, take, Option, arith}
+use Rattle.study_commands.proofs.Words.{◌≡◌, ℕ, ◌<◌, ◌⊎◌, inl, inr, refl, subst, sym, Result, Err, IfErr, List, length, take, Option, arith, All-contains, All-drop, All-take, length-range_with_len, get_or-range_with_len, LeftAt, MayHaveGone, Went, IsBefore, IsRefusal, end_of, StopsSweep, Fault, Refused, WroteNothing, GridRecord, points, SourceTexts, IsTextOf, numbers_of, units_of, SourcesRecord}
 use Rattle.std.specs.List.{All, Contains, range_with_len}
-use Rattle.std.proofs.lemmas.List.Elements.{All-contains, All-drop, All-take}
-use Rattle.std.proofs.lemmas.List.FromFn.{length-range_with_len, get_or-range_with_len}
-use Rattle.shell.specs.Ending.{LeftAt, MayHaveGone, Went}
-use Rattle.study_commands.specs.Fault.{IsBefore, IsRefusal, end_of}
 use Rattle.study_commands.specs.Sweep.{IsFaultOf, IsOfRun, IsSaid, IsSweepAnswer, IsSweepFront}
-use Rattle.study_commands.specs.Why.{StopsSweep}
-use Rattle.study_commands.specs.declared.fault.Fault.{Fault}
-use Rattle.study_commands.specs.declared.fault.Fault.TheVariants.{Refused}
 use Rattle.study_commands.proofs.Reasons.{stops_so}
-use Rattle.reporting.specs.Writing.{WroteNothing}
-use Rattle.study.specs.Grid.{GridRecord, points}
 use Rattle.study.specs.Shard.{ShardRecord, end_of as shard_end}
-use Rattle.study_line.specs.declared.order.SourceTexts.{SourceTexts}
 use Rattle.study_line.specs.declared.order.StudyTexts.{StudyTexts}
 use Rattle.sweep.specs.Layout.{LayoutRecord}
 use Rattle.sweep.specs.Outcome.{BreaksOff, CantBeRun, IsFirstUnready, WroteStudy, WroteFirst}
-use Rattle.sweep.specs.StudyText.{IsTextOf, numbers_of, units_of}
 use Rattle.sweep.specs.declared.error.SweepError.{SweepError}
 use Rattle.sweep.specs.declared.error.SweepError.TheVariants as error
 use Rattle.sweep.specs.declared.group.Group.{Group}
-use Rattle.study.specs.Sources.{SourcesRecord}
 
 -- what stands for a failure stands where that is answered
 pub if_err : {A F : Type 0} (r : Result A F) (Stands : F → Type 0) (f : F) → r ≡ Err f → Stands f → IfErr r Stands

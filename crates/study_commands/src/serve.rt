@@ -167,8 +167,8 @@ fn answer_words<R: Files + Threads + Sync + Clock, I: Read, O: Outlet, W: Warned
 /// points may have gone out. With 4 a front part of the text went out.
 ///
 /// The watcher hears how far a `sweep` has come. It is told in lines what may mislead of that study, before it hears of
-/// any limit; tests show that all scenarios were read by then, and that no run has begun. It is told the same of the
-/// files of a lone `check`. It takes away what it shows before a fault is told.
+/// any limit; tests show that all scenarios were read by then, and that it has heard of no run. It is told the same of
+/// the files of a lone `check`. It takes away what it shows before a fault is told.
 pub fn serve<R: Files + Threads + Sync + Clock, I: Read, O: Outlet, F: Outlet, W: Warned>(
     rt: &R,
     alloc: Global,

@@ -1,9 +1,5 @@
 -- Sums over two lists, one after the other.
-use Rattle.sweep.proofs.Words.{◌≡◌, ℕ, ◌+◌, ◌^◌, ◌<◌, ◌≤◌, Bool, cond, ◌||◌, list_any-append, Option, List, ◌++◌, length, length-append, sum, sym, ap, ◌∙◌, arith, count_by, filter_map, sum_by, filter_map-append, sum_by-append, count_by-le-length, Outcome, PairMeasures, plus, plus_few, pairs_plus, decisions_plus, traces_plus, ArePairSums, AreDecisionSums, AreTraceSums, ArePairsWithin, AreDecisionsWithin, AreTracesWithin, Finished, has_decided, decision_tick, greater, greatest, DecisionSums, PairSums, TraceSums}
-use Rattle.std.specs.Prelude.{is_none}
-use Rattle.sweep.specs.Columns.{AreBounds}
-use Rattle.sweep.specs.Inside.Adding.{bounds_plus}
-use Rattle.sweep.specs.declared.columns.DetectionBounds.{DetectionBounds}
+use Rattle.sweep.proofs.Words.{◌≡◌, ℕ, ◌+◌, ◌^◌, ◌<◌, ◌≤◌, Bool, cond, ◌||◌, list_any-append, Option, List, ◌++◌, length, length-append, sum, sym, ap, ◌∙◌, arith, count_by, filter_map, sum_by, filter_map-append, sum_by-append, count_by-le-length, Outcome, PairMeasures, plus, plus_few, pairs_plus, decisions_plus, traces_plus, ArePairSums, AreDecisionSums, AreTraceSums, ArePairsWithin, AreDecisionsWithin, AreTracesWithin, Finished, has_decided, decision_tick, greater, greatest, DecisionSums, PairSums, TraceSums, is_none, AreBounds, bounds_plus, DetectionBounds}
 use Rattle.sweep.proofs.Greatest.{greatest_both}
 
 pub added : {X : Type 0} (f : X → ℕ) (xs ys : List X) (a b A B : ℕ) → A + B < 2 ^ 128 → a ≡ sum_by f xs → b ≡ sum_by f ys → a ≤ A → b ≤ B → plus a b ≡ sum_by f (xs ++ ys)

@@ -1,26 +1,10 @@
 -- The bound of a row is that of some detection.
-use Rattle.sweep.proofs.Words.{◌≡◌, ◌⊎◌, inl, inr, ℕ, zero, suc, ◌-◌, ◌≤◌, Bool, true, false, cond, not, nat_lt, Option, None, Some, unwrap_or, List, [], ◌∷◌, map, refl, sym, ap, ◌∙◌, subst, arith, true≢false, All, filter, flat_map, list_any, le-ltb, lt-ltb, ltb-false, eqb-true, ◌==◌, numbers_to, others, EntryRecord, PairMeasures, Record, Finished, Group, Trial, LayerSums, greater, greatest, done_on, AreFitting, counts_on, counted_pairs}
-use Rattle.std.specs.Prelude.{is_none}
-use Rattle.std.proofs.lemmas.List.Elements.{All-head, All-tail}
-use Rattle.process_api.proofs.Minds.{both_true, and_true}
-use Rattle.process_api.specs.Numbers.{is_process}
-use Rattle.process_api.specs.Watching.{is_watched, is_other, is_chosen}
+use Rattle.sweep.proofs.Words.{◌≡◌, ◌⊎◌, inl, inr, ℕ, zero, suc, ◌-◌, ◌≤◌, Bool, true, false, cond, not, nat_lt, Option, None, Some, unwrap_or, List, [], ◌∷◌, map, refl, sym, ap, ◌∙◌, subst, arith, true≢false, All, filter, flat_map, list_any, le-ltb, lt-ltb, ltb-false, eqb-true, ◌==◌, numbers_to, others, EntryRecord, PairMeasures, Record, Finished, Group, Trial, LayerSums, greater, greatest, done_on, AreFitting, counts_on, counted_pairs, is_none, All-head, All-tail, both_true, and_true, is_process, is_watched, is_other, is_chosen, crash_tick, is_crashed, is_correct, suspects, least_from, trusts, watch_of, delay_after, is_measured, layer_measures, pair_measures, Na, AreBounds, IsAwaited, SomeAwaited, TellsBound, detection_bound, is_in, bound_after, bounds, is_to_detect, DetectionBounds}
 use Rattle.trace_laws.specs.History.{IsIn}
 use Rattle.trace_laws.proofs.Steps.{in_left, in_right}
 use Rattle.judges.proofs.Members.{in_filter, in_image, of_image}
-use Rattle.judges.specs.Crashes.{crash_tick, is_crashed, is_correct}
-use Rattle.judges.specs.Out.{suspects}
-use Rattle.judges.specs.Ticks.{least_from}
 use Rattle.detector_bounds.specs.Bounds.{detected_at}
-use Rattle.detector_bounds.specs.Detected.{trusts}
-use Rattle.detector_bounds.specs.Watched.{watch_of}
 use Rattle.promised.proofs.Elements.{in_chosen, in_each, none_passes, of_chosen, of_each, of_filter, some_passes}
-use Rattle.reporting.specs.Measures.{delay_after, is_measured, layer_measures, pair_measures}
-use Rattle.reporting.specs.declared.pair_measures.Detection.TheVariants.{Na}
-use Rattle.sweep.specs.Columns.{AreBounds, IsAwaited, SomeAwaited, TellsBound, detection_bound}
-use Rattle.sweep.specs.Groups.{is_in}
-use Rattle.sweep.specs.OneRun.{bound_after, bounds, is_to_detect}
-use Rattle.sweep.specs.declared.columns.DetectionBounds.{DetectionBounds}
 use Rattle.sweep.proofs.Bounding.{known, pair_awaited, told_bound}
 use Rattle.sweep.proofs.Greatest.{has_greatest}
 use Rattle.sweep.proofs.Lasted.{each_measure}

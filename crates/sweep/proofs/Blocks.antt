@@ -1,9 +1,5 @@
 -- Words that say blocks of pairs, up to the first that says none.
-use Rattle.sweep.proofs.Words.{◌≡◌, ℕ, ◌+◌, ◌<◌, Result, Ok, Err, List, [], ◌∷◌, ◌++◌, length, map, take, drop, get_or, sym, ap, ◌∙◌, arith, All, drop_more, length-map, map_more, map_push, take-append-drop}
-use Rattle.std.proofs.lemmas.List.{get_or-map}
-use Rattle.std.specs.Result.{IsOk, is_ok}
-use Rattle.study.specs.Words.{Word}
-use Rattle.sweep.specs.GroupWords.{SayBlocks, SayNoBlocks, block_said}
+use Rattle.sweep.proofs.Words.{◌≡◌, ℕ, ◌+◌, ◌<◌, Result, Ok, Err, List, [], ◌∷◌, ◌++◌, length, map, take, drop, get_or, sym, ap, ◌∙◌, arith, All, drop_more, length-map, map_more, map_push, take-append-drop, get_or-map, IsOk, is_ok, Word, SayBlocks, SayNoBlocks, block_said}
 use Rattle.sweep.specs.declared.error.GroupError.{GroupError}
 use Rattle.sweep.specs.declared.error.GroupError.TheVariants as error
 use Rattle.sweep.specs.declared.group.PairBlock.{PairBlock}

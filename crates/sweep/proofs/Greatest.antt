@@ -1,7 +1,6 @@
 -- The greatest of some values.
-use Rattle.sweep.proofs.Words.{◌≡◌, ◌⊎◌, inl, inr, ℕ, ◌<◌, ◌≤◌, max, Bool, true, false, Option, None, Some, List, [], ◌∷◌, ◌++◌, refl, ap, ◌∙◌, arith, ◌==◌, ◌||◌, cons_option, list_any, ne_eqb, ltb-true, lt-ltb, is_above, greater, greatest}
+use Rattle.sweep.proofs.Words.{◌≡◌, ◌⊎◌, inl, inr, ℕ, ◌<◌, ◌≤◌, max, Bool, true, false, Option, None, Some, List, [], ◌∷◌, ◌++◌, refl, ap, ◌∙◌, arith, ◌==◌, ◌||◌, cons_option, list_any, ne_eqb, ltb-true, lt-ltb, is_above, greater, greatest, eq-eqb}
 use Rattle.std.proofs.Math.Bool.{or-true}
-use Rattle.std.proofs.lemmas.Bool.{eq-eqb}
 
 greater_assoc : (a b c : Option ℕ) → greater a (greater b c) ≡ greater (greater a b) c
 greater_assoc None b c = refl

@@ -1,8 +1,6 @@
 -- How long the mistakes of the pairs that count were.
-use Rattle.sweep.proofs.Words.{◌≡◌, ◌≢◌, ◌==◌, ℕ, zero, suc, ◌+◌, ◌-◌, ◌*◌, ◌≤◌, Bool, true, false, not, cond, true≢false, List, [], ◌∷◌, ◌++◌, map, filter, get_or, ap, sym, ◌∙◌, refl, arith, All, AllByRecursion, flat_map, All-filter, All-from_recursion, EntryRecord, numbers_to, others, AreDurations, lengths_of, lists_in, PairMeasures, Record, counts_on, counted_of, Group}
-use Rattle.std.proofs.lemmas.Bool.{eq-eqb}
+use Rattle.sweep.proofs.Words.{◌≡◌, ◌≢◌, ◌==◌, ℕ, zero, suc, ◌+◌, ◌-◌, ◌*◌, ◌≤◌, Bool, true, false, not, cond, true≢false, List, [], ◌∷◌, ◌++◌, map, filter, get_or, ap, sym, ◌∙◌, refl, arith, All, AllByRecursion, flat_map, All-filter, All-from_recursion, EntryRecord, numbers_to, others, AreDurations, lengths_of, lists_in, PairMeasures, Record, counts_on, counted_of, Group, eq-eqb, layer_measures, pair_measures, pair_durations}
 use Rattle.process_api.proofs.Lists.{both, images, weaker, numbers_are}
-use Rattle.reporting.specs.Measures.{layer_measures, pair_measures, pair_durations}
 use Rattle.reporting.specs.declared.durations.Durations.{Durations}
 
 flat_same : {X A : Type 0} (f g : X → List A) (xs : List X) → All (λ x. f x ≡ g x) xs → flat_map f xs ≡ flat_map g xs

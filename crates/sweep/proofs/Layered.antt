@@ -1,9 +1,5 @@
 -- The runs that have a layer, and what is added up of them.
-use Rattle.sweep.proofs.Words.{All, ◌≡◌, ℕ, ◌+◌, ◌*◌, ◌^◌, ◌<◌, ◌≤◌, Bool, true, false, cond, is_some, Option, Some, None, List, [], ◌∷◌, ◌++◌, length, sym, ap, ◌∙◌, refl, subst, arith, nat_lt, ◌||◌, ◌==◌, length-append, cons_option, count_by, filter_map, flat_map, list_any, lt-ltb, flat_map-append, filter-append, filter_map-append, count_by-le-length, length-filter, Record, layer_plus, has_layer, on_layer, finished_of, finish_of, done_on, all_pairs, all_durations, all_detections, last_decisions, top_rounds, is_limited, AreDoneSums, AreRunCounts, AreVerdictCounts, ArePairSums, AreDecisionSums, most_runs, most_of, IsLayerWithin, Finished, counted_pairs, pair_ticks, mistakes, durations, detections, run_outcomes, deciding, last_decision, top_round, Trial, AreFitting, Group, LayerSums}
-use Rattle.std.proofs.lemmas.List.Elements.{All-append}
-use Rattle.runs.specs.Grounds.{HasGrounds}
-use Rattle.sweep.specs.Columns.{AreBounds}
-use Rattle.sweep.specs.OneRun.{bounds}
+use Rattle.sweep.proofs.Words.{All, ◌≡◌, ℕ, ◌+◌, ◌*◌, ◌^◌, ◌<◌, ◌≤◌, Bool, true, false, cond, is_some, Option, Some, None, List, [], ◌∷◌, ◌++◌, length, sym, ap, ◌∙◌, refl, subst, arith, nat_lt, ◌||◌, ◌==◌, length-append, cons_option, count_by, filter_map, flat_map, list_any, lt-ltb, flat_map-append, filter-append, filter_map-append, count_by-le-length, length-filter, Record, layer_plus, has_layer, on_layer, finished_of, finish_of, done_on, all_pairs, all_durations, all_detections, last_decisions, top_rounds, is_limited, AreDoneSums, AreRunCounts, AreVerdictCounts, ArePairSums, AreDecisionSums, most_runs, most_of, IsLayerWithin, Finished, counted_pairs, pair_ticks, mistakes, durations, detections, run_outcomes, deciding, last_decision, top_round, Trial, AreFitting, Group, LayerSums, All-append, HasGrounds, AreBounds, bounds}
 use Rattle.sweep.proofs.Added.{added, bounds_added, counted, traces_added, pairs_added, decisions_added}
 
 -- ---- layers

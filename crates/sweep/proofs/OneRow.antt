@@ -1,9 +1,5 @@
 -- What a row tells is told by the runs alone.
-use Rattle.sweep.proofs.Words.{rules, ◌≡◌, ℕ, ◌*◌, ◌≤◌, ◌++◌, List, [], ◌∷◌, Option, None, Some, is_some, cond, refl, sym, ap, ◌∙◌, subst, arith, AllZip, flat_map, list_any, Outcome, PairMeasures, over, all_detections, last_decisions, IsDistribution, AreTraceSums, ArePairSums, AreDecisionSums, AreVerdictCounts, AreRunCounts, AreLayerSums, AreFirstRuns, AreColumns, Finished, IsPercentile, Trial, Text, layer_text, AreRowsFor, AreRowsOfGroup, Group, DecisionSums, FirstRuns, LayerSums, PairSums, RunCounts, TraceSums}
-use Rattle.sweep.specs.declared.columns.Columns.{Columns}
-use Rattle.sweep.specs.Columns.{AreBounds}
-use Rattle.sweep.specs.declared.columns.DetectionBounds.{DetectionBounds}
-use Rattle.sweep.specs.declared.columns.Distribution.{Distribution}
+use Rattle.sweep.proofs.Words.{rules, ◌≡◌, ℕ, ◌*◌, ◌≤◌, ◌++◌, List, [], ◌∷◌, Option, None, Some, is_some, cond, refl, sym, ap, ◌∙◌, subst, arith, AllZip, flat_map, list_any, Outcome, PairMeasures, over, all_detections, last_decisions, IsDistribution, AreTraceSums, ArePairSums, AreDecisionSums, AreVerdictCounts, AreRunCounts, AreLayerSums, AreFirstRuns, AreColumns, Finished, IsPercentile, Trial, Text, layer_text, AreRowsFor, AreRowsOfGroup, Group, DecisionSums, FirstRuns, LayerSums, PairSums, RunCounts, TraceSums, Columns, AreBounds, DetectionBounds, Distribution}
 use Rattle.sweep.specs.declared.columns.VerdictCounts.{VerdictCounts}
 
 module _ (p : ℕ) (values : List ℕ) (infinite : ℕ) where

@@ -132,9 +132,9 @@ pub fn run_study<R: Threads + Sync + Clock, O: Outlet, W: Watcher>(
 /// # Errors
 ///
 /// `Refused` or `NoSuchProcess` where a run of the shard has no scenario, or not all processes that a group names, for
-/// the first such run; then nothing went out, and the watcher heard of no limit. `Memory` where memory was refused: then
-/// nothing went out, or the header and the first points' or runs' rows. `Write` where a put failed: then a front part of
-/// these.
+/// the first such run; then nothing went out, and the watcher heard of no limit. `Memory` where memory was refused:
+/// then nothing went out, or the header and the first points' or runs' rows. `Write` where a put failed: then a front
+/// part of these.
 pub fn sweep<R: Threads + Sync + Clock, O: Outlet, W: Watcher>(
     rt: &R,
     alloc: Global,

@@ -1,15 +1,7 @@
 -- Minds of two kinds that act alike make the same plain program.
-use Rattle.std.proofs.Common.{◌≡◌, ℕ, zero, suc, ◌+◌, ◌++◌, refl, ap, ◌∙◌, Bool, true, false, cond, List, [], ◌∷◌, nat_eq}
-use Rattle.process_api.specs.Answer.{Answer}
-use Rattle.process_api.specs.Numbers.{change}
-use Rattle.process_api.specs.declared.action.Action.{Action}
+use Rattle.trace_laws.proofs.Words.{◌≡◌, ℕ, zero, suc, ◌+◌, ◌++◌, refl, ap, ◌∙◌, Bool, true, false, cond, List, [], ◌∷◌, nat_eq, Answer, change, Action, Key, StepInput, Setting, has_crashed, Event, Process, Made, dead, kind_of, counted, counts_after, sent, noted, lost_by, lost, joining, added, made_by, step, puts, plain_steps, plain_left}
 use Rattle.process_api.specs.declared.action.Action.TheVariants.{Send, Wake, Note}
-use Rattle.process_api.specs.declared.key.Key.{Key}
-use Rattle.process_api.specs.declared.message.StepInput.{StepInput}
-use Rattle.trace_laws.specs.Setting.{Setting, has_crashed}
-use Rattle.trace_laws.specs.Step.{Event, Process, Made, dead, kind_of, counted, counts_after, sent, noted, lost_by, lost, joining, added, made_by, step}
 use Rattle.trace_laws.specs.World.{Pair}
-use Rattle.trace_laws.specs.Plain.{puts, plain_steps, plain_left}
 
 -- the same setting with minds of another kind
 abbrev pub with_minds : {A B : Type 0} → Setting A → (ℕ → B) → (B → ℕ → StepInput → Answer B) → Setting B

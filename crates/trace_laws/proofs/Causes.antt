@@ -1,13 +1,6 @@
 -- Each event has one cause, and is taken once.
-use Rattle.std.proofs.Common.{◌≡◌, ℕ, inl, inr, refl, sym, ap, ◌∙◌, subst, List, [], ◌∷◌, arith, IsTrue, Less}
-use Rattle.process_api.specs.Order.{key_cmp}
-use Rattle.process_api.specs.declared.key.Key.{Key}
-use Rattle.process_api.specs.declared.message.StepInput.{StepInput}
-use Rattle.trace_laws.specs.Setting.{Setting, IsSound, IsProcess}
-use Rattle.trace_laws.specs.Step.{Process, step}
-use Rattle.trace_laws.specs.World.{opening_process}
+use Rattle.trace_laws.proofs.Words.{◌≡◌, ℕ, inl, inr, refl, sym, ap, ◌∙◌, subst, List, [], ◌∷◌, arith, IsTrue, Less, key_cmp, Key, StepInput, Setting, IsSound, IsProcess, Process, step, opening_process, before_by_tick, not_before_itself}
 use Rattle.trace_laws.specs.History.{IsIn, Pair, pairs_of, IsClosed, IsStart, Adds, IsCauseOf, IsOnly}
-use Rattle.process_api.proofs.KeyOrder.{before_by_tick, not_before_itself}
 use Rattle.trace_laws.proofs.Pairs.{IsCause, Own, added_by, adder, adds_is, in_pairs, mind_after, sent_at}
 use Rattle.trace_laws.proofs.Rising.{IsRising, rising_pairs}
 

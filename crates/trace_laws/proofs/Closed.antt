@@ -1,17 +1,8 @@
 -- Runs and closed histories are the same.
-use Rattle.std.proofs.Common.{◌≡◌, ◌≢◌, ◌⊎◌, ◌↔◌, ℕ, zero, suc, ◌<◌, ◌≤◌, inl, inr, refl, sym, ap, ◌∙◌, subst, List, [], ◌∷◌, arith, Less}
-use Rattle.std.proofs.lemmas.Bool.{cases_lt}
+use Rattle.trace_laws.proofs.Words.{◌≡◌, ◌≢◌, ◌⊎◌, ◌↔◌, ℕ, zero, suc, ◌<◌, ◌≤◌, inl, inr, refl, sym, ap, ◌∙◌, subst, List, [], ◌∷◌, arith, Less, cases_lt, key_cmp, is_rising, Key, StepInput, Start, Setting, IsSound, EntryRecord, World, Has, IsLeast, NoneBelow, IsWorld, made, taken, Run, opening, opening_process, starts, start_of, entries, IsTrace, keys_total, before_by_tick, before_or_not, ticks_rise, not_before_itself, not_both, same_or_not}
 use Rattle.std.specs.FinMap as finmap
 use Rattle.std.specs.Prelude.{IsTrue}
-use Rattle.process_api.specs.Order.{key_cmp, is_rising}
-use Rattle.process_api.specs.declared.key.Key.{Key}
-use Rattle.process_api.specs.declared.message.StepInput.{StepInput}
-use Rattle.process_api.specs.declared.message.StepInput.TheVariants.{Start}
-use Rattle.trace_laws.specs.Setting.{Setting, IsSound}
-use Rattle.process_api.specs.EntryRecord.{EntryRecord}
-use Rattle.trace_laws.specs.World.{World, Has, IsLeast, NoneBelow, IsWorld, made, taken, Run, opening, opening_process, starts, start_of, entries, IsTrace}
 use Rattle.trace_laws.specs.History.{IsIn, Pair, pairs_of, IsAddedBySome, IsTaken, IsClosedFrom, IsClosedBetween, IsClosed, IsStart, IsOnly}
-use Rattle.process_api.proofs.KeyOrder.{keys_total, before_by_tick, before_or_not, ticks_rise, not_before_itself, not_both, same_or_not}
 use Rattle.trace_laws.proofs.Sets.{one_input, not_None, insert_at, insert_other, inserted}
 use Rattle.trace_laws.proofs.Worlds.{taken_cases, taken_old, taken_new, taken_world, made_sent}
 use Rattle.trace_laws.proofs.Runs.{run_exists, one_run}

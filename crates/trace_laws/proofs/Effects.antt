@@ -1,12 +1,6 @@
 -- In a trace each entry but the starts has one cause, and each event that is added is taken once.
-use Rattle.std.proofs.Common.{◌≡◌, sym, ap, subst, List, Less}
-use Rattle.process_api.specs.EntryRecord.{EntryRecord}
-use Rattle.process_api.specs.Order.{key_cmp}
-use Rattle.process_api.specs.declared.key.Key.{Key}
-use Rattle.process_api.specs.declared.message.StepInput.{StepInput}
-use Rattle.trace_laws.specs.Setting.{Setting, IsSound}
+use Rattle.trace_laws.proofs.Words.{◌≡◌, sym, ap, subst, List, Less, EntryRecord, key_cmp, Key, StepInput, Setting, IsSound, IsIn, IsOnly, IsClosed}
 use Rattle.trace_laws.specs.World.{Pair, entries, IsTrace}
-use Rattle.trace_laws.specs.History.{IsIn, IsOnly, IsClosed}
 use Rattle.trace_laws.specs.Effects.{IsHistoryOf, IsEffect, Causes, IsStartKey, HasCauses, TakesOnce}
 use Rattle.trace_laws.proofs.Causes.{has_one_cause, one_cause, is_taken_once}
 use Rattle.trace_laws.proofs.Steps.{in_images, of_images}

@@ -1,3 +1,4 @@
+pub mod Words
 pub mod Alike
 pub mod Causes
 pub mod Closed

@@ -1,11 +1,5 @@
 -- The pairs of one process in a history, and what their steps add.
-use Rattle.std.proofs.Common.{◌≡◌, ◌≢◌, ◌⊎◌, ℕ, ◌+◌, ◌<◌, ◌≤◌, inl, inr, refl, sym, ap, ◌∙◌, subst, List, [], ◌∷◌, IsTrue, cond, ◌==◌, arith}
-use Rattle.std.proofs.lemmas.Bool.{cases_eq, cond_both, eq-eqb, ne_eqb, eqb-true}
-use Rattle.process_api.specs.declared.key.Key.{Key}
-use Rattle.process_api.specs.declared.message.StepInput.{StepInput}
-use Rattle.trace_laws.specs.Setting.{Setting, IsSound, IsProcess}
-use Rattle.trace_laws.specs.Step.{Event, Process, step}
-use Rattle.trace_laws.specs.World.{World, made, taken}
+use Rattle.trace_laws.proofs.Words.{◌≡◌, ◌≢◌, ◌⊎◌, ℕ, ◌+◌, ◌<◌, ◌≤◌, inl, inr, refl, sym, ap, ◌∙◌, subst, List, [], ◌∷◌, IsTrue, cond, ◌==◌, arith, cases_eq, cond_both, eq-eqb, ne_eqb, eqb-true, Key, StepInput, Setting, IsSound, IsProcess, Event, Process, step, World, made, taken}
 use Rattle.trace_laws.specs.History.{IsIn, Pair, pairs_of, Adds, AreSteps, IsAdded}
 use Rattle.trace_laws.proofs.Steps.{IsSent, step_counts, step_mind, step_sent}
 use Rattle.trace_laws.proofs.Worlds.{process_at, process_other}

@@ -1,13 +1,7 @@
 -- Worlds that the list comes by.
-use Rattle.std.proofs.Common.{◌≡◌, ◌<◌, refl, sym, ap, ◌∙◌, subst, List, [], ◌∷◌, ◌++◌, length, append_assoc, append-nil, length-append, arith}
+use Rattle.trace_laws.proofs.Words.{◌≡◌, ◌<◌, refl, sym, ap, ◌∙◌, subst, List, [], ◌∷◌, ◌++◌, length, append_assoc, append-nil, length-append, arith, map-append, length-map, Key, StepInput, EntryRecord, Setting, World, IsLeast, NoneBelow, Run, opening, made, taken, entries, IsTrace}
 use Rattle.std.specs.Prelude.{take}
 use Rattle.std.proofs.Math.Seq.{take-append_seam}
-use Rattle.std.proofs.lemmas.List.{map-append, length-map}
-use Rattle.process_api.specs.declared.key.Key.{Key}
-use Rattle.process_api.specs.declared.message.StepInput.{StepInput}
-use Rattle.process_api.specs.EntryRecord.{EntryRecord}
-use Rattle.trace_laws.specs.Setting.{Setting}
-use Rattle.trace_laws.specs.World.{World, IsLeast, NoneBelow, Run, opening, made, taken, entries, IsTrace}
 use Rattle.trace_laws.specs.History.{Pair}
 use Rattle.trace_laws.specs.Reached.{IsReached}
 use Rattle.trace_laws.proofs.Runs.{again, next}

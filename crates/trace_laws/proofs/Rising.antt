@@ -1,11 +1,6 @@
 -- Keys that rise strictly, pair by pair.
-use Rattle.std.proofs.Common.{◌≡◌, inl, inr, refl, sym, subst, List, [], ◌∷◌, true, Ordering, Less, ap, arith}
+use Rattle.trace_laws.proofs.Words.{◌≡◌, inl, inr, refl, sym, subst, List, [], ◌∷◌, true, Ordering, Less, ap, arith, list_all, key_cmp, is_less, is_before, is_rising, Key, both_true, and_true, entries}
 use Rattle.std.specs.Prelude.{IsTrue}
-use Rattle.std.specs.List.{list_all}
-use Rattle.process_api.specs.Order.{key_cmp, is_less, is_before, is_rising}
-use Rattle.process_api.specs.declared.key.Key.{Key}
-use Rattle.process_api.proofs.Minds.{both_true, and_true}
-use Rattle.trace_laws.specs.World.{entries}
 use Rattle.trace_laws.specs.History.{IsIn, Pair}
 
 -- each is before all that follow

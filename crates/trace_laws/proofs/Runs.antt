@@ -1,18 +1,8 @@
 -- A run of the list exists, and there is one alone.
-use Rattle.std.proofs.Common.{◌++◌, ◌≡◌, ◌≢◌, ◌⊎◌, ℕ, zero, suc, ◌+◌, ◌<◌, inl, inr, refl, sym, ap, ◌∙◌, subst, List, [], ◌∷◌, length, arith, T, Bool, true, false, cond, ◌&&◌, Ordering, Less, Some, is_lt, map}
-use Rattle.std.proofs.lemmas.Bool.{cases_lt}
-use Rattle.std.specs.Ordering.{eq_by_cmp}
+use Rattle.trace_laws.proofs.Words.{◌++◌, ◌≡◌, ◌≢◌, ◌⊎◌, ℕ, zero, suc, ◌+◌, ◌<◌, inl, inr, refl, sym, ap, ◌∙◌, subst, List, [], ◌∷◌, length, arith, T, Bool, true, false, cond, ◌&&◌, Ordering, Less, Some, is_lt, map, cases_lt, eq_by_cmp, below_all, key_cmp, Key, StepInput, Setting, IsSound, Event, Events, World, Has, IsLeast, NoneBelow, IsWorld, made, taken, Run, exact_keys, not_before_itself, not_both, same_or_not}
 use Rattle.std.specs.FinMap as finmap
 use Rattle.std.specs.FinMap.{find, is_sorted}
-use Rattle.std.specs.FinMap.Entries.{below_all}
-use Rattle.process_api.specs.Order.{key_cmp}
-use Rattle.process_api.specs.declared.key.Key.{Key}
-use Rattle.process_api.specs.declared.message.StepInput.{StepInput}
-use Rattle.trace_laws.specs.Setting.{Setting, IsSound}
-use Rattle.trace_laws.specs.Step.{Event, Events}
-use Rattle.trace_laws.specs.World.{World, Has, IsLeast, NoneBelow, IsWorld, made, taken, Run}
 use Rattle.trace_laws.specs.History.{IsIn, Pair}
-use Rattle.process_api.proofs.KeyOrder.{exact_keys, not_before_itself, not_both, same_or_not}
 use Rattle.trace_laws.proofs.Sets.{apart, least_first, least_is_one, not_None, one_input, removed, removed_back, same_events, tie, tied}
 use Rattle.trace_laws.proofs.Steps.{step_key}
 use Rattle.trace_laws.proofs.Worlds.{taken_cases, taken_world, made_sent}

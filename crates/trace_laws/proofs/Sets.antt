@@ -1,17 +1,8 @@
 -- Finite sets of events, by what is in them.
-use Rattle.std.proofs.Common.{◌≡◌, ◌≢◌, ◌≤◌, ◌⊎◌, inl, inr, refl, sym, ap, ◌∙◌, subst, Ordering, Equal, true, false, cond, List, [], ◌∷◌, Option, Some, None, is_eq, arith}
-use Rattle.std.specs.Ordering.{eq_by_cmp}
+use Rattle.trace_laws.proofs.Words.{◌≡◌, ◌≢◌, ◌≤◌, ◌⊎◌, inl, inr, refl, sym, ap, ◌∙◌, subst, Ordering, Equal, true, false, cond, List, [], ◌∷◌, Option, Some, None, is_eq, arith, eq_by_cmp, cases_lt, false_from_ne_true, key_cmp, Key, StepInput, Event, Events, Has, IsLeast, joined, IsIn, keys_total, exact_keys, same_or_not, before_or_not, before_by_tick}
 use Rattle.std.specs.FinMap as map
-use Rattle.std.proofs.lemmas.Bool.{cases_lt, false_from_ne_true}
 use Rattle.std.proofs.lemmas.Cmp.{tied_itself}
 pub use Rattle.std.proofs.lemmas.Option.{none-some as not_None, same_Some}
-use Rattle.process_api.specs.Order.{key_cmp}
-use Rattle.process_api.specs.declared.key.Key.{Key}
-use Rattle.process_api.specs.declared.message.StepInput.{StepInput}
-use Rattle.trace_laws.specs.Step.{Event, Events}
-use Rattle.trace_laws.specs.World.{Has, IsLeast, joined}
-use Rattle.trace_laws.specs.History.{IsIn}
-use Rattle.process_api.proofs.KeyOrder.{keys_total, exact_keys, same_or_not, before_or_not, before_by_tick}
 
 -- one input at a key
 pub one_input : (m : Events) (k : Key) (x y : StepInput) → Has m k x → Has m k y → x ≡ y

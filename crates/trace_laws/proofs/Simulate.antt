@@ -1,14 +1,6 @@
 -- The plain program makes the trace.
-use Rattle.std.proofs.Common.{◌≡◌, ℕ, zero, suc, refl, sym, ap, ◌∙◌, List, [], ◌∷◌}
+use Rattle.trace_laws.proofs.Words.{◌≡◌, ℕ, zero, suc, refl, sym, ap, ◌∙◌, List, [], ◌∷◌, put, key_cmp, Start, Setting, IsSound, Event, Events, World, IsWorld, made, taken, Run, joined, opening, opening_process, starts, start_of, entries, IsTrace, puts, plain_starts, plain_steps, plain_left, keys_total}
 use Rattle.std.specs.FinMap as finmap
-use Rattle.std.specs.FinMap.Entries.{put}
-use Rattle.process_api.specs.Order.{key_cmp}
-use Rattle.process_api.specs.declared.message.StepInput.TheVariants.{Start}
-use Rattle.trace_laws.specs.Setting.{Setting, IsSound}
-use Rattle.trace_laws.specs.Step.{Event, Events}
-use Rattle.trace_laws.specs.World.{World, IsWorld, made, taken, Run, joined, opening, opening_process, starts, start_of, entries, IsTrace}
-use Rattle.trace_laws.specs.Plain.{puts, plain_starts, plain_steps, plain_left}
-use Rattle.process_api.proofs.KeyOrder.{keys_total}
 use Rattle.trace_laws.proofs.Sets.{not_None, same_events}
 use Rattle.trace_laws.proofs.Worlds.{taken_world}
 use Rattle.trace_laws.proofs.Runs.{again, front_least, front_removed, nothing_there}

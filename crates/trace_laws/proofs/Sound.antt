@@ -1,25 +1,13 @@
 -- The setting of an accepted scenario is sound.
-use Rattle.std.proofs.Common.{◌≡◌, ℕ, ◌≤◌, ◌+◌, ◌%◌, ◌-◌, ◌*◌, refl, ap, Bool, true, false, cond, not, arith, nat_lt, nat_le, nat_cmp, Option, Some, None, option_map}
+use Rattle.trace_laws.proofs.Words.{◌≡◌, ℕ, ◌≤◌, ◌+◌, ◌%◌, ◌-◌, ◌*◌, refl, ap, Bool, true, false, cond, not, arith, nat_lt, nat_le, nat_cmp, Option, Some, None, option_map, ForSome, eq-eqb, is_mind_at, stands_at, Place, same_place, and_true, Record, link, place_in, opening_mind, opening_algorithm, IsInRange, Link, Lost, Delay, fate_of, fate_by, is_cut, word, setting_of, IsSound, IsSlow}
 use Rattle.std.specs.Prelude.{IsTrue}
-use Rattle.std.specs.Option.{ForSome}
 use Rattle.std.specs.FinSet as set
-use Rattle.std.proofs.lemmas.Bool.{eq-eqb}
-use Rattle.process_api.specs.Mind.{is_mind_at, stands_at}
-use Rattle.process_api.specs.Place.{Place, same_place}
 use Rattle.process_api.specs.Reduction.{opening_reduction}
 use Rattle.process_api.proofs.Allowed.{react_allowed}
 use Rattle.process_api.proofs.DetectorLaws.{detector_opens}
 use Rattle.process_api.proofs.Keeping.{react_keeps}
-use Rattle.process_api.proofs.Minds.{and_true}
-use Rattle.scenario_record.specs.Record.{Record, link, place_in, opening_mind, opening_algorithm}
-use Rattle.scenario_record.specs.Ranges.{IsInRange}
 use Rattle.scenario_record.specs.declared.algorithm.AlgorithmKind.TheVariants as kind
-use Rattle.scenario_record.specs.declared.link.Link.{Link}
 use Rattle.scenario_record.proofs.DetectorFacts.{opens_paced}
-use Rattle.streams.specs.declared.fate.Fate.TheVariants.{Lost, Delay}
-use Rattle.streams.specs.Fate.{fate_of, fate_by, is_cut, word}
-use Rattle.trace_laws.specs.ScenarioSetting.{setting_of}
-use Rattle.trace_laws.specs.Setting.{IsSound, IsSlow}
 
 same_itself : (a : Place) → IsTrue (same_place a a)
 same_itself a = and_true _ _ (eq-eqb a.own a.own refl) (and_true _ _ (eq-eqb a.processes a.processes refl) (eq-eqb a.horizon a.horizon refl))

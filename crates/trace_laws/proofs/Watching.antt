@@ -1,12 +1,7 @@
 -- A process that runs the time-out detector alone, with its suspects as a test, which computes: it acts as its mind does.
-use Rattle.std.proofs.Common.{◌≡◌, ℕ, ◌+◌, ◌-◌, refl, sym, ap, ◌∙◌, subst, Bool, true, false, cond, not, ◌&&◌, ◌||◌, if◌then◌else◌, min, max, nat_le, nat_cmp, List, [], ◌∷◌, ◌++◌, map, filter, None}
+use Rattle.trace_laws.proofs.Words.{◌≡◌, ℕ, ◌+◌, ◌-◌, refl, sym, ap, ◌∙◌, subst, Bool, true, false, cond, not, ◌&&◌, ◌||◌, if◌then◌else◌, min, max, nat_le, nat_cmp, List, [], ◌∷◌, ◌++◌, map, filter, None, eq_by_cmp, Answer, Idle, Mind, numbers_to, change, Place, StepInput, TimeoutNumbers}
 use Rattle.std.specs.FinSet as set
 use Rattle.std.specs.Cmp.{nat_cmp_total}
-use Rattle.std.specs.Ordering.{eq_by_cmp}
-use Rattle.process_api.specs.Answer.{Answer}
-use Rattle.process_api.specs.Mind.{Idle, Mind}
-use Rattle.process_api.specs.Numbers.{numbers_to, change}
-use Rattle.process_api.specs.Place.{Place}
 use Rattle.process_api.specs.React.{react, react_lower, react_algorithm}
 use Rattle.process_api.specs.Sets.{Processes, insert_all}
 use Rattle.process_api.specs.Detector.{ByTimeout, step_detector}
@@ -14,10 +9,8 @@ use Rattle.process_api.specs.Timeout.{TimeoutState, watches, alive_to_others, ne
 use Rattle.process_api.specs.declared.action.Action.TheVariants as action
 use Rattle.process_api.specs.declared.action.Note.TheVariants as note
 use Rattle.process_api.specs.declared.message.Payload.TheVariants as payload
-use Rattle.process_api.specs.declared.message.StepInput.{StepInput}
 use Rattle.process_api.specs.declared.message.StepInput.TheVariants as input
 use Rattle.process_api.specs.declared.message.Tag.TheVariants as tag
-use Rattle.process_api.specs.declared.numbers.TimeoutNumbers.{TimeoutNumbers}
 use Rattle.trace_laws.proofs.Alike.{ActAlike}
 
 pub record Watcher : Type 0 where

@@ -1,27 +1,12 @@
 -- Worked traces: what the definitions give for small scenarios of the time-out detector alone whose links lose nothing
 -- and all take the same delay. There the plain program computes the trace.
-use Rattle.std.proofs.Common.{◌≡◌, ℕ, zero, suc, ◌+◌, ◌-◌, ◌*◌, ◌%◌, ◌≤◌, refl, sym, ap, ◌∙◌, subst, false, cond, nat_lt, nat_cmp, List, [], ◌∷◌, replicate, get_or, length, Option, None, Some, arith, lit≤, Bool, true, map, filter, inl, inr}
+use Rattle.trace_laws.proofs.Words.{◌≡◌, ℕ, zero, suc, ◌+◌, ◌-◌, ◌*◌, ◌%◌, ◌≤◌, refl, sym, ap, ◌∙◌, subst, false, cond, nat_lt, nat_cmp, List, [], ◌∷◌, replicate, get_or, length, Option, None, Some, arith, lit≤, Bool, true, map, filter, inl, inr, AllByRecursion, ForSome, get_or-replicate, get_or_past, length-replicate, EntryRecord, Mind, TimeoutNumbers, IsInRange, IsLink, Record, no_link, link, place_in, Link, fate_of, fate_by, word, Lost, Delay, plain_starts, plain_steps, plain_left, setting_of, Setting, IsSound, opening_process, entries, IsTrace, IsIn}
 use Rattle.std.specs.FinSet as set
-use Rattle.std.specs.List.{AllByRecursion}
-use Rattle.std.specs.Option.{ForSome}
-use Rattle.std.proofs.lemmas.List.{get_or-replicate, get_or_past, length-replicate}
 use Rattle.std.proofs.lemmas.Nat.{mul-add-lt}
 use Rattle.process_api.specs.Bounds.{most_processes}
-use Rattle.process_api.specs.EntryRecord.{EntryRecord}
-use Rattle.process_api.specs.Mind.{Mind}
 use Rattle.process_api.specs.declared.numbers.DetectorNumbers.TheVariants as kinds
-use Rattle.process_api.specs.declared.numbers.TimeoutNumbers.{TimeoutNumbers}
 use Rattle.scenario_record.specs.Numbers.{AreTimeoutInRange}
-use Rattle.scenario_record.specs.Ranges.{IsInRange, IsLink}
-use Rattle.scenario_record.specs.Record.{Record, no_link, link, place_in}
 use Rattle.scenario_record.specs.declared.algorithm.AlgorithmKind.TheVariants as algorithms
-use Rattle.scenario_record.specs.declared.link.Link.{Link}
-use Rattle.streams.specs.Fate.{fate_of, fate_by, word}
-use Rattle.streams.specs.declared.fate.Fate.TheVariants.{Lost, Delay}
-use Rattle.trace_laws.specs.Plain.{plain_starts, plain_steps, plain_left}
-use Rattle.trace_laws.specs.ScenarioSetting.{setting_of}
-use Rattle.trace_laws.specs.Setting.{Setting, IsSound}
-use Rattle.trace_laws.specs.World.{opening_process, entries, IsTrace}
 use Rattle.trace_laws.proofs.Alike.{with_minds, same_plain}
 use Rattle.trace_laws.proofs.Sets.{not_None, same_Some}
 use Rattle.trace_laws.proofs.Simulate.{plain_trace}
@@ -32,7 +17,6 @@ use Rattle.process_api.specs.declared.action.Note.TheVariants.{Suspect, Trust}
 use Rattle.process_api.specs.declared.entry.Kind.{Kind}
 use Rattle.process_api.specs.declared.entry.Kind.TheVariants as kind
 use Rattle.process_api.specs.declared.numbers.Watch.TheVariants.{All}
-use Rattle.trace_laws.specs.History.{IsIn}
 
 abbrev steady_link : ℕ → Link
 steady_link delay = record { min = delay; max = delay; loss = 0 }

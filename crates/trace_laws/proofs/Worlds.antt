@@ -1,13 +1,6 @@
 -- What a taken event does to a world.
-use Rattle.std.proofs.Common.{◌≡◌, ◌≢◌, ◌⊎◌, ℕ, ◌≤◌, inl, inr, sym, subst, arith, IsTrue, ◌==◌}
-use Rattle.std.proofs.lemmas.Bool.{cond_both, eqb-false, eqb-true}
+use Rattle.trace_laws.proofs.Words.{◌≡◌, ◌≢◌, ◌⊎◌, ℕ, ◌≤◌, inl, inr, sym, subst, arith, IsTrue, ◌==◌, cond_both, eqb-false, eqb-true, Key, StepInput, Setting, IsSound, IsProcess, Event, Process, World, Has, IsWorld, made, taken, IsIn}
 use Rattle.std.specs.FinMap as map
-use Rattle.process_api.specs.declared.key.Key.{Key}
-use Rattle.process_api.specs.declared.message.StepInput.{StepInput}
-use Rattle.trace_laws.specs.Setting.{Setting, IsSound, IsProcess}
-use Rattle.trace_laws.specs.Step.{Event, Process}
-use Rattle.trace_laws.specs.World.{World, Has, IsWorld, made, taken}
-use Rattle.trace_laws.specs.History.{IsIn}
 use Rattle.trace_laws.proofs.Sets.{AreApart, AreNew, removed, removed_back, joined_cases, joined_old, joined_new}
 use Rattle.trace_laws.proofs.Steps.{IsSent, change_at, change_other, step_sent, step_apart, step_counts, step_mind}
 

@@ -1,18 +1,7 @@
 -- A run of a berth, event by event.
-use Rattle.std.proofs.Common.{◌≡◌, ℕ, ◌<◌, arith, length, refl, sym, ap, ◌∙◌, subst, List, [], ◌∷◌, ◌++◌, append_assoc, append-nil, nat_eq, ⊎_elim}
-use Rattle.std.proofs.lemmas.Bool.{eqb-true}
-use Rattle.std.proofs.lemmas.List.{length-map, map-append}
+use Rattle.window_laws.proofs.Words.{◌≡◌, ℕ, ◌<◌, arith, length, refl, sym, ap, ◌∙◌, subst, List, [], ◌∷◌, ◌++◌, append_assoc, append-nil, nat_eq, ⊎_elim, eqb-true, length-map, map-append, EntryRecord, Key, StepInput, Setting, Event, Events, Process, step, step_key, joined_cases, removed, least_is_one, one_input, for_self, for_others, BerthRun}
 use Rattle.std.specs.FinMap as events
-use Rattle.process_api.specs.EntryRecord.{EntryRecord}
-use Rattle.process_api.specs.declared.key.Key.{Key}
-use Rattle.process_api.specs.declared.message.StepInput.{StepInput}
-use Rattle.trace_laws.specs.Setting.{Setting}
-use Rattle.trace_laws.specs.Step.{Event, Events, Process, step}
 use Rattle.trace_laws.specs.World.{Pair, Has, IsLeast, NoneBelow, joined, entries}
-use Rattle.trace_laws.proofs.Steps.{step_key}
-use Rattle.trace_laws.proofs.Sets.{joined_cases, removed, least_is_one, one_input}
-use Rattle.window_laws.specs.Machine.{for_self, for_others}
-use Rattle.window_laws.specs.Window.{BerthRun}
 use Rattle.window_laws.proofs.Unions.{in_filter}
 
 module _ {Mind : Type 0} (S : Setting Mind) (p end : ℕ) where

@@ -1,19 +1,7 @@
 -- A window can be run in the order of the list: each process has a worker of its own, and the turns come as the list's steps do.
-use Rattle.std.proofs.Common.{◌≡◌, ◌≢◌, ◌⊎◌, ℕ, zero, suc, ◌+◌, ◌<◌, ◌≤◌, inl, inr, refl, sym, ap, ◌∙◌, subst, List, [], ◌∷◌, ◌++◌, arith, Bool, true, false, cond, map, append_assoc, append-nil}
-use Rattle.std.proofs.lemmas.Bool.{cases_eq, cases_lt}
+use Rattle.window_laws.proofs.Words.{◌≡◌, ◌≢◌, ◌⊎◌, ℕ, zero, suc, ◌+◌, ◌<◌, ◌≤◌, inl, inr, refl, sym, ap, ◌∙◌, subst, List, [], ◌∷◌, ◌++◌, arith, Bool, true, false, cond, map, append_assoc, append-nil, cases_eq, cases_lt, Key, StepInput, change, Setting, IsSound, IsProcess, Event, Events, World, Has, IsLeast, NoneBelow, IsWorld, taken, Run, IsEmpty, AreApart, removed, removed_back, change_at, change_other, StageRecord, Status, Waiting, Held, Done, Act, Take, Turn, Post, Return, Close, HoldsNoWork, with_status, posted, turned, has_below, closed, Moves, IsRun, StandsFor, turns_of}
 use Rattle.std.specs.FinMap as finmap
-use Rattle.process_api.specs.declared.key.Key.{Key}
-use Rattle.process_api.specs.declared.message.StepInput.{StepInput}
-use Rattle.process_api.specs.Numbers.{change}
-use Rattle.trace_laws.specs.Setting.{Setting, IsSound, IsProcess}
-use Rattle.trace_laws.specs.Step.{Event, Events}
-use Rattle.trace_laws.specs.World.{World, Has, IsLeast, NoneBelow, IsWorld, taken, Run}
 use Rattle.trace_laws.specs.History.{IsIn, Pair, pairs_of}
-use Rattle.pending_events.specs.Pending.{IsEmpty}
-use Rattle.trace_laws.proofs.Sets.{AreApart, removed, removed_back}
-use Rattle.trace_laws.proofs.Steps.{change_at, change_other}
-use Rattle.window_laws.specs.Machine.{StageRecord, Status, Waiting, Held, Done, Act, Take, Turn, Post, Return, Close, HoldsNoWork, with_status, posted, turned, has_below, closed, Moves, IsRun, StandsFor}
-use Rattle.window_laws.specs.Theorems.{turns_of}
 use Rattle.window_laws.proofs.Unions.{entries_apart, has_entry, entry_has, not_held_at_first}
 use Rattle.window_laws.proofs.Family.{IsFamily, at_receiver, by_place, runs_apart}
 use Rattle.window_laws.proofs.Reached.{held_is, Reached, take_reached, turn_reached, post_reached, return_reached}

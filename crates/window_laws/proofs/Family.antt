@@ -1,16 +1,6 @@
 -- A world split into one world for each process. Inside a window each of these goes its own way, because a letter to another process is due at the end or later.
-use Rattle.std.proofs.Common.{◌≡◌, ◌≢◌, ◌⊎◌, ℕ, ◌+◌, ◌<◌, ◌≤◌, inl, inr, refl, sym, ap, ◌∙◌, subst, List, [], ◌∷◌, arith, Bool, true, false, cond, nat_eq}
-use Rattle.std.proofs.lemmas.Bool.{cases_eq, cases_lt, eqb-true, eqb-false}
-use Rattle.process_api.specs.declared.key.Key.{Key}
-use Rattle.process_api.specs.declared.message.StepInput.{StepInput}
-use Rattle.process_api.specs.Numbers.{change}
-use Rattle.trace_laws.specs.Setting.{Setting, IsSound, IsProcess}
-use Rattle.trace_laws.specs.Step.{Made, step}
-use Rattle.trace_laws.specs.World.{World, Has, IsLeast, IsWorld, made, taken, Run}
+use Rattle.window_laws.proofs.Words.{◌≡◌, ◌≢◌, ◌⊎◌, ℕ, ◌+◌, ◌<◌, ◌≤◌, inl, inr, refl, sym, ap, ◌∙◌, subst, List, [], ◌∷◌, arith, Bool, true, false, cond, nat_eq, cases_eq, cases_lt, eqb-true, eqb-false, Key, StepInput, change, Setting, IsSound, IsProcess, Made, step, World, Has, IsLeast, IsWorld, made, taken, Run, change_at, change_other, process_at, process_other, taken_cases, taken_old, taken_new, taken_world, made_sent, pairs_here, pairs_other}
 use Rattle.trace_laws.specs.History.{IsIn, Pair, pairs_of}
-use Rattle.trace_laws.proofs.Steps.{change_at, change_other}
-use Rattle.trace_laws.proofs.Worlds.{process_at, process_other, taken_cases, taken_old, taken_new, taken_world, made_sent}
-use Rattle.trace_laws.proofs.Pairs.{pairs_here, pairs_other}
 
 -- by whether q is the place p at which functions change
 pub by_place : (p q : ℕ) (P : Bool → Type 0) → (q ≡ p → P true) → (q ≢ p → P false) → P (nat_eq q p)

@@ -1,3 +1,4 @@
+pub mod Words
 pub mod Unions
 pub mod Family
 pub mod Reached

@@ -1,23 +1,7 @@
 -- Every run of a window comes to the world to which the list comes.
-use Rattle.std.proofs.Common.{◌≡◌, ◌⊎◌, ℕ, ◌+◌, ◌<◌, ◌≤◌, inl, inr, refl, sym, ap, ◌∙◌, subst, List, [], ◌∷◌, arith}
-use Rattle.std.proofs.lemmas.Bool.{cases_eq}
+use Rattle.window_laws.proofs.Words.{◌≡◌, ◌⊎◌, ℕ, ◌+◌, ◌<◌, ◌≤◌, inl, inr, refl, sym, ap, ◌∙◌, subst, List, [], ◌∷◌, arith, cases_eq, key_cmp, Key, StepInput, EntryRecord, Setting, IsSound, IsProcess, Event, World, Has, NoneBelow, IsWorld, Run, entries, IsEmpty, one_input, joined_cases, same_events, not_None, run_exists, one_run, so_far_over, cause, in_pairs, pairs_in, closed_of_run, IsMerge, StageRecord, Done, Act, Take, Turn, Post, Return, Close, end_of, gathered, closed, Moves, IsRun, StandsFor, IsListRun, AreAlike}
 use Rattle.std.specs.FinMap as finmap
-use Rattle.process_api.specs.Order.{key_cmp}
-use Rattle.process_api.specs.declared.key.Key.{Key}
-use Rattle.process_api.specs.declared.message.StepInput.{StepInput}
-use Rattle.process_api.specs.EntryRecord.{EntryRecord}
-use Rattle.trace_laws.specs.Setting.{Setting, IsSound, IsProcess}
-use Rattle.trace_laws.specs.Step.{Event}
-use Rattle.trace_laws.specs.World.{World, Has, NoneBelow, IsWorld, Run, entries}
 use Rattle.trace_laws.specs.History.{IsIn, Pair, pairs_of, IsAddedBySome, IsClosedBetween}
-use Rattle.pending_events.specs.Pending.{IsEmpty}
-use Rattle.trace_laws.proofs.Sets.{one_input, joined_cases, same_events, not_None}
-use Rattle.trace_laws.proofs.Runs.{run_exists, one_run, so_far_over}
-use Rattle.trace_laws.proofs.Pairs.{cause, in_pairs, pairs_in}
-use Rattle.trace_laws.proofs.Closed.{closed_of_run}
-use Rattle.window_laws.specs.Theorems.{IsMerge}
-use Rattle.window_laws.specs.Machine.{StageRecord, Done, Act, Take, Turn, Post, Return, Close, end_of, gathered, closed, Moves, IsRun, StandsFor}
-use Rattle.window_laws.specs.Theorems.{IsListRun, AreAlike}
 use Rattle.window_laws.proofs.Unions.{in_map, map_in, joined_back, has_entry, entry_has, done_at_first}
 use Rattle.window_laws.proofs.Family.{IsFamily, runs_apart}
 use Rattle.window_laws.proofs.Solo.{IsAlone}

@@ -1,16 +1,6 @@
 -- What the processes of a window come to together, each by its own run.
-use Rattle.std.proofs.Common.{◌≡◌, ◌≢◌, ◌⊎◌, ℕ, ◌+◌, ◌≤◌, inl, inr, refl, sym, ◌∙◌, subst, List, [], ◌∷◌}
-use Rattle.std.proofs.lemmas.Bool.{cases_eq}
-use Rattle.process_api.specs.declared.key.Key.{Key}
-use Rattle.process_api.specs.declared.message.StepInput.{StepInput}
-use Rattle.trace_laws.specs.Setting.{Setting, IsSound, IsProcess}
-use Rattle.trace_laws.specs.Step.{Event, Events, Process}
-use Rattle.trace_laws.specs.World.{World, Has, IsWorld, Run}
+use Rattle.window_laws.proofs.Words.{◌≡◌, ◌≢◌, ◌⊎◌, ℕ, ◌+◌, ◌≤◌, inl, inr, refl, sym, ◌∙◌, subst, List, [], ◌∷◌, cases_eq, Key, StepInput, Setting, IsSound, IsProcess, Event, Events, Process, World, Has, IsWorld, Run, IsEmpty, run_exists, one_run, StageRecord, StandsFor, BerthRun, IsPosted}
 use Rattle.trace_laws.specs.History.{IsIn, Pair, pairs_of}
-use Rattle.pending_events.specs.Pending.{IsEmpty}
-use Rattle.trace_laws.proofs.Runs.{run_exists, one_run}
-use Rattle.window_laws.specs.Machine.{StageRecord, StandsFor}
-use Rattle.window_laws.specs.Window.{BerthRun, IsPosted}
 use Rattle.window_laws.proofs.Family.{IsFamily, is_or_not, runs_apart}
 use Rattle.window_laws.proofs.Solo.{IsSolo, solo, berth_exists}
 use Rattle.window_laws.proofs.Order.{end, reach, alone, first_family, first_alone}

@@ -1,20 +1,7 @@
 -- What is true of every stage inside a window: it is a view of one world for each process, each on its own way through its own run.
-use Rattle.std.proofs.Common.{◌≡◌, ◌≢◌, ◌⊎◌, ℕ, ◌+◌, ◌<◌, ◌≤◌, inl, inr, sym, ap, ◌∙◌, subst, List, [], ◌∷◌, ◌++◌, cond}
-use Rattle.std.proofs.lemmas.List.{map-append}
+use Rattle.window_laws.proofs.Words.{◌≡◌, ◌≢◌, ◌⊎◌, ℕ, ◌+◌, ◌<◌, ◌≤◌, inl, inr, sym, ap, ◌∙◌, subst, List, [], ◌∷◌, ◌++◌, cond, map-append, Key, StepInput, change, same_or_not, Setting, IsSound, IsProcess, Event, Events, Made, step, World, Has, IsLeast, NoneBelow, made, taken, joined, entries, IsEmpty, one_input, removed, removed_back, inserted, insert_at, insert_other, joined_cases, change_at, change_other, RunSoFar, so_far_more, StageRecord, Status, Waiting, Held, Done, with_status, posted, turned, for_self, for_others}
 use Rattle.std.specs.FinMap as finmap
-use Rattle.process_api.specs.declared.key.Key.{Key}
-use Rattle.process_api.specs.declared.message.StepInput.{StepInput}
-use Rattle.process_api.specs.Numbers.{change}
-use Rattle.process_api.proofs.KeyOrder.{same_or_not}
-use Rattle.trace_laws.specs.Setting.{Setting, IsSound, IsProcess}
-use Rattle.trace_laws.specs.Step.{Event, Events, Made, step}
-use Rattle.trace_laws.specs.World.{World, Has, IsLeast, NoneBelow, made, taken, joined, entries}
 use Rattle.trace_laws.specs.History.{IsIn, Pair}
-use Rattle.pending_events.specs.Pending.{IsEmpty}
-use Rattle.trace_laws.proofs.Sets.{one_input, removed, removed_back, inserted, insert_at, insert_other, joined_cases}
-use Rattle.trace_laws.proofs.Steps.{change_at, change_other}
-use Rattle.trace_laws.proofs.Runs.{RunSoFar, so_far_more}
-use Rattle.window_laws.specs.Machine.{StageRecord, Status, Waiting, Held, Done, with_status, posted, turned, for_self, for_others}
 use Rattle.window_laws.proofs.Unions.{joined_back}
 use Rattle.window_laws.proofs.Family.{by_place, change_all, change_both, IsFamily, stepped, stepped_family, at_own, kept}
 use Rattle.window_laws.proofs.Solo.{IsAlone, least_alone, same_step, new_there, other_in, next_alone, next_letters}

@@ -1,21 +1,7 @@
 -- The run of one berth is the run of its process alone.
-use Rattle.std.proofs.Common.{◌++◌, ◌≡◌, ◌≢◌, ◌⊎◌, ◌↔◌, ℕ, ◌+◌, ◌<◌, ◌≤◌, inl, inr, refl, sym, ap, ◌∙◌, subst, List, [], ◌∷◌, arith, Less, not, nat_eq}
-use Rattle.std.proofs.lemmas.Bool.{eq-eqb, eqb-true, eqb-false, ne_eqb, not-true}
+use Rattle.window_laws.proofs.Words.{◌++◌, ◌≡◌, ◌≢◌, ◌⊎◌, ◌↔◌, ℕ, ◌+◌, ◌<◌, ◌≤◌, inl, inr, refl, sym, ap, ◌∙◌, subst, List, [], ◌∷◌, arith, Less, not, nat_eq, eq-eqb, eqb-true, eqb-false, ne_eqb, not-true, key_cmp, Key, StepInput, ticks_rise, Setting, IsSound, IsProcess, Event, Events, Process, Made, step, World, Has, IsLeast, made, taken, Run, joined, run_exists, one_input, removed, removed_back, joined_cases, in_append, in_left, in_right, process_at, taken_cases, taken_old, taken_new, for_self, for_others, BerthRun}
 use Rattle.std.specs.FinMap as finmap
-use Rattle.process_api.specs.Order.{key_cmp}
-use Rattle.process_api.specs.declared.key.Key.{Key}
-use Rattle.process_api.specs.declared.message.StepInput.{StepInput}
-use Rattle.process_api.proofs.KeyOrder.{ticks_rise}
-use Rattle.trace_laws.specs.Setting.{Setting, IsSound, IsProcess}
-use Rattle.trace_laws.specs.Step.{Event, Events, Process, Made, step}
-use Rattle.trace_laws.specs.World.{World, Has, IsLeast, made, taken, Run, joined}
 use Rattle.trace_laws.specs.History.{IsIn, Pair}
-use Rattle.trace_laws.proofs.Runs.{run_exists}
-use Rattle.trace_laws.proofs.Sets.{one_input, removed, removed_back, joined_cases}
-use Rattle.trace_laws.proofs.Steps.{in_append, in_left, in_right}
-use Rattle.trace_laws.proofs.Worlds.{process_at, taken_cases, taken_old, taken_new}
-use Rattle.window_laws.specs.Machine.{for_self, for_others}
-use Rattle.window_laws.specs.Window.{BerthRun}
 use Rattle.window_laws.proofs.Unions.{in_filter, filter_in, iff_join, joined_back}
 use Rattle.window_laws.proofs.Family.{IsOwn, own_taken}
 

@@ -1,16 +1,6 @@
 -- What berths make of a window, some run of the window machine makes.
-use Rattle.std.proofs.Common.{◌≡◌, ◌⊎◌, ℕ, ◌≤◌, inl, inr, sym, ap, ◌∙◌, subst, List}
-use Rattle.process_api.specs.declared.key.Key.{Key}
-use Rattle.process_api.specs.declared.message.StepInput.{StepInput}
-use Rattle.trace_laws.specs.Setting.{Setting, IsSound, IsProcess}
-use Rattle.trace_laws.specs.Step.{Event, Events}
-use Rattle.trace_laws.specs.World.{World, Has, IsWorld, entries}
+use Rattle.window_laws.proofs.Words.{◌≡◌, ◌⊎◌, ℕ, ◌≤◌, inl, inr, sym, ap, ◌∙◌, subst, List, Key, StepInput, Setting, IsSound, IsProcess, Event, Events, World, Has, IsWorld, entries, same_events, one_run, StageRecord, Act, end_of, first_status, IsRun, StandsFor, IsMerge, IsPosted, AreBerths, IsSameStage}
 use Rattle.trace_laws.specs.History.{Pair, pairs_of}
-use Rattle.trace_laws.proofs.Sets.{same_events}
-use Rattle.trace_laws.proofs.Runs.{one_run}
-use Rattle.window_laws.specs.Machine.{StageRecord, Act, end_of, first_status, IsRun, StandsFor}
-use Rattle.window_laws.specs.Theorems.{IsMerge}
-use Rattle.window_laws.specs.Window.{IsPosted, AreBerths, IsSameStage}
 use Rattle.window_laws.proofs.Family.{is_or_not}
 use Rattle.window_laws.proofs.Order.{any_order}
 use Rattle.window_laws.proofs.Exists.{any_run}

@@ -1,20 +1,8 @@
 -- Windows one after the other make the trace.
-use Rattle.std.proofs.Common.{◌≡◌, ℕ, ◌≤◌, inl, inr, refl, sym, ◌∙◌, subst, List, [], ◌∷◌, ◌++◌, append_assoc, arith, true, true≢false, Ordering, Less, Equal, Greater}
+use Rattle.window_laws.proofs.Words.{◌≡◌, ℕ, ◌≤◌, inl, inr, refl, sym, ◌∙◌, subst, List, [], ◌∷◌, ◌++◌, append_assoc, arith, true, true≢false, Ordering, Less, Equal, Greater, map-append, list_all, key_cmp, is_less, is_before, is_rising, Key, EntryRecord, not_before_itself, not_both, Setting, IsSound, World, IsWorld, Run, entries, opening, IsTrace, taken, opening_world, RunSoFar, so_far_then, run_exists, IsMerge, Windows, end_to_end, StageRecord, StandsFor, end_of}
 use Rattle.std.specs.Prelude.{IsTrue}
-use Rattle.std.proofs.lemmas.List.{map-append}
-use Rattle.std.specs.List.{list_all}
-use Rattle.process_api.specs.Order.{key_cmp, is_less, is_before, is_rising}
-use Rattle.process_api.specs.declared.key.Key.{Key}
-use Rattle.process_api.specs.EntryRecord.{EntryRecord}
 use Rattle.process_api.proofs.Minds.{both_true}
-use Rattle.process_api.proofs.KeyOrder.{not_before_itself, not_both}
-use Rattle.trace_laws.specs.Setting.{Setting, IsSound}
-use Rattle.trace_laws.specs.World.{World, IsWorld, Run, entries, opening, IsTrace, taken}
 use Rattle.trace_laws.specs.History.{IsIn, Pair}
-use Rattle.trace_laws.proofs.Closed.{opening_world}
-use Rattle.trace_laws.proofs.Runs.{RunSoFar, so_far_then, run_exists}
-use Rattle.window_laws.specs.Theorems.{IsMerge, Windows, end_to_end}
-use Rattle.window_laws.specs.Machine.{StageRecord, StandsFor, end_of}
 use Rattle.window_laws.proofs.Order.{any_order}
 
 -- ---- two rising lists with the same entries are one

@@ -1,6 +1,5 @@
 -- Lists that have process 1 first.
-use Rattle.windows.proofs.Words.{◌≡◌, ◌≢◌, ℕ, zero, suc, ◌+◌, ◌-◌, ◌<◌, ◌≤◌, inl, inr, refl, sym, ap, ◌∙◌, subst, List, [], ◌∷◌, Some, length, map, slice_get, get_or, option_map, arith, cond, nat_eq, not, filter, All, AllByRecursion, eq-eqb, ne_eqb, cases_eq, cases_lt, get_or_past, length-map, length-append, length-filter_both, slice_get-map, slice_get-get_or, slice_get_cases, slice_get_within, get_or_from_slice_get, EntryRecord, Letter, IsIn, Pair, pairs_of, list_of, joined, entries, not_None, same_Some, in_append, in_left, in_right, all_of, AreDisjoint, event_of, of_process, delivered, ◌++◌, append-nil, nil_from_length, key_cmp, Key, StepInput, Has, Berth}
-use Rattle.trace_laws.proofs.Pairs.{pairs_other}
+use Rattle.windows.proofs.Words.{◌≡◌, ◌≢◌, ℕ, zero, suc, ◌+◌, ◌-◌, ◌<◌, ◌≤◌, inl, inr, refl, sym, ap, ◌∙◌, subst, List, [], ◌∷◌, Some, length, map, slice_get, get_or, option_map, arith, cond, nat_eq, not, filter, All, AllByRecursion, eq-eqb, ne_eqb, cases_eq, cases_lt, get_or_past, length-map, length-append, length-filter_both, slice_get-map, slice_get-get_or, slice_get_cases, slice_get_within, get_or_from_slice_get, EntryRecord, Letter, IsIn, Pair, pairs_of, list_of, joined, entries, not_None, same_Some, in_append, in_left, in_right, all_of, AreDisjoint, event_of, of_process, delivered, ◌++◌, append-nil, nil_from_length, key_cmp, Key, StepInput, Has, Berth, pairs_other}
 use Rattle.windows.proofs.Ranked.{contains_in, in_contains}
 use Rattle.std.specs.FinMap as finmap
 

@@ -7,10 +7,11 @@ pub use Rattle.std.proofs.lemmas.List.Elements.{All-append, All-cons, All-contai
 pub use Rattle.std.proofs.lemmas.List.Filters.{length-filter_both}
 pub use Rattle.std.proofs.lemmas.List.Sorted.{All-permutation, Contains-permutation, IsNonDecreasingBy-from_sort_by_key, IsPermutation-append, IsPermutation-append_left, IsPermutation-map, IsPermutation-middle, IsPermutation-push_more, IsPermutation-refl, IsPermutation-sym, IsPermutation-trans, length_permutation}
 pub use Rattle.std.proofs.lemmas.Option.{get_or_from_slice_get, slice_get-get_or, slice_get-map, slice_get_cases, slice_get_within}
-pub use Rattle.std.proofs.lemmas.Result.{IfErr-at_err, IfErr-weaker, IfOk-at_ok, IfOk-from_err, IfOk-weaker, on_ok_weaker}
+pub use Rattle.std.proofs.lemmas.Result.{IfErr-at_err, IfErr-weaker, IfOk-at_ok, IfOk-from_err, IfOk-weaker, on_err_weaker, on_ok_weaker}
 pub use Rattle.std.specs.Global.{Vec}
-pub use Rattle.std.specs.List.{All, AllByRecursion, flat_map, swap}
+pub use Rattle.std.specs.List.{All, AllByRecursion, AllPairs, flat_map, swap}
 pub use Rattle.std.specs.List.Sorted.{IsNonDecreasingBy, IsPermutation, SwapsInRange, apply_swaps}
+pub use Rattle.std.specs.Option.{is_some, option_or}
 pub use Rattle.std.specs.Vec.Iter.{into_iter_items}
 pub use Rattle.deques.proofs.Deals.{flat_push, map_push, map_turn}
 pub use Rattle.deques.specs.Deques.{DequeId, HandView, IsDealt, RestView, TookOne, all_put, deques_of}
@@ -35,6 +36,7 @@ pub use Rattle.steps.proofs.Openings.{length-numbers_to, machines_open, number_a
 pub use Rattle.steps.specs.Seat.{IsMindIn, IsSeated, own_of, process_of}
 pub use Rattle.trace_laws.proofs.Closed.{closed_of_run, one_trace, opening_world, starts_are, trace_rises}
 pub use Rattle.trace_laws.proofs.Joining.{joined_one}
+pub use Rattle.trace_laws.proofs.Pairs.{in_pairs, pairs_other}
 pub use Rattle.trace_laws.proofs.Reaching.{opening_reached, reached_end, reached_front, reached_next}
 pub use Rattle.trace_laws.proofs.Runs.{least_below}
 pub use Rattle.trace_laws.proofs.Sets.{insert_at, insert_other, inserted, joined_cases, not_None, one_input, remove_at, remove_other, removed, same_Some, same_events}
@@ -46,6 +48,7 @@ pub use Rattle.trace_laws.specs.Setting.{IsProcess, IsSound, Setting}
 pub use Rattle.trace_laws.specs.Step.{Event, Events, Process, step}
 pub use Rattle.trace_laws.specs.Taken.{event_of}
 pub use Rattle.trace_laws.specs.World.{Has, IsLeast, IsTrace, IsWorld, NoneBelow, Run, World, entries, joined, opened, opening, opening_process, start_of, starts, taken}
+pub use Rattle.trace_merge.proofs.Exists.{has_merge, nothing_merges}
 pub use Rattle.trace_merge.specs.Parts.{AreDisjoint, IsMergeOf, all_of}
 pub use Rattle.window_laws.proofs.Berths.{BerthStands, berth_ends, berth_longer, berth_next, berth_opens}
 pub use Rattle.window_laws.proofs.Family.{is_or_not}
@@ -57,12 +60,13 @@ pub use Rattle.window_laws.specs.Theorems.{IsMerge, end_to_end}
 pub use Rattle.window_laws.specs.Window.{AreBerths, BerthRun, IsPosted, IsSameStage}
 pub use Rattle.windows.specs.Berth.{IsBerth, all_filed, most_in_part, with_letters}
 pub use Rattle.windows.specs.Inside.Agenda.{AreFrom, AreLists, AreOne, IsParted, all_ahead, all_in, first_tick, in_box}
-pub use Rattle.windows.specs.Inside.Closing.{IsClosed, IsNextWindow, delivered, kept_in}
+pub use Rattle.windows.specs.Inside.Closing.{HasNextWindow, IsClosed, IsNextWindow, delivered, kept_in}
 pub use Rattle.windows.specs.Inside.Last.{AreParts, IsMerged, TookAllBut, TookFrontOf}
 pub use Rattle.windows.specs.Inside.Outbox.{made_in}
 pub use Rattle.windows.specs.Inside.Shared.{AreAnswers, ArePosting, AreReady, IsAnswerTo, IsOneTooLong, IsStart, IsWorkBy, IsWorkIn}
 pub use Rattle.windows.specs.Inside.Workers.{AreRun, AreRunBy, BringsTogether, HasLong, IsFresh, IsOutcome, IsReady, IsRest, IsSent, IsStay, IsWork, RiseBy, Stay, given_to, is_to, left_in, sent_in, stay, taken_in}
-pub use Rattle.windows.specs.Refusals.{AreThere, IsFirstRefusal, IsRefusal, IsRefusalOfOne}
+pub use Rattle.windows.specs.Plan.{IsPlanFor, PlanRecord}
+pub use Rattle.windows.specs.Refusals.{AreThere, IsFirstRefusal, IsOverLimit, IsRefusal, IsRefusalOfOne}
 pub use Rattle.windows.specs.Sink.{IsRefusalOfSink, TookAll, TookClosed, TookFront, TookTrace, writes_of}
 pub use Rattle.windows.specs.Stage.{AreHome, IsCountOfWorkers, IsNextStart, IsOpened, IsStage, IsStageAfter, IsWindowRun, of_process, stage_of, start_event}
 pub use Rattle.windows.specs.declared.berth.Berth.{Berth}

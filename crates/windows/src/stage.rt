@@ -17,7 +17,7 @@ ghost use Rattle.windows.specs.Stage.{stage_of, IsOpened, IsNextStart, IsStageAf
 use crate::agenda::Agenda;
 use crate::berth::Berth;
 use mailboxes::{Inbox, Mailboxes, Slip};
-use process_api::{Entry, Pid, Process, RunError};
+use process_api::{Entry, Process, RunError};
 use scenario_record::Scenario;
 use std::alloc::{AllocError, Global};
 use std::mem::replace;

@@ -1,31 +1,10 @@
 -- Whom q suspects at the end of a tick, with freshness points.
-use Rattle.std.proofs.Common.{◌≡◌, ◌≢◌, ℕ, zero, suc, ◌+◌, ◌*◌, ◌<◌, ◌≤◌, inl, inr, sym, ap, ◌∙◌, subst, Bool, true, false, not, ◌&&◌, nat_le, List, arith, Some}
+use Rattle.detector_bounds.proofs.Words.{◌≡◌, ◌≢◌, ℕ, zero, suc, ◌+◌, ◌*◌, ◌<◌, ◌≤◌, inl, inr, sym, ap, ◌∙◌, subst, Bool, true, false, not, ◌&&◌, nat_le, List, arith, Some, cases_lt, cases_Bool, lt-leb, and_right, EntryRecord, suspected_by, Mind, FreshnessNumbers, contains-suspected, and_true, IsInRange, Record, crash, link, place_in, setting_of, has_crashed, World, IsTrace, NoneBelow, start_of, entries, setting_sound, out, is_watched, AreInRange, Link, detected_at, HasNoMistake, KeepsBounds, trusts, detected_by, longest, last_before, watch_of, IsTimely, Watches, IsReliable}
 use Rattle.std.specs.FinSet as set
-use Rattle.std.proofs.lemmas.Bool.{cases_lt, cases_Bool, lt-leb, and_right}
-use Rattle.process_api.specs.EntryRecord.{EntryRecord}
 use Rattle.process_api.specs.Freshness.{FreshnessState, opening_freshness, watches, is_stale}
-use Rattle.process_api.specs.Detector.{suspected_by}
-use Rattle.process_api.specs.Mind.{Mind}
 use Rattle.process_api.specs.declared.message.StepInput.TheVariants as input
 use Rattle.process_api.specs.declared.numbers.DetectorNumbers.TheVariants as numbers
-use Rattle.process_api.specs.declared.numbers.FreshnessNumbers.{FreshnessNumbers}
-use Rattle.process_api.proofs.FreshnessLaws.{contains-suspected}
-use Rattle.process_api.proofs.Minds.{and_true}
-use Rattle.scenario_record.specs.Ranges.{IsInRange}
-use Rattle.scenario_record.specs.Record.{Record, crash, link, place_in}
-use Rattle.trace_laws.specs.ScenarioSetting.{setting_of}
-use Rattle.trace_laws.specs.Setting.{has_crashed}
-use Rattle.trace_laws.specs.World.{World, IsTrace, NoneBelow, start_of, entries}
-use Rattle.trace_laws.proofs.Sound.{setting_sound}
 use Rattle.judges.specs.Meaning.{IsProcess, Suspects}
-use Rattle.judges.specs.Out.{out}
-use Rattle.process_api.specs.Watching.{is_watched}
-use Rattle.scenario_record.specs.Numbers.{AreInRange}
-use Rattle.scenario_record.specs.declared.link.Link.{Link}
-use Rattle.detector_bounds.specs.Bounds.{detected_at, HasNoMistake, KeepsBounds}
-use Rattle.detector_bounds.specs.Detected.{trusts, detected_by, longest}
-use Rattle.detector_bounds.specs.Multiples.{last_before}
-use Rattle.detector_bounds.specs.Watched.{watch_of, IsTimely, Watches, IsReliable}
 use Rattle.detector_bounds.proofs.Fates.{delivers}
 use Rattle.detector_bounds.proofs.Verdicts.{pairs_keep}
 use Rattle.detector_bounds.proofs.Added.{Delivers}

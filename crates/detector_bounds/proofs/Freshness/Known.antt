@@ -1,31 +1,12 @@
 -- Through a run with freshness points: p sends heartbeat i at tick i * eta while it is up, q reaches point i delta ticks later, and
 -- no heartbeat that p didn't send is on its way or came to q.
-use Rattle.std.proofs.Common.{◌≡◌, ◌≢◌, ◌⊎◌, ℕ, ◌+◌, ◌*◌, ◌<◌, ◌≤◌, inl, inr, refl, sym, ap, ◌∙◌, subst, true, false, not, nat_le, Some, List, [], ◌∷◌, ◌++◌, arith}
-use Rattle.std.proofs.lemmas.Bool.{cases_lt, cases_Bool, le-leb, leb-false}
-use Rattle.process_api.specs.Answer.{Answer}
-use Rattle.process_api.specs.EntryRecord.{EntryRecord}
+use Rattle.detector_bounds.proofs.Words.{◌≡◌, ◌≢◌, ◌⊎◌, ℕ, ◌+◌, ◌*◌, ◌<◌, ◌≤◌, inl, inr, refl, sym, ap, ◌∙◌, subst, true, false, not, nat_le, Some, List, [], ◌∷◌, ◌++◌, arith, cases_lt, cases_Bool, le-leb, leb-false, Answer, EntryRecord, Key, StepInput, FreshnessNumbers, IsInRange, Record, crash, place_in, IsIn, setting_of, Setting, IsSound, has_crashed, Mind, World, Has, IsLeast, NoneBelow, IsWorld, made, taken, opening, start_of, one_input, setting_sound, taken_cases, taken_old, taken_new, same_or_not, and_true, last_before}
 use Rattle.process_api.specs.Freshness.{FreshnessState, opening_freshness, next, watches, is_stale}
 use Rattle.process_api.specs.declared.action.Action.TheVariants as action
-use Rattle.process_api.specs.declared.key.Key.{Key}
 use Rattle.process_api.specs.declared.message.Payload.TheVariants as payload
-use Rattle.process_api.specs.declared.message.StepInput.{StepInput}
 use Rattle.process_api.specs.declared.message.StepInput.TheVariants as input
 use Rattle.process_api.specs.declared.message.Tag.TheVariants as tag
 use Rattle.process_api.specs.declared.numbers.DetectorNumbers.TheVariants as numbers
-use Rattle.process_api.specs.declared.numbers.FreshnessNumbers.{FreshnessNumbers}
-use Rattle.scenario_record.specs.Ranges.{IsInRange}
-use Rattle.scenario_record.specs.Record.{Record, crash, place_in}
-use Rattle.trace_laws.specs.History.{IsIn}
-use Rattle.trace_laws.specs.ScenarioSetting.{setting_of}
-use Rattle.trace_laws.specs.Setting.{Setting, IsSound, has_crashed}
-use Rattle.process_api.specs.Mind.{Mind}
-use Rattle.trace_laws.specs.World.{World, Has, IsLeast, NoneBelow, IsWorld, made, taken, opening, start_of}
-use Rattle.trace_laws.proofs.Sets.{one_input}
-use Rattle.trace_laws.proofs.Sound.{setting_sound}
-use Rattle.trace_laws.proofs.Worlds.{taken_cases, taken_old, taken_new}
-use Rattle.process_api.proofs.KeyOrder.{same_or_not}
-use Rattle.process_api.proofs.Minds.{and_true}
-use Rattle.detector_bounds.specs.Multiples.{last_before}
 use Rattle.detector_bounds.proofs.Added.{Delivers}
 use Rattle.detector_bounds.proofs.Clock.{Clock, due_after, clock_first, clock_still, clock_takes}
 use Rattle.detector_bounds.proofs.Ending.{IsKept}

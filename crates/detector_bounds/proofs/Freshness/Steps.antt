@@ -1,23 +1,11 @@
 -- What one input makes of a detector with freshness points, part by part.
-use Rattle.std.proofs.Common.{◌≡◌, ◌⊎◌, ℕ, ◌+◌, ◌≤◌, inl, inr, refl, sym, ap, ◌∙◌, Bool, true, false, cond, ◌||◌, nat_le, List, [], ◌∷◌, ◌++◌, map, arith}
-use Rattle.std.proofs.lemmas.Bool.{cond_both, cases_eq, eq-eqb, ne_eqb, or_cases, leb-true, le-leb, or_left, or_right}
-use Rattle.process_api.specs.Answer.{Answer, still}
+use Rattle.detector_bounds.proofs.Words.{◌≡◌, ◌⊎◌, ℕ, ◌+◌, ◌≤◌, inl, inr, refl, sym, ap, ◌∙◌, Bool, true, false, cond, ◌||◌, nat_le, List, [], ◌∷◌, ◌++◌, map, arith, cond_both, cases_eq, eq-eqb, ne_eqb, or_cases, leb-true, le-leb, or_left, or_right, Answer, still, others, Place, changes, Payload, StepInput, Tag, FreshnessNumbers, IsIn, in_append, in_left, of_image, in_image}
 use Rattle.process_api.specs.Freshness.{FreshnessState, next, watches, suspected, noted, heartbeat_to_others, next_beat, next_check, checked, heard, step_freshness}
-use Rattle.process_api.specs.Numbers.{others}
-use Rattle.process_api.specs.Place.{Place}
-use Rattle.process_api.specs.Sets.{changes}
 use Rattle.process_api.specs.declared.action.Action.TheVariants as action
 use Rattle.process_api.specs.declared.action.Note.{Note}
-use Rattle.process_api.specs.declared.message.Payload.{Payload}
 use Rattle.process_api.specs.declared.message.Payload.TheVariants as payload
-use Rattle.process_api.specs.declared.message.StepInput.{StepInput}
 use Rattle.process_api.specs.declared.message.StepInput.TheVariants as input
-use Rattle.process_api.specs.declared.message.Tag.{Tag}
 use Rattle.process_api.specs.declared.message.Tag.TheVariants as tag
-use Rattle.process_api.specs.declared.numbers.FreshnessNumbers.{FreshnessNumbers}
-use Rattle.trace_laws.specs.History.{IsIn}
-use Rattle.trace_laws.proofs.Steps.{in_append, in_left}
-use Rattle.judges.proofs.Members.{of_image, in_image}
 use Rattle.detector_bounds.proofs.Added.{wakes_of, wakes_of-append}
 use Rattle.detector_bounds.proofs.Clock.{asked}
 

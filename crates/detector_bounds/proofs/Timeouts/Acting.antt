@@ -1,23 +1,12 @@
 -- What a step of the time-out detector does, by its input.
-use Rattle.std.proofs.Common.{◌≡◌, ◌≢◌, ℕ, ◌≤◌, inl, inr, refl, List, ◌++◌, map}
-use Rattle.std.specs.List.{AllByRecursion}
-use Rattle.std.proofs.lemmas.Bool.{cond_both}
-use Rattle.process_api.specs.Answer.{Answer, still}
-use Rattle.process_api.specs.Numbers.{others}
-use Rattle.process_api.specs.Place.{Place}
+use Rattle.detector_bounds.proofs.Words.{◌≡◌, ◌≢◌, ℕ, ◌≤◌, inl, inr, refl, List, ◌++◌, map, AllByRecursion, cond_both, Answer, still, others, Place, Action, StepInput, TimeoutNumbers, both, images, always, weaker, IsIn, in_left, in_right, in_images}
 use Rattle.process_api.specs.Timeout.{TimeoutState, alive_to_others, watches, overdue, noticed, trusted_again, heard, step_timeout}
-use Rattle.process_api.specs.declared.action.Action.{Action}
 use Rattle.process_api.specs.declared.action.Action.TheVariants as action
 use Rattle.process_api.specs.declared.action.Note.TheVariants as note
 use Rattle.process_api.specs.declared.message.Payload.TheVariants as payload
-use Rattle.process_api.specs.declared.message.StepInput.{StepInput}
 use Rattle.process_api.specs.declared.message.StepInput.TheVariants as input
 use Rattle.process_api.specs.declared.message.Tag.TheVariants as tag
-use Rattle.process_api.specs.declared.numbers.TimeoutNumbers.{TimeoutNumbers}
-use Rattle.process_api.proofs.Lists.{both, images, always, weaker}
 use Rattle.process_api.proofs.Sending.{sent_to_others}
-use Rattle.trace_laws.specs.History.{IsIn}
-use Rattle.trace_laws.proofs.Steps.{in_left, in_right, in_images}
 use Rattle.detector_bounds.proofs.Above.{IsAbove}
 use Rattle.detector_bounds.proofs.Others.{in_others}
 

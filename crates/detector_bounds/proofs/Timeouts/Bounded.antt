@@ -1,29 +1,9 @@
 -- Every trace of a scenario with time-outs keeps their bounds.
 use Rattle.std.proofs.Common.{◌≡◌, ◌≢◌, ℕ, zero, suc, ◌+◌, ◌-◌, ◌*◌, ◌<◌, ◌≤◌, refl, sym, ap, ◌∙◌, subst, true, false, Option, Some, List, arith, leb-false, ◌/◌}
 use Rattle.std.specs.FinSet as set
-use Rattle.process_api.specs.Detector.{suspected_by}
-use Rattle.process_api.specs.EntryRecord.{EntryRecord}
-use Rattle.process_api.specs.Mind.{Mind}
-use Rattle.process_api.specs.Numbers.{is_process}
+use Rattle.detector_bounds.proofs.Words.{suspected_by, EntryRecord, Mind, is_process, is_watched, Timeout, TimeoutNumbers, AreInRange, AreTimeoutInRange, IsInRange, Record, crash, link, fate_of, Delay, setting_of, IsSound, has_crashed, World, NoneBelow, IsTrace, entries, setting_sound, crash_tick, out, detected_at, HasNoMistake, CrashesAt, KeepsBounds, trusts, last_letter, grown, detected_by, longest, Watches, IsReliable, IsTimely, watch_of}
 use Rattle.process_api.specs.Timeout.{watches, opening_timeout}
-use Rattle.process_api.specs.Watching.{is_watched}
-use Rattle.process_api.specs.declared.numbers.DetectorNumbers.TheVariants.{Timeout}
-use Rattle.process_api.specs.declared.numbers.TimeoutNumbers.{TimeoutNumbers}
-use Rattle.scenario_record.specs.Numbers.{AreInRange, AreTimeoutInRange}
-use Rattle.scenario_record.specs.Ranges.{IsInRange}
-use Rattle.scenario_record.specs.Record.{Record, crash, link}
-use Rattle.streams.specs.Fate.{fate_of}
-use Rattle.streams.specs.declared.fate.Fate.TheVariants.{Delay}
-use Rattle.trace_laws.specs.ScenarioSetting.{setting_of}
-use Rattle.trace_laws.specs.Setting.{IsSound, has_crashed}
-use Rattle.trace_laws.specs.World.{World, NoneBelow, IsTrace, entries}
-use Rattle.trace_laws.proofs.Sound.{setting_sound}
-use Rattle.judges.specs.Crashes.{crash_tick}
 use Rattle.judges.specs.Meaning.{IsProcess, IsCorrect, From, Suspects}
-use Rattle.judges.specs.Out.{out}
-use Rattle.detector_bounds.specs.Bounds.{detected_at, HasNoMistake, CrashesAt, KeepsBounds}
-use Rattle.detector_bounds.specs.Detected.{trusts, last_letter, grown, detected_by, longest}
-use Rattle.detector_bounds.specs.Watched.{Watches, IsReliable, IsTimely, watch_of}
 use Rattle.detector_bounds.proofs.Ending.{IsKept, IsEnd, ending, holds_at}
 use Rattle.detector_bounds.proofs.Fates.{fate_within, delivers}
 use Rattle.detector_bounds.proofs.Instances.{runs_timeout, timeout_step, timeout_suspects, timeout_seen}

@@ -6,23 +6,14 @@
 -- for its bound. From then on no letter can take the suspicion back.
 use Rattle.std.proofs.Common.{◌≡◌, ◌≢◌, ◌⊎◌, ℕ, ◌+◌, ◌-◌, ◌*◌, ◌<◌, ◌≤◌, inl, inr, refl, sym, ap, ◌∙◌, subst, Bool, true, false, nat_le, List, [], ◌∷◌, arith, le-leb}
 use Rattle.std.specs.FinSet as set
-use Rattle.std.proofs.lemmas.Bool.{cases_lt}
+use Rattle.detector_bounds.proofs.Words.{cases_lt, Key, StepInput, TimeoutNumbers, same_or_not, World, Pair, Has, IsLeast, NoneBelow, Run, made, taken, opening, entries, start_of, starts_are, one_input, trusts, EntryRecord}
 use Rattle.process_api.specs.Timeout.{TimeoutState, watches}
-use Rattle.process_api.specs.declared.key.Key.{Key}
 use Rattle.process_api.specs.declared.message.Payload.TheVariants as payload
-use Rattle.process_api.specs.declared.message.StepInput.{StepInput}
 use Rattle.process_api.specs.declared.message.StepInput.TheVariants as input
 use Rattle.process_api.specs.declared.message.Tag.TheVariants as tag
-use Rattle.process_api.specs.declared.numbers.TimeoutNumbers.{TimeoutNumbers}
-use Rattle.process_api.proofs.KeyOrder.{same_or_not}
 use Rattle.streams.specs.declared.fate.Fate.TheVariants as fate
 use Rattle.trace_laws.specs.Setting.{Setting, IsSound, IsProcess, has_crashed}
-use Rattle.trace_laws.specs.World.{World, Pair, Has, IsLeast, NoneBelow, Run, made, taken, opening, entries, start_of}
-use Rattle.trace_laws.proofs.Closed.{starts_are}
-use Rattle.trace_laws.proofs.Sets.{one_input}
 use Rattle.judges.proofs.Letters.{no_letter_first}
-use Rattle.detector_bounds.specs.Detected.{trusts}
-use Rattle.process_api.specs.EntryRecord.{EntryRecord}
 use Rattle.detector_bounds.proofs.Ending.{IsKept, none_at}
 use Rattle.detector_bounds.proofs.Multiples.{mul-next, more_grown, fewer_grown, multiple_after}
 use Rattle.detector_bounds.proofs.Standing.{starts_there}

@@ -1,9 +1,6 @@
 -- Machines that have a time-out detector below other parts.
 use Rattle.std.specs.Prelude.{ℕ}
-use Rattle.process_api.specs.Place.{Place}
-use Rattle.process_api.specs.Timeout.{opening_timeout, step_timeout}
-use Rattle.process_api.specs.declared.numbers.TimeoutNumbers.{TimeoutNumbers}
-use Rattle.trace_laws.specs.Setting.{Setting}
+use Rattle.detector_bounds.proofs.Words.{Place, opening_timeout, step_timeout, TimeoutNumbers, Setting}
 use Rattle.detector_bounds.proofs.Machines.{RunsDetector}
 
 abbrev pub place_of : {Mind : Type 0} → Setting Mind → ℕ → Place

@@ -1,22 +1,13 @@
 -- What an input makes of what a time-out detector keeps of one process that it watches: the tick at which it heard of it last,
 -- the bound, and whether it suspects it.
-use Rattle.std.proofs.Common.{◌≡◌, ◌≢◌, ℕ, ◌+◌, ◌-◌, ◌≤◌, inl, inr, refl, sym, ap, ◌∙◌, subst, Bool, true, false, not, ◌&&◌, ◌||◌, nat_le, min, max, arith}
+use Rattle.detector_bounds.proofs.Words.{◌≡◌, ◌≢◌, ℕ, ◌+◌, ◌-◌, ◌≤◌, inl, inr, refl, sym, ap, ◌∙◌, subst, Bool, true, false, not, ◌&&◌, ◌||◌, nat_le, min, max, arith, and_parts, cases_eq, cond_both, ne_eqb, eq-eqb, still, is_process, Place, StepInput, TimeoutNumbers, contains-insert_all, contains-remove_is, IsIn, change_at, change_other}
 use Rattle.std.specs.FinSet as set
-use Rattle.std.proofs.lemmas.Bool.{and_parts, cases_eq, cond_both, ne_eqb, eq-eqb}
-use Rattle.process_api.specs.Answer.{still}
-use Rattle.process_api.specs.Numbers.{is_process}
-use Rattle.process_api.specs.Place.{Place}
 use Rattle.process_api.specs.Timeout.{TimeoutState, watches, is_overdue, checked, noticed, trusted_again, heard, step_timeout}
 use Rattle.process_api.specs.declared.action.Action.TheVariants as action
 use Rattle.process_api.specs.declared.action.Note.TheVariants as note
 use Rattle.process_api.specs.declared.message.Payload.TheVariants as payload
-use Rattle.process_api.specs.declared.message.StepInput.{StepInput}
 use Rattle.process_api.specs.declared.message.StepInput.TheVariants as input
 use Rattle.process_api.specs.declared.message.Tag.TheVariants as tag
-use Rattle.process_api.specs.declared.numbers.TimeoutNumbers.{TimeoutNumbers}
-use Rattle.process_api.proofs.Contains.{contains-insert_all, contains-remove_is}
-use Rattle.trace_laws.specs.History.{IsIn}
-use Rattle.trace_laws.proofs.Steps.{change_at, change_other}
 
 module _ (place : Place) (numbers : TimeoutNumbers) (s : TimeoutState) (now p : ℕ) (watched : watches place numbers p ≡ true) where
   abbrev pub is_suspected : Bool

@@ -1,29 +1,15 @@
 -- One step of the list, seen from the time-out detectors: whose state changes, and which Beats, Checks and Alive letters
 -- are pending then.
-use Rattle.std.proofs.Common.{◌≡◌, ◌≢◌, ◌⊎◌, ℕ, ◌+◌, ◌<◌, ◌≤◌, inl, inr, refl, sym, ap, ◌∙◌, subst, Bool, true, false, List, [], ◌∷◌, ◌++◌, arith, cond}
+use Rattle.detector_bounds.proofs.Words.{◌≡◌, ◌≢◌, ◌⊎◌, ℕ, ◌+◌, ◌<◌, ◌≤◌, inl, inr, refl, sym, ap, ◌∙◌, subst, Bool, true, false, List, [], ◌∷◌, ◌++◌, arith, cond, cases_lt, cond_both, Action, Key, StepInput, TimeoutNumbers, before_by_tick, IsIn, Event, Process, Made, dead, made_by, World, Has, IsLeast, IsWorld, NoneBelow, made, taken, opening, opening_world, in_left, step_key, by_receiver, taken_cases, taken_old, taken_new, taken_world, made_sent, each_of, trusts}
 use Rattle.std.specs.FinSet as set
-use Rattle.std.proofs.lemmas.Bool.{cases_lt, cond_both}
 use Rattle.process_api.specs.Timeout.{TimeoutState, watches, step_timeout}
-use Rattle.process_api.specs.declared.action.Action.{Action}
 use Rattle.process_api.specs.declared.action.Action.TheVariants as action
 use Rattle.process_api.specs.declared.action.Note.TheVariants as note
-use Rattle.process_api.specs.declared.key.Key.{Key}
 use Rattle.process_api.specs.declared.message.Payload.TheVariants as payload
-use Rattle.process_api.specs.declared.message.StepInput.{StepInput}
 use Rattle.process_api.specs.declared.message.StepInput.TheVariants as input
 use Rattle.process_api.specs.declared.message.Tag.TheVariants as tag
-use Rattle.process_api.specs.declared.numbers.TimeoutNumbers.{TimeoutNumbers}
-use Rattle.process_api.proofs.KeyOrder.{before_by_tick}
 use Rattle.streams.specs.declared.fate.Fate.TheVariants as fate
-use Rattle.trace_laws.specs.History.{IsIn}
 use Rattle.trace_laws.specs.Setting.{Setting, IsSound, IsProcess, has_crashed}
-use Rattle.trace_laws.specs.Step.{Event, Process, Made, dead, made_by}
-use Rattle.trace_laws.specs.World.{World, Has, IsLeast, IsWorld, NoneBelow, made, taken, opening}
-use Rattle.trace_laws.proofs.Closed.{opening_world}
-use Rattle.trace_laws.proofs.Steps.{in_left, step_key}
-use Rattle.trace_laws.proofs.Worlds.{by_receiver, taken_cases, taken_old, taken_new, taken_world, made_sent}
-use Rattle.judges.proofs.Members.{each_of}
-use Rattle.detector_bounds.specs.Detected.{trusts}
 use Rattle.detector_bounds.proofs.Timeouts.Noticing.{notes_trust}
 use Rattle.detector_bounds.proofs.Timeouts.Trusted.{acted_note, entry_counts}
 use Rattle.detector_bounds.proofs.Events.{IsOf, Comes, IsAddedAt, comes_of, wake_joins, letter_joins}

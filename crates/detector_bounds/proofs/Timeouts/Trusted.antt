@@ -1,16 +1,11 @@
 -- How often a process notes that it trusts another again.
-use Rattle.std.proofs.Common.{◌≡◌, ℕ, ◌+◌, ◌≤◌, inl, inr, refl, sym, ap, ◌∙◌, subst, true, false, cond, List, [], ◌∷◌, ◌++◌, append_assoc, filter, length, length-append, ◌==◌, arith}
-use Rattle.std.proofs.lemmas.Bool.{cond_both, eq-eqb}
+use Rattle.detector_bounds.proofs.Words.{◌≡◌, ℕ, ◌+◌, ◌≤◌, inl, inr, refl, sym, ap, ◌∙◌, subst, true, false, cond, List, [], ◌∷◌, ◌++◌, append_assoc, filter, length, length-append, ◌==◌, arith, cond_both, eq-eqb, EntryRecord, Action, IsIn, is_trust, trusts}
 use Rattle.std.proofs.lemmas.List.Elements.{filter-append}
-use Rattle.process_api.specs.EntryRecord.{EntryRecord}
-use Rattle.process_api.specs.declared.action.Action.{Action}
 use Rattle.process_api.specs.declared.action.Action.TheVariants as action
 use Rattle.process_api.specs.declared.action.Note.{Note}
 use Rattle.process_api.specs.declared.action.Note.TheVariants as note
-use Rattle.trace_laws.specs.History.{IsIn}
 use Rattle.trace_laws.specs.Step.{noted}
 use Rattle.judges.specs.Outcomes.{timed, notes_of}
-use Rattle.detector_bounds.specs.Detected.{is_trust, trusts}
 
 notes_of-append : (xs ys : List EntryRecord) (q : ℕ) → notes_of (xs ++ ys) q ≡ notes_of xs q ++ notes_of ys q
 notes_of-append [] ys q = refl

@@ -6,19 +6,13 @@
 use Rattle.std.proofs.Common.{◌≡◌, ◌≢◌, ◌⊎◌, ℕ, ◌+◌, ◌-◌, ◌<◌, ◌≤◌, inl, inr, refl, sym, ap, ◌∙◌, subst, Bool, true, false, nat_le, List, [], ◌∷◌, arith, zero, suc, leb-true}
 use Rattle.std.specs.Ordering.{nat_cmp}
 use Rattle.std.specs.FinSet as set
-use Rattle.std.proofs.lemmas.Bool.{cases_lt}
+use Rattle.detector_bounds.proofs.Words.{cases_lt, Key, StepInput, TimeoutNumbers, same_or_not, World, Pair, Has, IsLeast, Run, taken, opening, start_of, one_input}
 use Rattle.process_api.specs.Timeout.{TimeoutState, watches}
-use Rattle.process_api.specs.declared.key.Key.{Key}
 use Rattle.process_api.specs.declared.message.Payload.TheVariants as payload
-use Rattle.process_api.specs.declared.message.StepInput.{StepInput}
 use Rattle.process_api.specs.declared.message.StepInput.TheVariants as input
 use Rattle.process_api.specs.declared.message.Tag.TheVariants as tag
-use Rattle.process_api.specs.declared.numbers.TimeoutNumbers.{TimeoutNumbers}
-use Rattle.process_api.proofs.KeyOrder.{same_or_not}
 use Rattle.streams.specs.declared.fate.Fate.TheVariants as fate
 use Rattle.trace_laws.specs.Setting.{Setting, IsSound, IsProcess, has_crashed}
-use Rattle.trace_laws.specs.World.{World, Pair, Has, IsLeast, Run, taken, opening, start_of}
-use Rattle.trace_laws.proofs.Sets.{one_input}
 use Rattle.detector_bounds.proofs.Ending.{none_at}
 use Rattle.detector_bounds.proofs.Standing.{starts_there}
 use Rattle.detector_bounds.proofs.Timeouts.Joined.{RunsTimeout, place_of}

@@ -1,24 +1,10 @@
 -- The outcomes of every trace of the rotating coordinator agree.
-use Rattle.std.proofs.Common.{◌≡◌, ◌≢◌, ℕ, ◌≤◌, inl, inr, refl, sym, ap, ◌∙◌, subst, Bool, true, false, cond, not, List, [], ◌∷◌, map, Option, None, Some, unwrap_or}
-use Rattle.std.specs.List.{filter, find}
-use Rattle.process_api.specs.EntryRecord.{EntryRecord}
-use Rattle.process_api.specs.Numbers.{numbers_to}
+use Rattle.judges.proofs.Words.{◌≡◌, ◌≢◌, ℕ, ◌≤◌, inl, inr, refl, sym, ap, ◌∙◌, subst, Bool, true, false, cond, not, List, [], ◌∷◌, map, Option, None, Some, unwrap_or, filter, find, EntryRecord, numbers_to, Decided, numbers_are, IsInRange, Record, proposal, IsIn, setting_of, IsTrace, setting_sound, Agrees, DecidesOnce, answers_of, notes_of, is_answer, value_of, outcome, outcomes, Outcome}
 use Rattle.process_api.specs.declared.action.Note.{Note}
-use Rattle.process_api.specs.declared.action.Note.TheVariants.{Decided}
-use Rattle.process_api.proofs.Lists.{numbers_are}
 use Rattle.scenario_record.specs.Numbers.{is_idle}
-use Rattle.scenario_record.specs.Ranges.{IsInRange}
-use Rattle.scenario_record.specs.Record.{Record, proposal}
 use Rattle.scenario_record.specs.declared.algorithm.AlgorithmKind.TheVariants as kind
-use Rattle.trace_laws.specs.History.{IsIn}
-use Rattle.trace_laws.specs.ScenarioSetting.{setting_of}
-use Rattle.trace_laws.specs.World.{IsTrace}
-use Rattle.trace_laws.proofs.Sound.{setting_sound}
-use Rattle.judges.specs.Agreement.{Agrees, DecidesOnce, answers_of}
 use Rattle.judges.specs.Meaning.{IsProcess}
-use Rattle.judges.specs.Outcomes.{notes_of, is_answer, value_of, outcome, outcomes}
 use Rattle.judges.specs.declared.outcomes.Answer.TheVariants as answer
-use Rattle.judges.specs.declared.outcomes.Outcome.{Outcome}
 use Rattle.judges.proofs.Agreement.Coordinators.{trace_one_value, trace_proposed, trace_once}
 use Rattle.judges.proofs.Agreement.Answering.{answers_by, answers_are, value_in, decides_once}
 use Rattle.judges.proofs.Instances.{runs_coordinator}

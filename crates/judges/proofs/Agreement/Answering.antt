@@ -1,13 +1,7 @@
 -- The answers of processes, as lists of values: of a decision its value, of NoValue none.
-use Rattle.std.proofs.Common.{◌≡◌, ◌⊎◌, ℕ, inl, inr, refl, ap, ◌∙◌, true, false, cond, List, [], ◌∷◌, ◌++◌, map, Option, None, Some, ◌==◌, if◌then◌else◌}
-use Rattle.std.specs.List.{filter}
-use Rattle.std.proofs.lemmas.List.{map-append}
+use Rattle.judges.proofs.Words.{◌≡◌, ◌⊎◌, ℕ, inl, inr, refl, ap, ◌∙◌, true, false, cond, List, [], ◌∷◌, ◌++◌, map, Option, None, Some, ◌==◌, if◌then◌else◌, filter, map-append, EntryRecord, Decided, NoValue, answers_of, DecidesOnce, timed, notes_of, is_answer}
 use Rattle.std.proofs.lemmas.List.Elements.{filter-append}
-use Rattle.process_api.specs.EntryRecord.{EntryRecord}
 use Rattle.process_api.specs.declared.action.Note.{Note}
-use Rattle.process_api.specs.declared.action.Note.TheVariants.{Decided, NoValue}
-use Rattle.judges.specs.Agreement.{answers_of, DecidesOnce}
-use Rattle.judges.specs.Outcomes.{timed, notes_of, is_answer}
 
 -- the answers among notes
 abbrev pub answers_in : List Note → List (Option ℕ)

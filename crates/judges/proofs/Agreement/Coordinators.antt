@@ -1,30 +1,15 @@
 -- Through a run: what every process knows of itself, and that every letter on its way was sent.
-use Rattle.std.proofs.Common.{◌≡◌, ℕ, inl, inr, refl, sym, ap, ◌∙◌, subst, Bool, true, false, cond, ◌==◌, List, [], ◌∷◌, ◌++◌, append_assoc, append-nil, IsTrue, ◌⊎◌, arith, Some}
-use Rattle.std.proofs.lemmas.Bool.{cases_eq, cond_both, eqb-true, eq-eqb, ne_eqb, cases_lt}
-use Rattle.process_api.specs.Coordinator.{step_coordinator, is_decided}
-use Rattle.process_api.specs.declared.key.Key.{Key}
-use Rattle.process_api.specs.declared.message.Payload.{Payload}
+use Rattle.judges.proofs.Words.{◌≡◌, ℕ, inl, inr, refl, sym, ap, ◌∙◌, subst, Bool, true, false, cond, ◌==◌, List, [], ◌∷◌, ◌++◌, append_assoc, append-nil, IsTrue, ◌⊎◌, arith, Some, cases_eq, cond_both, eqb-true, eq-eqb, ne_eqb, cases_lt, step_coordinator, is_decided, Key, Payload, StepInput, Action, Answer, EntryRecord, change, Made, dead, made_by, IsIn, in_left, in_right, change_at, change_other, taken_cases, taken_world, opening_world, same_Some}
 use Rattle.process_api.specs.declared.message.Payload.TheVariants as payload
-use Rattle.process_api.specs.declared.message.StepInput.{StepInput}
 use Rattle.process_api.specs.declared.message.StepInput.TheVariants as input
-use Rattle.process_api.specs.declared.action.Action.{Action}
 use Rattle.process_api.specs.declared.action.Action.TheVariants as action
 use Rattle.trace_laws.specs.Setting.{Setting, IsSound, IsProcess, has_crashed}
-use Rattle.process_api.specs.Answer.{Answer}
-use Rattle.process_api.specs.EntryRecord.{EntryRecord}
-use Rattle.process_api.specs.Numbers.{change}
-use Rattle.trace_laws.specs.Step.{Made, dead, made_by}
 use Rattle.trace_laws.specs.World.{World, Pair, Has, IsWorld, Run, made, taken, opening, entries, IsTrace}
-use Rattle.trace_laws.specs.History.{IsIn}
-use Rattle.trace_laws.proofs.Steps.{in_left, in_right, change_at, change_other}
-use Rattle.trace_laws.proofs.Worlds.{taken_cases, taken_world}
-use Rattle.trace_laws.proofs.Closed.{opening_world}
 use Rattle.judges.proofs.Agreement.Joined.{RunsCoordinator}
 use Rattle.judges.proofs.Agreement.Answering.{answers_in, answers_by}
 use Rattle.judges.proofs.Agreement.Local.{Local, IsFine, verdicts, verdicts-append, CameFrom, step_fits, lower_fits, opening_fits, IsGood, Once, next_of}
 use Rattle.judges.proofs.Letters.{added_letter, no_letter_first}
 use Rattle.judges.proofs.Members.{each_of}
-use Rattle.std.proofs.lemmas.Option.{same_Some}
 use Rattle.judges.proofs.Agreement.Locking.{Facts, one_locked, locked_valid}
 
 module _ {Mind : Type 0} (S : Setting Mind) where

@@ -1,11 +1,5 @@
 -- Why all decisions have one value: once a majority has acknowledged a round's proposal, every later proposal has its value.
-use Rattle.std.proofs.Common.{◌≡◌, ℕ, zero, suc, ◌+◌, ◌<◌, ◌≤◌, inl, inr, refl, sym, ap, ◌∙◌, Bool, true, false, cond, ◌&&◌, arith, nat_lt, Option, None, Some, is_some, unwrap_or, ◌⊎◌, subst}
-use Rattle.std.proofs.lemmas.Bool.{cases_Bool, cases_eq, cond_both, and_parts, ltb-true, ltb-false, cases_lt, cases_order}
-use Rattle.std.proofs.lemmas.Option.{same_Some}
-use Rattle.process_api.specs.Rounds.{count_to, majority, coordinator}
-use Rattle.process_api.specs.declared.consensus.Estimate.{Estimate}
-use Rattle.process_api.specs.Coordinator.{better, best_to}
-use Rattle.process_api.specs.declared.message.Payload.{Payload}
+use Rattle.judges.proofs.Words.{◌≡◌, ℕ, zero, suc, ◌+◌, ◌<◌, ◌≤◌, inl, inr, refl, sym, ap, ◌∙◌, Bool, true, false, cond, ◌&&◌, arith, nat_lt, Option, None, Some, is_some, unwrap_or, ◌⊎◌, subst, cases_Bool, cases_eq, cond_both, and_parts, ltb-true, ltb-false, cases_lt, cases_order, same_Some, count_to, majority, coordinator, Estimate, better, best_to, Payload}
 use Rattle.process_api.specs.declared.message.Payload.TheVariants as payload
 
 -- ---- majorities of 1 to n meet, and the best of some estimates

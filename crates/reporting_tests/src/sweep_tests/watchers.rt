@@ -9,9 +9,9 @@ use std::time::Clock;
 use study::{Grid, Shard, Sources};
 use sweep::{Pass, Standing, SweepError, Watcher, sweep};
 
-/// Keeps the last that it heard, whether each was one more of the same sweep, how often it heard of runs that are in and
-/// was asked to make way, and of how many runs it heard that they passed their limit, with the last point where that was
-/// so.
+/// Keeps the last that it heard, whether each was one more of the same sweep, how often it heard of runs that are in
+/// and was asked to make way, and of how many runs it heard that they passed their limit, with the last point where
+/// that was so.
 #[derive(Drop)]
 struct Keeper {
     last: Option<Standing>,

@@ -1,6 +1,5 @@
-use Rattle.std.proofs.Common.{rules}
+use Rattle.bench_commands.proofs.Words.{rules, Memory}
 use Rattle.trace_laws.proofs.Sound.{setting_sound}
-use Rattle.process_api.specs.declared.run_error.RunError.TheVariants.{Memory}
 use Rattle.bench_commands.proofs.Stopping.{refused_at_machines}
 use Rattle.reporting.proofs.Fed.{if_reason}
 use Rattle.bench_commands.proofs.bench.bench.Goals as goal

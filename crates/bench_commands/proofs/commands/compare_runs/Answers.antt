@@ -1,11 +1,5 @@
-use Rattle.std.proofs.Common.{ap, refl, Err, codes}
-use Rattle.std.proofs.lemmas.Result.{MatchResult-weaker}
-use Rattle.bench_commands.specs.Answer.{IsCompareAnswer}
+use Rattle.bench_commands.proofs.Words.{ap, refl, Err, codes, MatchResult-weaker, IsCompareAnswer, end_of, Run, Write, put_goes}
 use Rattle.bench_commands.proofs.Stopping.{compare_why, stops_unwritten}
-use Rattle.bench_commands.specs.Fault.{end_of}
-use Rattle.bench_commands.specs.declared.fault.Fault.TheVariants.{Run}
-use Rattle.process_api.specs.declared.run_error.RunError.TheVariants.{Write}
-use Rattle.shell.proofs.Going.{put_goes}
 use Rattle.bench_commands.proofs.commands.compare_runs.Goals as goal
 
 pub returns-in-Ok-clause-text : goal.returns-in-Ok-clause-text

@@ -1,9 +1,4 @@
-use Rattle.std.proofs.Common.{◌≡◌, ◌∙◌, ap, sym, refl, ℕ, List, Bool, true, false}
-use Rattle.trace_laws.specs.ScenarioSetting.{setting_of}
-use Rattle.trace_laws.proofs.Closed.{one_trace}
-use Rattle.reporting.specs.Printed.{printed}
-use Rattle.process_api.specs.declared.print_choice.PrintChoice.TheVariants.{Both}
-use Rattle.scenario_record.specs.Record.{Record}
+use Rattle.bench_commands.proofs.Words.{◌≡◌, ◌∙◌, ap, sym, refl, ℕ, List, Bool, true, false, setting_of, one_trace, printed, Both, Record}
 use Rattle.bench_commands.specs.Compare.{IsWritten}
 use Rattle.bench_commands.proofs.comparing.compare.Goals as goal
 

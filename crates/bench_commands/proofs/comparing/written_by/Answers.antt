@@ -1,7 +1,5 @@
-use Rattle.std.proofs.Common.{rules, ◌≡◌, ℕ, List, Option, Some}
-use Rattle.process_api.specs.declared.run_error.RunError.TheVariants.{Limit}
+use Rattle.bench_commands.proofs.Words.{rules, ◌≡◌, ℕ, List, Option, Some, Limit, Both}
 use Rattle.bench_commands.proofs.Stopping.{refused_long}
-use Rattle.process_api.specs.declared.print_choice.PrintChoice.TheVariants.{Both}
 use Rattle.reporting.specs.Outlet.{Held}
 use Rattle.bench_commands.proofs.comparing.written_by.Goals as goal
 

@@ -1,6 +1,5 @@
-use Rattle.std.proofs.Common.{◌∙◌, ap, codes, decimal}
+use Rattle.bench_commands.proofs.Words.{◌∙◌, ap, codes, decimal, tells_as}
 use Rattle.bench_commands.proofs.Pieces.{name_line, pair_line}
-use Rattle.shell.proofs.Going.{tells_as}
 use Rattle.bench_commands.proofs.fault.put_refusal.Goals as goal
 
 pub returns-in-BelowLookahead : goal.returns-in-BelowLookahead

@@ -1,11 +1,5 @@
-use Rattle.std.proofs.Common.{map, inl, inr}
-use Rattle.std.proofs.lemmas.Result.{IfErr-weaker}
-use Rattle.command_line.specs.Order.{AsksHelp, States}
-use Rattle.bench_commands.specs.Answer.{Answers, Leaves, Writes}
-use Rattle.bench_commands.specs.Fault.{end_of}
-use Rattle.bench_commands.specs.Serve.{IsHelp}
+use Rattle.bench_commands.proofs.Words.{map, inl, inr, IfErr-weaker, AsksHelp, States, Answers, Leaves, Writes, end_of, IsHelp, for_help, for_order}
 use Rattle.bench_commands.proofs.Stopping.{answered}
-use Rattle.shell.proofs.Going.{for_help, for_order}
 use Rattle.bench_commands.proofs.serving.answer_words.Goals as goal
 
 pub returns-in-Ok-clause-text : goal.returns-in-Ok-clause-text

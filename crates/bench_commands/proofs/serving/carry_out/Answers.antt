@@ -1,8 +1,4 @@
-use Rattle.std.proofs.Common.{inr}
-use Rattle.std.proofs.lemmas.Result.{IfErr-weaker}
-use Rattle.bench_commands.specs.Answer.{Answers, AnswersOver, Leaves, LeavesOver, Writes, WritesOver}
-use Rattle.bench_commands.specs.Fault.{end_of}
-use Rattle.shell.proofs.Going.{goes_as}
+use Rattle.bench_commands.proofs.Words.{inr, IfErr-weaker, Answers, AnswersOver, Leaves, LeavesOver, Writes, WritesOver, end_of, goes_as}
 use Rattle.bench_commands.proofs.serving.carry_out.Goals as goal
 
 pub returns-clause-text : goal.returns-clause-text

@@ -1,10 +1,5 @@
-use Rattle.std.proofs.Common.{◌∙◌, map, sym, arith}
-use Rattle.command_line.specs.Order.{AsksHelp, Explains, States}
-use Rattle.bench_commands.specs.Answer.{Answers, Leaves, Writes}
-use Rattle.bench_commands.specs.Fault.{end_of, line_of, status_of}
+use Rattle.bench_commands.proofs.Words.{◌∙◌, map, sym, arith, AsksHelp, Explains, States, Answers, Leaves, Writes, end_of, line_of, status_of, IsReason, TellsOf, StopsFor}
 use Rattle.bench_commands.specs.Inside.Statuses.{has_status}
-use Rattle.bench_commands.specs.Serve.{IsReason, TellsOf}
-use Rattle.bench_commands.specs.Why.{StopsFor}
 use Rattle.bench_commands.proofs.Stopping.{run_asked, unasked_status}
 use Rattle.shell.proofs.Serving.{ends, failure_of}
 use Rattle.bench_commands.proofs.serving.serve.Goals as goal

@@ -1,10 +1,6 @@
-use Rattle.std.proofs.Common.{◌≡◌, ◌∙◌, IfOk, Ok, Result, codes, rules}
+use Rattle.command_line.proofs.Basics.{◌≡◌, ◌∙◌, IfOk, Ok, Result, codes, rules, App, app_of, new_app, with_subcommand, Command, Adds, IsCommand, IsLocal, IsPrinting, Makes, check_app, compare_app, list_app, run_app, whole_app}
 use Rattle.std.proofs.lemmas.Result.{IfOk-at_ok, IfOk-weaker}
-use Rattle.clap.specs.Words.{App, app_of, new_app, with_subcommand}
-use Rattle.clap.specs.declared.builder.command.Command.{Command}
 use Rattle.clap.specs.declared.builder.value_parser.ValueParser.{ValueParser}
-use Rattle.command_line.specs.Commands.{Adds, IsCommand, IsLocal, IsPrinting, Makes, check_app}
-use Rattle.command_line.specs.Commands.{compare_app, list_app, run_app, whole_app}
 use Rattle.command_line.proofs.command.command.Goals as goal
 
 -- four commands are added to a bare one

@@ -1,6 +1,4 @@
-use Rattle.std.proofs.Common.{◌≡◌, rules, subst}
-use Rattle.clap.specs.Words.{app_of, new_app, with_rule}
-use Rattle.command_line.specs.Commands.{IsLocal, Makes}
+use Rattle.command_line.proofs.Basics.{◌≡◌, rules, subst, app_of, new_app, with_rule, IsLocal, Makes}
 use Rattle.command_line.proofs.command.path_command.Goals as goal
 
 pub returns : goal.returns

@@ -1,7 +1,5 @@
-use Rattle.std.proofs.Common.{◌∙◌, sym}
+use Rattle.command_line.proofs.Basics.{◌∙◌, sym, found_of, one_text, one_text-rows}
 use Rattle.std.specs.Str.Parse.{ParsesUnsigned, ExplainsUnsignedError, HasUnsignedDigitsIfOk}
-use Rattle.clap.specs.Words.{found_of, one_text}
-use Rattle.clap.proofs.WalkLemmas.{one_text-rows}
 use Rattle.std.proofs.lemmas.Option.{IfSome_then}
 use Rattle.command_line.proofs.Words.{none_read, read_one}
 use Rattle.command_line.proofs.order.number_at.Goals as goal

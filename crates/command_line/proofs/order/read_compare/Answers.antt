@@ -1,5 +1,4 @@
-use Rattle.std.proofs.Common.{rules}
-use Rattle.clap.specs.Words.{found_of, rows_of}
+use Rattle.command_line.proofs.Basics.{rules, found_of, rows_of}
 use Rattle.command_line.proofs.Words.{lacks_window, lacks_workers}
 use Rattle.command_line.proofs.order.read_compare.Goals as goal
 

@@ -1,6 +1,4 @@
-use Rattle.std.proofs.Common.{◌∙◌}
-use Rattle.clap.specs.Words.{found_of}
-use Rattle.clap.proofs.WalkLemmas.{first_value-rows}
+use Rattle.command_line.proofs.Basics.{◌∙◌, found_of, first_value-rows}
 use Rattle.command_line.proofs.order.text_at.Goals as goal
 
 pub returns : goal.returns

@@ -1,6 +1,4 @@
-use Rattle.std.proofs.Common.{◌≡◌, ◌∙◌, ℕ, zero, suc, None, refl, sym, ap}
-use Rattle.process_api.specs.Coordinator.{best_to, better}
-use Rattle.process_api.specs.Letters.{in_row}
+use Rattle.consensus_es.proofs.Words.{◌≡◌, ◌∙◌, ℕ, zero, suc, None, refl, sym, ap, best_to, better, in_row}
 use Rattle.consensus_es.proofs.progress.best.Goals as goal
 
 none_best : (n : ℕ) → best_to n (λ q. None) ≡ None

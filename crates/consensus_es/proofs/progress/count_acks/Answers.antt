@@ -1,6 +1,4 @@
-use Rattle.std.proofs.Common.{◌∙◌, sym, ap, unwrap_or, false}
-use Rattle.process_api.specs.Rounds.{count_to}
-use Rattle.process_api.specs.Letters.{in_row}
+use Rattle.consensus_es.proofs.Words.{◌∙◌, sym, ap, unwrap_or, false, count_to, in_row}
 use Rattle.process_api.proofs.Rows.{none_counted}
 use Rattle.consensus_es.proofs.progress.count_acks.Goals as goal
 

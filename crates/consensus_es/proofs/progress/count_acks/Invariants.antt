@@ -1,6 +1,4 @@
-use Rattle.std.proofs.Common.{◌≡◌, ◌≤◌}
-use Rattle.consensus_es.specs.Kept.{by_sender}
-use Rattle.consensus_es.specs.State.{acks_of}
+use Rattle.consensus_es.proofs.Words.{◌≡◌, ◌≤◌, by_sender, acks_of}
 use Rattle.consensus_es.proofs.progress.count_acks.Given as goal
 
 abbrev pub invariant-loop-before : goal.invariant-loop-before

@@ -1,6 +1,4 @@
-use Rattle.std.proofs.Common.{◌∙◌, ◌≤◌, ℕ, sym, arith, Bool, false, not, is_some, None, Some}
-use Rattle.process_api.specs.Cells.{cell}
-use Rattle.consensus_s.specs.Kept.{kept_of}
+use Rattle.consensus_s.proofs.Words.{◌∙◌, ◌≤◌, ℕ, sym, arith, Bool, false, not, is_some, None, Some, cell, kept_of}
 use Rattle.consensus_s.proofs.Counting.{any_holds}
 use Rattle.consensus_s.proofs.letters.is_missed.Goals as goal
 

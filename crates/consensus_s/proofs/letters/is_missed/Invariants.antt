@@ -1,5 +1,4 @@
-use Rattle.std.proofs.Common.{◌≡◌, false}
-use Rattle.consensus_s.specs.Kept.{kept_of, missed_in}
+use Rattle.consensus_s.proofs.Words.{◌≡◌, false, kept_of, missed_in}
 use Rattle.consensus_s.proofs.letters.is_missed.Given as goal
 
 abbrev pub invariant-loop-before : goal.invariant-loop-before

@@ -1,7 +1,4 @@
-use Rattle.std.proofs.Common.{◌∙◌, ap}
-use Rattle.std.proofs.lemmas.Result.{on_ok_weaker}
-use Rattle.process_api.specs.ConsensusS.{keep}
-use Rattle.consensus_s.specs.Kept.{kept_of}
+use Rattle.consensus_s.proofs.Words.{◌∙◌, ap, on_ok_weaker, keep, kept_of}
 use Rattle.consensus_s.proofs.letters.keep.Goals as goal
 
 pub returns : goal.returns

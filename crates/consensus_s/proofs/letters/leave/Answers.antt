@@ -1,6 +1,4 @@
-use Rattle.std.proofs.Common.{◌≡◌, ◌∙◌, ℕ, ◌+◌, cond, None, nat_le, nat_lt, arith}
-use Rattle.std.proofs.lemmas.Bool.Decides.{nat_tests}
-use Rattle.consensus_s.specs.Kept.{kept_of}
+use Rattle.consensus_s.proofs.Words.{◌≡◌, ◌∙◌, ℕ, ◌+◌, cond, None, nat_le, nat_lt, arith, nat_tests, kept_of}
 use Rattle.consensus_s.proofs.letters.leave.Goals as goal
 
 same_rounds : (r round : ℕ) → nat_lt r (round + 1) ≡ nat_le r round

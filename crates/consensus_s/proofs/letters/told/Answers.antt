@@ -1,6 +1,4 @@
-use Rattle.std.proofs.Common.{◌∙◌, ℕ, ap, sym, Option, None, Some}
-use Rattle.process_api.specs.Cells.{cell}
-use Rattle.consensus_s.specs.Kept.{kept_of}
+use Rattle.consensus_s.proofs.Words.{◌∙◌, ℕ, ap, sym, Option, None, Some, cell, kept_of}
 use Rattle.consensus_s.proofs.Counting.{first_is}
 use Rattle.consensus_s.proofs.letters.told.Goals as goal
 

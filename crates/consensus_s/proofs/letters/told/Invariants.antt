@@ -1,5 +1,4 @@
-use Rattle.std.proofs.Common.{◌≡◌, None}
-use Rattle.consensus_s.specs.Kept.{kept_of, told_in}
+use Rattle.consensus_s.proofs.Words.{◌≡◌, None, kept_of, told_in}
 use Rattle.consensus_s.proofs.letters.told.Given as goal
 
 abbrev pub invariant-loop-before : goal.invariant-loop-before

@@ -1,5 +1,4 @@
-use Rattle.std.proofs.Common.{◌≡◌, ℕ, Option}
-use Rattle.process_api.specs.ConsensusS.{cells_of}
+use Rattle.consensus_s.proofs.Words.{◌≡◌, ℕ, Option, cells_of}
 use Rattle.consensus_s.proofs.vectors.cells_by.Given as goal
 
 abbrev pub invariant-loop-before : goal.invariant-loop-before

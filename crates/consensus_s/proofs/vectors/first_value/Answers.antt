@@ -1,5 +1,4 @@
-use Rattle.std.proofs.Common.{◌∙◌, ap, sym}
-use Rattle.process_api.specs.Cells.{cell}
+use Rattle.consensus_s.proofs.Words.{◌∙◌, ap, sym, cell}
 use Rattle.consensus_s.proofs.Counting.{first_is}
 use Rattle.consensus_s.proofs.vectors.first_value.Goals as goal
 

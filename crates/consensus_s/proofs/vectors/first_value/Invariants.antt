@@ -1,6 +1,4 @@
-use Rattle.std.proofs.Common.{◌≡◌, None}
-use Rattle.process_api.specs.Cells.{cell}
-use Rattle.process_api.specs.ConsensusS.{first_to}
+use Rattle.consensus_s.proofs.Words.{◌≡◌, None, cell, first_to}
 use Rattle.consensus_s.proofs.vectors.first_value.Given as goal
 
 abbrev pub invariant-loop-before : goal.invariant-loop-before

@@ -1,10 +1,4 @@
-use Rattle.std.proofs.Common.{◌≡◌, [], ◌∷◌, ◌++◌, map, sym, ap, ◌∙◌, subst, add-one, rules}
-use Rattle.std.specs.Global.{Vec}
-use Rattle.std.specs.List.{All}
-use Rattle.std.proofs.lemmas.List.{map-id}
-use Rattle.std.proofs.lemmas.List.Elements.{All-same, All-push}
-use Rattle.std.proofs.lemmas.Simd.{map-map}
-use Rattle.deques.specs.Deques.{MayTell, many_out, one_out, blank}
+use Rattle.deques.proofs.Words.{◌≡◌, [], ◌∷◌, ◌++◌, map, sym, ap, ◌∙◌, subst, add-one, rules, Vec, All, map-id, All-same, All-push, map-map, MayTell, many_out, one_out, blank}
 use Rattle.deques.proofs.Deals.{many_may, many_blank}
 use Rattle.deques.proofs.dealing.all_permits.Goals as goal
 

@@ -1,6 +1,4 @@
-use Rattle.std.proofs.Common.{◌≡◌, ◌≤◌, map, vec_len, vec_capacity}
-use Rattle.std.specs.List.{All}
-use Rattle.deques.specs.Deques.{many_out, blank}
+use Rattle.deques.proofs.Words.{◌≡◌, ◌≤◌, map, vec_len, vec_capacity, All, many_out, blank}
 use Rattle.deques.proofs.dealing.all_permits.Given as goal
 
 abbrev pub invariant-loop : goal.invariant-loop

@@ -1,11 +1,4 @@
-use Rattle.std.proofs.Common.{◌≡◌, ◌≤◌, List, ◌∷◌, [], ◌++◌, length, map, ap, sym, subst, ◌∙◌, vec_len, append-nil, arith}
-use Rattle.std.specs.List.{All, flat_map}
-use Rattle.std.specs.List.Sorted.{IsPermutation}
-use Rattle.std.specs.Global.{Vec}
-use Rattle.std.specs.Vec.Iter.{into_iter_items}
-use Rattle.std.proofs.lemmas.List.{length-map, nil_from_length}
-use Rattle.std.proofs.lemmas.List.Elements.{All-push, All-same, All-head, All-tail}
-use Rattle.deques.specs.Deques.{OwnerView, HandView, PermitView, deques_of, dealt_of}
+use Rattle.deques.proofs.Words.{◌≡◌, ◌≤◌, List, ◌∷◌, [], ◌++◌, length, map, ap, sym, subst, ◌∙◌, vec_len, append-nil, arith, All, flat_map, IsPermutation, Vec, into_iter_items, length-map, nil_from_length, All-push, All-same, All-head, All-tail, OwnerView, HandView, PermitView, deques_of, dealt_of}
 use Rattle.deques.proofs.Deals.{Counts, count_out_of, map_turn, flat_push, apart_more}
 use Rattle.deques.proofs.dealing.apart.Goals as goal
 

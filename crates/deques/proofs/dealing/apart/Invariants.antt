@@ -1,8 +1,4 @@
-use Rattle.std.proofs.Common.{◌≡◌, ◌≤◌, ◌+◌, ◌++◌, length, map, vec_len, vec_capacity, Some}
-use Rattle.std.specs.List.{All, flat_map}
-use Rattle.std.specs.List.Sorted.{IsPermutation}
-use Rattle.std.specs.Vec.Iter.{into_iter_items}
-use Rattle.deques.specs.Deques.{dealt_of, deques_of}
+use Rattle.deques.proofs.Words.{◌≡◌, ◌≤◌, ◌+◌, ◌++◌, length, map, vec_len, vec_capacity, Some, All, flat_map, IsPermutation, into_iter_items, dealt_of, deques_of}
 use Rattle.deques.proofs.dealing.apart.Given as goal
 
 abbrev pub invariant-loop-hand : goal.invariant-loop-hand

@@ -1,12 +1,4 @@
-use Rattle.std.proofs.Common.{◌≡◌, ◌<◌, ◌%◌, ◌⊎◌, inl, inr, ℕ, [], length, get_or, map, arith, refl, sym, ap, ◌∙◌, subst}
-use Rattle.std.specs.List.Sorted.{IsPermutation}
-use Rattle.std.proofs.lemmas.List.Sorted.{IsPermutation-refl}
-use Rattle.std.proofs.lemmas.Nat.{mod_below}
-use Rattle.std.proofs.lemmas.Iterator.Adapters.{YieldsList-from_vec}
-use Rattle.std.proofs.lemmas.Iterator.Consumers.{YieldsList-turn, YieldsList-end}
-use Rattle.std.proofs.lemmas.List.{map-id}
-use Rattle.ledger.proofs.Lists.{length_more}
-use Rattle.deques.specs.Deques.{deques_of, all_put, AreShares}
+use Rattle.deques.proofs.Words.{◌≡◌, ◌<◌, ◌%◌, ◌⊎◌, inl, inr, ℕ, [], length, get_or, map, arith, refl, sym, ap, ◌∙◌, subst, IsPermutation, IsPermutation-refl, mod_below, YieldsList-from_vec, YieldsList-turn, YieldsList-end, map-id, length_more, deques_of, all_put, AreShares}
 use Rattle.deques.proofs.Deals.{shares_none, shares_more, none_put, with_length, with_deques, with_more}
 use Rattle.deques.proofs.dealing.deal.Goals as goal
 

@@ -1,6 +1,4 @@
-use Rattle.std.proofs.Common.{◌≡◌, length, map}
-use Rattle.std.specs.List.Sorted.{IsPermutation}
-use Rattle.deques.specs.Deques.{deques_of, all_put, AreShares}
+use Rattle.deques.proofs.Words.{◌≡◌, length, map, IsPermutation, deques_of, all_put, AreShares}
 use Rattle.deques.proofs.dealing.deal.Given as goal
 
 abbrev pub invariant-loop-item : goal.invariant-loop-item

@@ -1,10 +1,4 @@
-use Rattle.std.proofs.Common.{rules, ◌≡◌, ◌<◌, ◌≤◌, ◌+◌, ℕ, suc, ◌∷◌, [], ◌++◌, length, map, ap, sym, subst, ◌∙◌, vec_len, append-nil, List, arith}
-use Rattle.std.specs.List.{All, Contains}
-use Rattle.std.specs.Global.{Vec}
-use Rattle.std.specs.Vec.Iter.{into_iter_items}
-use Rattle.std.proofs.lemmas.List.{nil_from_length}
-use Rattle.std.proofs.lemmas.List.Elements.{All-nil, All-push, All-same, All-head, All-tail}
-use Rattle.deques.specs.Deques.{OwnerView, HandView, dealt_of, HasTold, AreBlank, IsDealt}
+use Rattle.deques.proofs.Words.{rules, ◌≡◌, ◌<◌, ◌≤◌, ◌+◌, ℕ, suc, ◌∷◌, [], ◌++◌, length, map, ap, sym, subst, ◌∙◌, vec_len, append-nil, List, arith, All, Contains, Vec, into_iter_items, nil_from_length, All-nil, All-push, All-same, All-head, All-tail, OwnerView, HandView, dealt_of, HasTold, AreBlank, IsDealt}
 use Rattle.deques.proofs.Deals.{hand_dealt, hand_own, map_turn}
 use Rattle.deques.proofs.dealing.hands_of.Goals as goal
 

@@ -1,7 +1,4 @@
-use Rattle.std.proofs.Common.{◌≡◌, ◌≤◌, ◌+◌, ◌++◌, length, map, vec_len, vec_capacity}
-use Rattle.std.specs.List.{All}
-use Rattle.std.specs.Vec.Iter.{into_iter_items}
-use Rattle.deques.specs.Deques.{dealt_of, HasTold, AreBlank, IsDealt}
+use Rattle.deques.proofs.Words.{◌≡◌, ◌≤◌, ◌+◌, ◌++◌, length, map, vec_len, vec_capacity, All, into_iter_items, dealt_of, HasTold, AreBlank, IsDealt}
 use Rattle.deques.proofs.dealing.hands_of.Given as goal
 
 abbrev pub invariant-loop-owner : goal.invariant-loop-owner

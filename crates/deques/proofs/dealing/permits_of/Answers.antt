@@ -1,6 +1,4 @@
-use Rattle.std.proofs.Common.{◌<◌, ◌≤◌, ◌++◌, length, map, ap, ◌∙◌, append-nil, rules}
-use Rattle.deques.specs.Deques.{one_out, blank}
-use Rattle.std.proofs.lemmas.List.{take_all, drop_all}
+use Rattle.deques.proofs.Words.{◌<◌, ◌≤◌, ◌++◌, length, map, ap, ◌∙◌, append-nil, rules, one_out, blank, take_all, drop_all}
 use Rattle.deques.proofs.Deals.{may_give, one_gave, one_given}
 use Rattle.deques.proofs.dealing.permits_of.Goals as goal
 

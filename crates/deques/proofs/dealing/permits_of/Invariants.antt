@@ -1,5 +1,4 @@
-use Rattle.std.proofs.Common.{◌≡◌, ◌≤◌, ◌++◌, map, take, drop, vec_len, vec_capacity}
-use Rattle.deques.specs.Deques.{one_out, blank}
+use Rattle.deques.proofs.Words.{◌≡◌, ◌≤◌, ◌++◌, map, take, drop, vec_len, vec_capacity, one_out, blank}
 use Rattle.deques.proofs.dealing.permits_of.Given as goal
 
 abbrev pub invariant-loop-at : goal.invariant-loop-at

@@ -1,10 +1,4 @@
-use Rattle.std.proofs.Common.{◌<◌, List, refl, map, length, get_or, sym, ap, ◌∙◌, subst, arith}
-use Rattle.std.specs.List.{All}
-use Rattle.std.proofs.lemmas.List.Elements.{All-get_or}
-use Rattle.std.proofs.lemmas.Iterator.Adapters.{YieldsList-from_vec}
-use Rattle.std.proofs.lemmas.Iterator.Consumers.{YieldsList-turn}
-use Rattle.ledger.proofs.Lists.{with-nil, with-length, parts_agree, below_parts, length_more, turn_at, turn_more}
-use Rattle.deques.specs.Deques.{OwnerView, one_back}
+use Rattle.deques.proofs.Words.{◌<◌, List, refl, map, length, get_or, sym, ap, ◌∙◌, subst, arith, All, All-get_or, YieldsList-from_vec, YieldsList-turn, with-nil, with-length, parts_agree, below_parts, length_more, turn_at, turn_more, OwnerView, one_back}
 use Rattle.deques.proofs.Deals.{stolen_by, deque_of, from_deque}
 use Rattle.deques.proofs.dealing.take_all_back.Goals as goal
 

@@ -1,6 +1,4 @@
-use Rattle.std.proofs.Common.{◌≡◌, length, map}
-use Rattle.ledger.specs.Places.{each_with}
-use Rattle.deques.specs.Deques.{one_back}
+use Rattle.deques.proofs.Words.{◌≡◌, length, map, each_with, one_back}
 use Rattle.deques.proofs.dealing.take_all_back.Given as goal
 
 abbrev pub invariant-loop-permit : goal.invariant-loop-permit

@@ -1,5 +1,4 @@
-use Rattle.std.proofs.Common.{◌≡◌, ◌++◌, take}
-use Rattle.drawing.specs.Suspicions.{bands}
+use Rattle.drawing.proofs.Words.{◌≡◌, ◌++◌, take, bands}
 use Rattle.drawing.proofs.bands.push_bands.Given as goal
 
 -- the outages so far

@@ -1,15 +1,8 @@
-use Rattle.std.proofs.Common.{◌≡◌, ℕ, List, false, true, ◌<◌, ◌≤◌, ◌+◌, ◌++◌, ◌∷◌, [], max, sym, ap, ◌∙◌, arith, take, length, get_or}
-use Rattle.std.proofs.lemmas.List.{take_more, take_all}
-use Rattle.std.proofs.lemmas.List.Sums.{fold-append}
-use Rattle.std.proofs.lemmas.Result.{IfOk-weaker}
+use Rattle.drawing.proofs.Words.{◌≡◌, ℕ, List, false, true, ◌<◌, ◌≤◌, ◌+◌, ◌++◌, ◌∷◌, [], max, sym, ap, ◌∙◌, arith, take, length, get_or, take_more, take_all, fold-append, IfOk-weaker, AreUntil, turns, EntryRecord, after_all}
 use Rattle.judges.proofs.Order.{before_at}
 use Rattle.judges.proofs.Turns.{suspects_is, turns_more}
 use Rattle.judges.specs.Out.{suspects}
-use Rattle.judges.specs.Pairs.{AreUntil}
-use Rattle.judges.specs.Turns.{turns}
-use Rattle.process_api.specs.EntryRecord.{EntryRecord}
 use Rattle.process_api.specs.Order.{is_rising}
-use Rattle.drawing.specs.Inside.Sweeping.{after_all}
 use Rattle.drawing.proofs.Stretching.{stretches_same}
 use Rattle.drawing.proofs.bars.stretches_of.Goals as goal
 

@@ -1,7 +1,4 @@
-use Rattle.std.proofs.Common.{ℕ, ◌≤◌, max, false, take}
-use Rattle.judges.specs.Pairs.{AreUntil}
-use Rattle.judges.specs.Turns.{turns}
-use Rattle.drawing.specs.Inside.Sweeping.{IsSwept, after_all}
+use Rattle.drawing.proofs.Words.{ℕ, ◌≤◌, max, false, take, AreUntil, turns, IsSwept, after_all}
 use Rattle.drawing.proofs.bars.stretches_of.Given as goal
 
 -- of the entries so far

@@ -1,5 +1,4 @@
-use Rattle.std.proofs.Common.{◌≡◌, ◌++◌, ◌+◌, subst, refl, arith, append_assoc}
-use Rattle.std.proofs.lemmas.Result.{MatchResult-weaker}
+use Rattle.drawing.proofs.Words.{◌≡◌, ◌++◌, ◌+◌, subst, refl, arith, append_assoc, MatchResult-weaker}
 use Rattle.svg.specs.Document.{IsDocument}
 use Rattle.drawing.proofs.frame.picture_text.Goals as goal
 

@@ -1,10 +1,4 @@
-use Rattle.std.proofs.Common.{◌≡◌, ◌∙◌, ap, sym, subst, append_assoc}
-use Rattle.std.proofs.lemmas.Result.{MatchResult-weaker}
-use Rattle.drawing.specs.Frame.{Tells, placeless}
-use Rattle.drawing.specs.Inside.Drawn.{own_of}
-use Rattle.drawing.specs.Inside.LettersDrawn.{turn_bars, line_bands_in, marks_in}
-use Rattle.drawing.specs.Layout.{lanes_bottom}
-use Rattle.drawing.specs.LettersPicture.{letters_shapes}
+use Rattle.drawing.proofs.Words.{◌≡◌, ◌∙◌, ap, sym, subst, append_assoc, MatchResult-weaker, Tells, placeless, own_of, turn_bars, line_bands_in, marks_in, lanes_bottom, letters_shapes}
 use Rattle.drawing.proofs.Framing.{tells_on}
 use Rattle.drawing.proofs.Stretching.{stretches_are_bars}
 use Rattle.drawing.proofs.letters_picture.text_of.Goals as goal

@@ -1,6 +1,4 @@
-use Rattle.std.proofs.Common.{◌≡◌, ◌++◌, map, take}
-use Rattle.drawing.specs.Frame.{placeless}
-use Rattle.drawing.specs.Suspicions.{bar_shape}
+use Rattle.drawing.proofs.Words.{◌≡◌, ◌++◌, map, take, placeless, bar_shape}
 use Rattle.drawing.proofs.row_shapes.push_bars.Given as goal
 
 -- the bars so far

@@ -1,6 +1,4 @@
-use Rattle.std.proofs.lemmas.Result.{MatchResult-weaker}
-use Rattle.drawing.specs.Inside.Drawn.{bars_in, has_row_in, group_of, group_bands_of}
-use Rattle.drawing.specs.Layout.{left_out}
+use Rattle.drawing.proofs.Words.{MatchResult-weaker, bars_in, has_row_in, group_of, group_bands_of, left_out}
 use Rattle.drawing.proofs.Stretching.{stretches_are_bars}
 use Rattle.drawing.proofs.suspicions.text_of.Goals as goal
 

@@ -1,9 +1,6 @@
-use Rattle.trace_laws.specs.ScenarioSetting.{setting_of}
+use Rattle.event_list.proofs.Words.{setting_of, opening_world, has_one_trace, trace_is_closed, only_history, setting_sound, taken_world}
 use Rattle.trace_laws.proofs.Causes.{has_one_cause, is_taken_once}
-use Rattle.trace_laws.proofs.Closed.{opening_world, has_one_trace, trace_is_closed, only_history}
 use Rattle.trace_laws.proofs.Simulate.{plain_trace}
-use Rattle.trace_laws.proofs.Sound.{setting_sound}
-use Rattle.trace_laws.proofs.Worlds.{taken_world}
 use Rattle.event_list.proofs.laws.law_only_history.Goals as goal
 
 pub returns : goal.returns

@@ -1,9 +1,6 @@
-use Rattle.std.proofs.Common.{◌≤◌, [], length, subst, sym, rules, ◌∙◌}
+use Rattle.event_list.proofs.Words.{◌≤◌, [], length, subst, sym, rules, ◌∙◌, setting_of, IsTrace, IsTrue}
 use Rattle.process_api.specs.Order.{is_rising}
 use Rattle.trace_laws.specs.Effects.{HasCauses, TakesOnce}
-use Rattle.trace_laws.specs.ScenarioSetting.{setting_of}
-use Rattle.trace_laws.specs.World.{IsTrace}
-use Rattle.std.specs.Prelude.{IsTrue}
 use Rattle.event_list.proofs.list.run_list.Goals as goal
 
 pub new-requires : goal.new-requires

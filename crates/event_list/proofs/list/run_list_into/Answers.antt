@@ -1,21 +1,7 @@
-use Rattle.std.proofs.Common.{◌≡◌, ◌+◌, ◌*◌, List, length, map, sym, subst, ◌∙◌, refl, arith, vec_len, Some, slice_get, ◌-◌, ◌++◌, ◌∷◌, [], append-nil}
-use Rattle.std.specs.List.{All}
-use Rattle.std.proofs.lemmas.List.{length-map, length_push}
-use Rattle.std.proofs.lemmas.Option.{MatchOption-at_none, MatchOption-at_some}
-use Rattle.process_api.specs.Bounds.{most_step_actions}
-use Rattle.process_api.specs.Mind.{Mind}
-use Rattle.trace_laws.specs.Joins.{HaveJoined}
-use Rattle.steps.specs.Posting.{posted_in}
-use Rattle.trace_laws.specs.ScenarioSetting.{setting_of}
-use Rattle.steps.specs.Seat.{process_of, IsSeated}
-use Rattle.trace_laws.specs.Setting.{IsProcess}
-use Rattle.event_list.specs.Inside.Standing.{IsStepped}
-use Rattle.trace_laws.specs.Step.{Process, step}
-use Rattle.trace_laws.proofs.Closed.{trace_rises}
+use Rattle.event_list.proofs.Words.{◌≡◌, ◌+◌, ◌*◌, List, length, map, sym, subst, ◌∙◌, refl, arith, vec_len, Some, slice_get, ◌-◌, ◌++◌, ◌∷◌, [], append-nil, All, length-map, length_push, MatchOption-at_none, MatchOption-at_some, most_step_actions, Mind, HaveJoined, posted_in, setting_of, process_of, IsSeated, IsProcess, IsStepped, Process, step, trace_rises, setting_sound}
 use Rattle.trace_laws.proofs.Effects.{trace_has_causes, trace_takes_once}
 use Rattle.trace_laws.proofs.Joining.{none_joined, joined_then}
 use Rattle.event_list.proofs.Recording.{Going, taken_next, cut_short}
-use Rattle.trace_laws.proofs.Sound.{setting_sound}
 use Rattle.event_list.proofs.Standing.{first_longer, first_receiver, first_process, first_own, stands_next, stands_end}
 use Rattle.event_list.proofs.list.run_list_into.Goals as goal
 

@@ -1,11 +1,6 @@
-use Rattle.std.proofs.Common.{◌≡◌, ◌≤◌, ◌*◌, ◌-◌, map, vec_len}
-use Rattle.std.specs.List.{All}
-use Rattle.trace_laws.specs.Joins.{HaveJoined}
-use Rattle.trace_laws.specs.ScenarioSetting.{setting_of}
-use Rattle.steps.specs.Seat.{process_of, IsSeated}
+use Rattle.event_list.proofs.Words.{◌≡◌, ◌≤◌, ◌*◌, ◌-◌, map, vec_len, All, HaveJoined, setting_of, process_of, IsSeated, most_step_actions}
 use Rattle.event_list.proofs.Recording.{Going}
 use Rattle.event_list.proofs.list.run_list_into.Given as goal
-use Rattle.process_api.specs.Bounds.{most_step_actions}
 
 abbrev pub invariant-loop-list : goal.invariant-loop-list
 invariant-loop-list g l =

@@ -1,12 +1,4 @@
-use Rattle.std.proofs.Common.{◌≡◌, ◌∷◌, [], ◌++◌, List, map, ap, sym, subst, ◌∙◌, append_assoc, append-nil}
-use Rattle.std.specs.List.{All}
-use Rattle.std.specs.Vec.Iter.{into_iter_items}
-use Rattle.std.proofs.lemmas.List.{map-append, nil_from_length}
-use Rattle.std.proofs.lemmas.List.Elements.{All-nil, All-push, All-rest, All-same}
-use Rattle.process_api.specs.Mind.{Mind}
-use Rattle.steps.specs.Seat.{process_of, IsMindIn, IsSeated}
-use Rattle.trace_laws.specs.Step.{Process}
-use Rattle.trace_laws.specs.World.{opened}
+use Rattle.event_list.proofs.Words.{◌≡◌, ◌∷◌, [], ◌++◌, List, map, ap, sym, subst, ◌∙◌, append_assoc, append-nil, All, into_iter_items, map-append, nil_from_length, All-nil, All-push, All-rest, All-same, Mind, process_of, IsMindIn, IsSeated, Process, opened}
 use Rattle.event_list.proofs.list.seats_of.Goals as goal
 
 pub loop-machine-preserved : goal.loop-machine-preserved

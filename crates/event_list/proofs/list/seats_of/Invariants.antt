@@ -1,8 +1,4 @@
-use Rattle.std.proofs.Common.{◌≡◌, ◌++◌, map}
-use Rattle.std.specs.List.{All}
-use Rattle.std.specs.Vec.Iter.{into_iter_items}
-use Rattle.steps.specs.Seat.{process_of, IsMindIn, IsSeated}
-use Rattle.trace_laws.specs.World.{opened}
+use Rattle.event_list.proofs.Words.{◌≡◌, ◌++◌, map, All, into_iter_items, process_of, IsMindIn, IsSeated, opened}
 use Rattle.event_list.proofs.list.seats_of.Given as goal
 
 abbrev pub invariant-loop-machine : goal.invariant-loop-machine

@@ -1,7 +1,6 @@
-use Rattle.std.proofs.Common.{◌≡◌, suc, ap, sym, ◌∙◌, add-one}
+use Rattle.event_list.proofs.Words.{◌≡◌, suc, ap, sym, ◌∙◌, add-one, starts, start_of}
 use Rattle.std.specs.FinMap as events
 use Rattle.process_api.specs.declared.message.StepInput.TheVariants.{Start}
-use Rattle.trace_laws.specs.World.{starts, start_of}
 use Rattle.event_list.proofs.list.starts_of.Goals as goal
 
 pub loop-before-preserved : goal.loop-before-preserved

@@ -1,5 +1,4 @@
-use Rattle.std.proofs.Common.{◌≡◌, ℕ, suc, ◌<◌, get_or, vec_len}
-use Rattle.judges.specs.Ends.{end_tick}
+use Rattle.judges.proofs.Words.{◌≡◌, ℕ, suc, ◌<◌, get_or, vec_len, end_tick}
 use Rattle.judges.proofs.ends.end_ticks.Given as goal
 
 abbrev pub invariant-loop-before : goal.invariant-loop-before

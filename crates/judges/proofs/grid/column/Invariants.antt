@@ -1,7 +1,4 @@
-use Rattle.std.proofs.Common.{◌≡◌, if◌then◌else◌, not, None, Some}
-use Rattle.judges.specs.Ticks.{all_below}
-use Rattle.judges.specs.Track.{suspected_from, trusted_from, latest_below, earliest_below}
-use Rattle.judges.specs.Grid.{place, counts_as_correct}
+use Rattle.judges.proofs.Words.{◌≡◌, if◌then◌else◌, not, None, Some, all_below, suspected_from, trusted_from, latest_below, earliest_below, place, counts_as_correct}
 use Rattle.judges.proofs.grid.column.Given as goal
 
 abbrev pub invariant-loop-i : goal.invariant-loop-i

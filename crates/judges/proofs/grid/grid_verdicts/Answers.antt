@@ -1,5 +1,4 @@
-use Rattle.std.proofs.Common.{◌≡◌, arith, add-one}
-use Rattle.std.proofs.lemmas.Grind.{common_steps}
+use Rattle.judges.proofs.Words.{◌≡◌, arith, add-one, common_steps}
 use Rattle.judges.proofs.grid.grid_verdicts.Goals as goal
 
 pub loop-i-preserved : goal.loop-i-preserved

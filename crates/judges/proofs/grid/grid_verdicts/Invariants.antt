@@ -1,7 +1,4 @@
-use Rattle.std.proofs.Common.{◌≡◌, ◌&&◌, if◌then◌else◌, not, None, Some}
-use Rattle.judges.specs.Ticks.{all_below, any_below}
-use Rattle.judges.specs.Track.{latest_below, earliest_below}
-use Rattle.judges.specs.Grid.{row_suspected, column_suspected, row_trusted, column_trusted, row_right, column_right, counts_as_correct}
+use Rattle.judges.proofs.Words.{◌≡◌, ◌&&◌, if◌then◌else◌, not, None, Some, all_below, any_below, latest_below, earliest_below, row_suspected, column_suspected, row_trusted, column_trusted, row_right, column_right, counts_as_correct}
 use Rattle.judges.proofs.grid.grid_verdicts.Given as goal
 
 abbrev pub invariant-loop-i : goal.invariant-loop-i

@@ -1,6 +1,4 @@
-use Rattle.std.proofs.Common.{◌∙◌, sym, ap, subst, []}
-use Rattle.judges.specs.Agreement.{Agree}
-use Rattle.judges.specs.Outcomes.{outcomes}
+use Rattle.judges.proofs.Words.{◌∙◌, sym, ap, subst, [], Agree, outcomes}
 use Rattle.judges.proofs.Agreement.Agreed.{agrees}
 use Rattle.judges.proofs.outcomes.decisions.Goals as goal
 

@@ -1,5 +1,4 @@
-use Rattle.std.proofs.Common.{◌≡◌, take}
-use Rattle.judges.specs.Inside.Noting.{all_noted}
+use Rattle.judges.proofs.Words.{◌≡◌, take, all_noted}
 use Rattle.judges.proofs.outcomes.note_all.Given as goal
 
 abbrev pub invariant-loop-one : goal.invariant-loop-one

@@ -1,7 +1,4 @@
-use Rattle.std.proofs.Common.{[], cond, eqb, subst}
-use Rattle.std.proofs.lemmas.List.{take_all}
-use Rattle.judges.specs.Pair.{AreTurned}
-use Rattle.judges.specs.Turns.{noted_turns}
+use Rattle.judges.proofs.Words.{[], cond, eqb, subst, take_all, AreTurned, noted_turns}
 use Rattle.judges.proofs.pairs.note_all.Goals as goal
 
 pub returns : goal.returns

@@ -1,6 +1,4 @@
-use Rattle.std.proofs.Common.{◌≡◌, ◌*◌, [], take, length, cond, eqb}
-use Rattle.judges.specs.Pair.{AreTurned}
-use Rattle.judges.specs.Turns.{noted_turns}
+use Rattle.judges.proofs.Words.{◌≡◌, ◌*◌, [], take, length, cond, eqb, AreTurned, noted_turns}
 use Rattle.judges.proofs.pairs.note_all.Given as goal
 
 abbrev pub invariant-loop-one : goal.invariant-loop-one

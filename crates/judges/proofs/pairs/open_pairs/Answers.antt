@@ -1,7 +1,4 @@
-use Rattle.std.proofs.Common.{◌≡◌, ◌⊎◌, ◌<◌, ◌≤◌, ◌+◌, ◌++◌, ℕ, List, inl, inr, ap, ◌∙◌, arith, [], ◌∷◌, get_or, length}
-use Rattle.std.proofs.lemmas.Bool.{cases_lt}
-use Rattle.std.proofs.lemmas.List.{get_or_append_left, get_or_push}
-use Rattle.judges.specs.Ends.{opened_at}
+use Rattle.judges.proofs.Words.{◌≡◌, ◌⊎◌, ◌<◌, ◌≤◌, ◌+◌, ◌++◌, ℕ, List, inl, inr, ap, ◌∙◌, arith, [], ◌∷◌, get_or, length, cases_lt, get_or_append_left, get_or_push, opened_at}
 use Rattle.judges.proofs.pairs.open_pairs.Goals as goal
 
 -- each element is known by its place, also where there is one more

@@ -1,5 +1,4 @@
-use Rattle.std.proofs.Common.{◌≡◌, ℕ, ◌<◌, get_or, vec_len}
-use Rattle.judges.specs.Ends.{opened_at}
+use Rattle.judges.proofs.Words.{◌≡◌, ℕ, ◌<◌, get_or, vec_len, opened_at}
 use Rattle.judges.specs.declared.pair.Pair.{Pair}
 use Rattle.judges.proofs.pairs.open_pairs.Given as goal
 

@@ -1,6 +1,4 @@
-use Rattle.std.proofs.Common.{rules, sym, ◌+◌, ◌-◌, ◌*◌, ◌<◌, ap, ◌∙◌, arith, length}
-use Rattle.std.proofs.lemmas.Nat.{mul-add-lt}
-use Rattle.judges.specs.Pair.{turned}
+use Rattle.judges.proofs.Words.{rules, sym, ◌+◌, ◌-◌, ◌*◌, ◌<◌, ap, ◌∙◌, arith, length, mul-add-lt, turned}
 use Rattle.judges.proofs.Entering.{one_turned}
 use Rattle.judges.proofs.pairs.turn.Goals as goal
 

@@ -1,6 +1,4 @@
-use Rattle.std.proofs.Common.{sym, subst, []}
-use Rattle.judges.specs.Judging.{IsJudging}
-use Rattle.judges.specs.Meaning.{AreVerdicts}
+use Rattle.judges.proofs.Words.{sym, subst, [], IsJudging, AreVerdicts}
 use Rattle.judges.proofs.Meaning.{verdicts_mean}
 use Rattle.judges.proofs.verdicts.judge.Goals as goal
 

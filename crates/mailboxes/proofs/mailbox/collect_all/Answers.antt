@@ -1,7 +1,4 @@
-use Rattle.std.specs.Prelude.{Result, Ok, Err, OnOk}
-use Rattle.std.proofs.lemmas.Result.{on_ok_weaker}
-use Rattle.mailboxes.proofs.Words.{◌≡◌, ◌<◌, ◌++◌, ◌∷◌, ◌∙◌, [], ℕ, List, length, append-nil, append_assoc, ap, arith, nil_from_length, refl, subst, sym, admits, Letter}
-use Rattle.crossbeam_queue.specs.SegBatches.{Holds}
+use Rattle.mailboxes.proofs.Words.{◌≡◌, ◌<◌, ◌++◌, ◌∷◌, ◌∙◌, [], ℕ, List, length, append-nil, append_assoc, ap, arith, nil_from_length, refl, subst, sym, admits, Letter, Result, Ok, Err, OnOk, on_ok_weaker, Holds}
 use Rattle.mailboxes.proofs.mailbox.collect_all.Goals as goal
 
 -- letters that aren't none have a first and a rest

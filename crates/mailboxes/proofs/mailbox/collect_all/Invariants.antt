@@ -1,7 +1,4 @@
-use Rattle.std.specs.Prelude.{OnOk}
-use Rattle.mailboxes.proofs.Words.{◌≡◌, ◌++◌, List, Letter}
-use Rattle.crossbeam_queue.specs.SegBatches.{Holds}
-use Rattle.crossbeam_queue.specs.SegTies.{IsSegPassOf}
+use Rattle.mailboxes.proofs.Words.{◌≡◌, ◌++◌, List, Letter, OnOk, Holds, IsSegPassOf}
 use Rattle.mailboxes.proofs.mailbox.collect_all.Given as goal
 
 abbrev pub invariant-loop-pass : goal.invariant-loop-pass

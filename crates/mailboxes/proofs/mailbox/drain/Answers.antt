@@ -1,6 +1,5 @@
-use Rattle.mailboxes.proofs.Words.{rules, ◌≡◌, ◌∙◌, [], ◌++◌, List, ap, sym, subst, refl, append_assoc, Account, Letter, has_taken, admits, takes, learns}
+use Rattle.mailboxes.proofs.Words.{rules, ◌≡◌, ◌∙◌, [], ◌++◌, List, ap, sym, subst, refl, append_assoc, Account, Letter, has_taken, admits, takes, learns, account}
 use Rattle.std.proofs.lemmas.Option.{MatchOption-at_some}
-use Rattle.ledger.specs.Ledger.{account}
 use Rattle.mailboxes.proofs.mailbox.drain.Goals as goal
 
 -- more letters were taken

@@ -1,5 +1,4 @@
-use Rattle.mailboxes.proofs.Words.{◌≡◌, ◌≢◌, ◌++◌, List, Letter, has_taken}
-use Rattle.crossbeam_queue.specs.SegTies.{IsSegPassOf}
+use Rattle.mailboxes.proofs.Words.{◌≡◌, ◌≢◌, ◌++◌, List, Letter, has_taken, IsSegPassOf}
 use Rattle.mailboxes.proofs.mailbox.drain.Given as goal
 
 abbrev pub invariant-loop : goal.invariant-loop

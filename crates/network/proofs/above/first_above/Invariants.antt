@@ -1,6 +1,5 @@
-use Rattle.std.proofs.Common.{◌≡◌, ◌+◌, ◌-◌, ◌&&◌, nat_lt}
+use Rattle.network.proofs.Basics.{◌≡◌, ◌+◌, ◌-◌, ◌&&◌, nat_lt, find, range_with_len}
 use Rattle.std.specs.FinSet as set
-use Rattle.std.specs.List.{find, range_with_len}
 use Rattle.network.proofs.above.first_above.Given as goal
 
 -- the first one is the first of the rest

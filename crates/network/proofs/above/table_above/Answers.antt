@@ -1,8 +1,4 @@
-use Rattle.std.proofs.Common.{◌≡◌, subst, take, arith, add-one}
-use Rattle.std.specs.List.{All}
-use Rattle.std.proofs.lemmas.List.{take_all}
-use Rattle.std.proofs.lemmas.List.Elements.{All-map}
-use Rattle.network.specs.Above.{AreAllWithin}
+use Rattle.network.proofs.Basics.{◌≡◌, subst, take, arith, add-one, All, take_all, All-map, AreAllWithin}
 use Rattle.network.proofs.ArrayTables.{numbered_image}
 use Rattle.network.proofs.Naming.{all_before}
 use Rattle.network.proofs.above.table_above.Goals as goal

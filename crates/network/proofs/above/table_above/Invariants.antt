@@ -1,6 +1,4 @@
-use Rattle.std.proofs.Common.{take}
-use Rattle.std.specs.List.{All}
-use Rattle.network.specs.Above.{AreAllWithin}
+use Rattle.network.proofs.Basics.{take, All, AreAllWithin}
 use Rattle.network.proofs.above.table_above.Given as goal
 
 abbrev pub invariant-loop-i : goal.invariant-loop-i

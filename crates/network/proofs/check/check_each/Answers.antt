@@ -1,11 +1,4 @@
-use Rattle.std.proofs.Common.{◌≡◌, ◌∙◌, ap, sym, subst, take, arith, rules}
-use Rattle.std.specs.List.{All, filter_map}
-use Rattle.std.proofs.lemmas.List.{take_all}
-use Rattle.std.proofs.lemmas.List.Elements.{All-push}
-use Rattle.toml.specs.Data.{as_table}
-use Rattle.toml.specs.View.{view, table_view}
-use Rattle.scenario.proofs.Among.{tables_of, one_there, none_there}
-use Rattle.network.specs.Refusals.{IsTableOf}
+use Rattle.network.proofs.Basics.{◌≡◌, ◌∙◌, ap, sym, subst, take, arith, rules, All, filter_map, take_all, All-push, as_table, view, table_view, tables_of, one_there, none_there, IsTableOf}
 use Rattle.network.proofs.ArrayTables.{table_numbered}
 use Rattle.network.proofs.check.check_each.Goals as goal
 

@@ -1,8 +1,4 @@
-use Rattle.std.proofs.Common.{take}
-use Rattle.std.specs.List.{All, filter_map}
-use Rattle.toml.specs.Data.{as_table}
-use Rattle.toml.specs.View.{view}
-use Rattle.network.specs.Refusals.{IsTableOf}
+use Rattle.network.proofs.Basics.{take, All, filter_map, as_table, view, IsTableOf}
 use Rattle.network.proofs.check.check_each.Given as goal
 
 abbrev pub invariant-loop-i : goal.invariant-loop-i

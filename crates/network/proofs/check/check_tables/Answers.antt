@@ -1,12 +1,6 @@
-use Rattle.std.proofs.Common.{◌≡◌, ◌∙◌, ◌≤◌, ap, sym, subst, length, true, Some, None, arith, rules}
-use Rattle.std.specs.List.{All}
-use Rattle.toml.specs.Data.{get_member}
-use Rattle.toml.specs.View.{view, items_view, table_view}
+use Rattle.network.proofs.Basics.{◌≡◌, ◌∙◌, ◌≤◌, ap, sym, subst, length, true, Some, None, arith, rules, All, get_member, view, items_view, table_view, most_tables, items_in, key_of, IsTableOf}
 use Rattle.scenario.specs.Table.{all_items, is_of, is_table, tables_at, the_tables}
 use Rattle.scenario.specs.declared.field.Kind.TheVariants as kind
-use Rattle.network.specs.Words.{most_tables}
-use Rattle.network.specs.Fields.{items_in, key_of}
-use Rattle.network.specs.Refusals.{IsTableOf}
 use Rattle.network.proofs.ArrayTables.{are_items, counted, tables_there}
 use Rattle.network.proofs.Checked.{absent, on_ok, present}
 use Rattle.network.proofs.check.check_tables.Goals as goal

@@ -1,7 +1,4 @@
-use Rattle.std.proofs.Common.{◌≡◌, drop, map}
-use Rattle.std.specs.List.{list_any}
-use Rattle.scenario.specs.Table.{same_text}
-use Rattle.network.specs.Fields.{is_listed}
+use Rattle.network.proofs.Basics.{◌≡◌, drop, map, list_any, same_text, is_listed}
 use Rattle.network.proofs.check.is_listed_key.Given as goal
 
 abbrev pub invariant-loop-listed : goal.invariant-loop-listed

@@ -1,8 +1,4 @@
-use Rattle.std.proofs.Common.{◌≡◌, map, string_bytes}
-use Rattle.std.specs.List.{All, Contains}
-use Rattle.toml.specs.View.{table_view}
-use Rattle.scenario.specs.Table.{keys_of}
-use Rattle.network.specs.Fields.{has_unlisted}
+use Rattle.network.proofs.Basics.{◌≡◌, map, string_bytes, All, Contains, table_view, keys_of, has_unlisted}
 use Rattle.network.proofs.Keys.{any_unlisted}
 use Rattle.network.proofs.check.unlisted_key.Given as goal
 

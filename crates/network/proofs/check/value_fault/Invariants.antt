@@ -1,7 +1,4 @@
-use Rattle.std.proofs.Common.{◌≡◌, drop, is_some}
-use Rattle.std.specs.List.{list_any}
-use Rattle.toml.specs.View.{table_view}
-use Rattle.network.specs.Fields.{fault_at, field_of, fields_of, has_fault}
+use Rattle.network.proofs.Basics.{◌≡◌, drop, is_some, list_any, table_view, fault_at, field_of, fields_of, has_fault}
 use Rattle.network.proofs.check.value_fault.Given as goal
 
 abbrev pub invariant-loop-field : goal.invariant-loop-field

@@ -1,6 +1,4 @@
-use Rattle.std.proofs.Common.{ap, length-append, arith, rules}
-use Rattle.network.specs.Drawn.{drawn_of, of_burst, of_each}
-use Rattle.scenario.specs.declared.drawn.LinkOutage.{LinkOutage}
+use Rattle.network.proofs.Basics.{ap, length-append, arith, rules, drawn_of, of_burst, of_each, LinkOutage}
 use Rattle.network.proofs.Adding.{in_turn}
 use Rattle.network.proofs.drawing.draw.Goals as goal
 

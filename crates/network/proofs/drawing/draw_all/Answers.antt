@@ -1,9 +1,4 @@
-use Rattle.std.proofs.Common.{ℕ, ◌∙◌, ap, sym, ◌++◌, List, arith, rules}
-use Rattle.std.specs.List.{flat_map, enumerate_from}
-use Rattle.std.proofs.lemmas.List.{take_all}
-use Rattle.std.proofs.lemmas.List.FromFn.{length-enumerate_from}
-use Rattle.network.specs.Drawn.{most_outages}
-use Rattle.scenario.specs.declared.drawn.LinkOutage.{LinkOutage}
+use Rattle.network.proofs.Basics.{ℕ, ◌∙◌, ap, sym, ◌++◌, List, arith, rules, flat_map, enumerate_from, take_all, length-enumerate_from, most_outages, LinkOutage}
 use Rattle.network.proofs.Adding.{adds_more, full_more, numbered_at}
 use Rattle.network.proofs.drawing.draw_all.Goals as goal
 

@@ -1,5 +1,4 @@
-use Rattle.std.proofs.Common.{◌≡◌, ◌++◌, take}
-use Rattle.std.specs.List.{flat_map, enumerate_from}
+use Rattle.network.proofs.Basics.{◌≡◌, ◌++◌, take, flat_map, enumerate_from}
 use Rattle.network.proofs.drawing.draw_all.Given as goal
 
 -- those of the tables so far

@@ -1,6 +1,4 @@
-use Rattle.std.proofs.Common.{◌≡◌, take}
-use Rattle.std.specs.List.{range_with_len, flat_map}
-use Rattle.network.specs.Groups.{links_from}
+use Rattle.network.proofs.Basics.{◌≡◌, take, range_with_len, flat_map, links_from}
 use Rattle.network.proofs.group.links_between.Given as goal
 
 -- those of the senders so far

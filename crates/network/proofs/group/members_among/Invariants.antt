@@ -1,6 +1,4 @@
-use Rattle.std.proofs.Common.{◌≡◌, filter, take}
-use Rattle.std.specs.List.{range_with_len}
-use Rattle.network.specs.Groups.{holds}
+use Rattle.network.proofs.Basics.{◌≡◌, filter, take, range_with_len, holds}
 use Rattle.network.proofs.group.members_among.Given as goal
 
 -- those so far

@@ -1,6 +1,4 @@
-use Rattle.std.proofs.Common.{ℕ, ◌∙◌, ◌++◌, ◌∷◌, [], ap, if◌then◌else◌, filter, map, arith}
-use Rattle.network.specs.Groups.{joins}
-use Rattle.network.specs.declared.group.Ends.{Ends}
+use Rattle.network.proofs.Basics.{ℕ, ◌∙◌, ◌++◌, ◌∷◌, [], ap, if◌then◌else◌, filter, map, arith, joins, Ends}
 use Rattle.network.proofs.Adding.{all_taken, mapped_more}
 use Rattle.network.proofs.group.push_links_from.Goals as goal
 

@@ -1,7 +1,4 @@
-use Rattle.std.proofs.Common.{ℕ, ◌≡◌, ◌++◌, filter, map, take}
-use Rattle.std.specs.List.{range_with_len}
-use Rattle.network.specs.Groups.{joins}
-use Rattle.network.specs.declared.group.Ends.{Ends}
+use Rattle.network.proofs.Basics.{ℕ, ◌≡◌, ◌++◌, filter, map, take, range_with_len, joins, Ends}
 use Rattle.network.proofs.group.push_links_from.Given as goal
 
 -- those so far

@@ -1,7 +1,4 @@
-use Rattle.std.proofs.Common.{◌∙◌, [], ap, arith}
-use Rattle.std.specs.List.{flat_map, range_with_len}
-use Rattle.std.proofs.lemmas.List.FromFn.{length-range_with_len}
-use Rattle.network.specs.Laid.{laid_from, laid_links}
+use Rattle.network.proofs.Basics.{◌∙◌, [], ap, arith, flat_map, range_with_len, length-range_with_len, laid_from, laid_links}
 use Rattle.network.proofs.Adding.{adds_more, all_taken, one_at}
 use Rattle.network.proofs.laid.laid_links.Goals as goal
 

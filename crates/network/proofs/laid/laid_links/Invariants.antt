@@ -1,6 +1,4 @@
-use Rattle.std.proofs.Common.{◌≡◌, take}
-use Rattle.std.specs.List.{range_with_len, flat_map}
-use Rattle.network.specs.Laid.{laid_from}
+use Rattle.network.proofs.Basics.{◌≡◌, take, range_with_len, flat_map, laid_from}
 use Rattle.network.proofs.laid.laid_links.Given as goal
 
 -- those of the senders so far

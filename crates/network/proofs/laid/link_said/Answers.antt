@@ -1,8 +1,6 @@
-use Rattle.std.proofs.Common.{◌∙◌, ap, sym, map, Some, None, if◌then◌else◌}
+use Rattle.network.proofs.Basics.{◌∙◌, ap, sym, map, Some, None, if◌then◌else◌, take_all, LinkTable}
 use Rattle.std.specs.List.{filter, last_or}
-use Rattle.std.proofs.lemmas.List.{take_all}
 use Rattle.network.specs.Laid.{is_of, link_said}
-use Rattle.network.specs.declared.network.LinkTable.{LinkTable}
 use Rattle.network.proofs.Later.{later}
 use Rattle.network.proofs.laid.link_said.Goals as goal
 

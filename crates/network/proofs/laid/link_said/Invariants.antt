@@ -1,7 +1,6 @@
-use Rattle.std.proofs.Common.{◌≡◌, map, take, None}
+use Rattle.network.proofs.Basics.{◌≡◌, map, take, None, LinkTable}
 use Rattle.std.specs.List.{filter, last_or}
 use Rattle.network.specs.Laid.{is_of}
-use Rattle.network.specs.declared.network.LinkTable.{LinkTable}
 use Rattle.network.proofs.laid.link_said.Given as goal
 
 -- what was said last so far

@@ -1,8 +1,4 @@
-use Rattle.std.proofs.Common.{ℕ, ◌∙◌, ap, ◌++◌, List, arith}
-use Rattle.std.specs.List.{flat_map, range_with_len}
-use Rattle.std.specs.Option.{option_to_list}
-use Rattle.std.proofs.lemmas.List.FromFn.{length-range_with_len}
-use Rattle.network.specs.Laid.{laid_on}
+use Rattle.network.proofs.Basics.{ℕ, ◌∙◌, ap, ◌++◌, List, arith, flat_map, range_with_len, option_to_list, length-range_with_len, laid_on}
 use Rattle.network.specs.declared.laid.LaidLink.{LaidLink}
 use Rattle.network.proofs.Adding.{adds_more, all_taken, one_at}
 use Rattle.network.proofs.laid.push_laid_from.Goals as goal

@@ -1,7 +1,4 @@
-use Rattle.std.proofs.Common.{◌≡◌, ◌++◌, take}
-use Rattle.std.specs.List.{range_with_len, flat_map}
-use Rattle.std.specs.Option.{option_to_list}
-use Rattle.network.specs.Laid.{laid_on}
+use Rattle.network.proofs.Basics.{◌≡◌, ◌++◌, take, range_with_len, flat_map, option_to_list, laid_on}
 use Rattle.network.proofs.laid.push_laid_from.Given as goal
 
 -- those so far

@@ -1,9 +1,4 @@
-use Rattle.std.proofs.Common.{◌≡◌, ◌∙◌, ap, sym, subst, take, arith}
-use Rattle.std.specs.List.{AllZip, filter_map}
-use Rattle.std.proofs.lemmas.List.{take_all}
-use Rattle.toml.specs.Data.{as_table}
-use Rattle.toml.specs.View.{view, table_view}
-use Rattle.scenario.proofs.Among.{tables_of, one_there, none_there}
+use Rattle.network.proofs.Basics.{◌≡◌, ◌∙◌, ap, sym, subst, take, arith, AllZip, filter_map, take_all, as_table, view, table_view, tables_of, one_there, none_there}
 use Rattle.network.proofs.ArrayTables.{AllZip-more}
 use Rattle.network.proofs.read.read_each.Goals as goal
 

@@ -1,7 +1,4 @@
-use Rattle.std.proofs.Common.{take}
-use Rattle.std.specs.List.{AllZip, filter_map}
-use Rattle.toml.specs.Data.{as_table}
-use Rattle.toml.specs.View.{view}
+use Rattle.network.proofs.Basics.{take, AllZip, filter_map, as_table, view}
 use Rattle.network.proofs.read.read_each.Given as goal
 
 abbrev pub invariant-loop-value : goal.invariant-loop-value

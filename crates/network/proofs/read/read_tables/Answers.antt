@@ -1,10 +1,6 @@
-use Rattle.std.proofs.Common.{◌≡◌, ◌∙◌, ap, sym, subst, true, false, Some, None, rules, IfOk}
-use Rattle.std.specs.List.{AllZip}
-use Rattle.toml.specs.Data.{get_member}
-use Rattle.toml.specs.View.{view, items_view, table_view}
+use Rattle.network.proofs.Basics.{◌≡◌, ◌∙◌, ap, sym, subst, true, false, Some, None, rules, IfOk, AllZip, get_member, view, items_view, table_view, key_of}
 use Rattle.scenario.specs.Table.{is_of, tables_at, the_tables}
 use Rattle.scenario.specs.declared.field.Kind.TheVariants as kind
-use Rattle.network.specs.Fields.{key_of}
 use Rattle.network.proofs.ArrayTables.{nothing_there, tables_missing, tables_there}
 use Rattle.network.proofs.read.read_tables.Goals as goal
 

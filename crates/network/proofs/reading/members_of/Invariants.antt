@@ -1,8 +1,6 @@
-use Rattle.std.proofs.Common.{◌≡◌, drop}
+use Rattle.network.proofs.Basics.{◌≡◌, drop, items_view, processes_in}
 use Rattle.std.specs.FinSet as set
 use Rattle.process_api.specs.Sets.{insert_all}
-use Rattle.toml.specs.View.{items_view}
-use Rattle.network.specs.Reading.{processes_in}
 use Rattle.network.proofs.reading.members_of.Given as goal
 
 abbrev pub invariant-loop-value : goal.invariant-loop-value

@@ -1,6 +1,4 @@
-use Rattle.std.proofs.Common.{◌≡◌, map, take}
-use Rattle.toml.specs.View.{view}
-use Rattle.network.specs.Reading.{number_of}
+use Rattle.network.proofs.Basics.{◌≡◌, map, take, view, number_of}
 use Rattle.network.proofs.reading.numbers_of.Given as goal
 
 abbrev pub invariant-loop-value : goal.invariant-loop-value

@@ -1,6 +1,4 @@
-use Rattle.std.proofs.Common.{◌≡◌, ◌∙◌, sym, take, arith}
-use Rattle.std.proofs.lemmas.List.{take_all}
-use Rattle.network.specs.Reading.{outage_of}
+use Rattle.network.proofs.Basics.{◌≡◌, ◌∙◌, sym, take, arith, take_all, outage_of}
 use Rattle.network.proofs.Firsts.{each_view}
 use Rattle.network.proofs.reading.outages_of.Goals as goal
 

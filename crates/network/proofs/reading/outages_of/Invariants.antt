@@ -1,6 +1,4 @@
-use Rattle.std.proofs.Common.{◌≡◌, map, take}
-use Rattle.toml.specs.View.{view}
-use Rattle.network.specs.Reading.{outage_of}
+use Rattle.network.proofs.Basics.{◌≡◌, map, take, view, outage_of}
 use Rattle.network.proofs.reading.outages_of.Given as goal
 
 abbrev pub invariant-loop-value : goal.invariant-loop-value

@@ -1,7 +1,4 @@
-use Rattle.std.proofs.Common.{◌≡◌, drop}
-use Rattle.toml.specs.View.{items_view}
-use Rattle.scenario.specs.Table.{all_items}
-use Rattle.network.specs.Fields.{is_numbers}
+use Rattle.network.proofs.Basics.{◌≡◌, drop, items_view, all_items, is_numbers}
 use Rattle.network.proofs.shape.are_groups.Given as goal
 
 abbrev pub invariant-loop-value : goal.invariant-loop-value

@@ -1,6 +1,4 @@
-use Rattle.std.proofs.Common.{◌≡◌, drop}
-use Rattle.toml.specs.View.{items_view}
-use Rattle.network.specs.Fields.{first_of, first_outside}
+use Rattle.network.proofs.Basics.{◌≡◌, drop, items_view, first_of, first_outside}
 use Rattle.network.proofs.shape.first_outside_each.Given as goal
 
 abbrev pub invariant-loop-value : goal.invariant-loop-value

@@ -1,6 +1,4 @@
-use Rattle.std.proofs.Common.{◌≡◌, drop}
-use Rattle.toml.specs.View.{items_view}
-use Rattle.network.specs.Fields.{any_item, is_empty_array}
+use Rattle.network.proofs.Basics.{◌≡◌, drop, items_view, any_item, is_empty_array}
 use Rattle.network.proofs.shape.has_empty_array.Given as goal
 
 abbrev pub invariant-loop-value : goal.invariant-loop-value

@@ -1,13 +1,4 @@
-use Rattle.std.proofs.Common.{◌≡◌, ◌<◌, ◌∙◌, ap, sym, subst, ◌++◌, List, length, arith, rules}
-use Rattle.std.specs.List.{flat_map}
-use Rattle.std.proofs.lemmas.Grind.{common_steps}
-use Rattle.network.specs.Groups.{links_of}
-use Rattle.network.specs.Words.{Words, stream_number, stream_of, words_of}
-use Rattle.scenario_record.specs.declared.outage.Outage.{Outage}
-use Rattle.network.specs.Drawn.{alone, most_outages, on_each}
-use Rattle.network.specs.Inside.Coming.{to_come}
-use Rattle.network.specs.declared.group.Ends.{Ends}
-use Rattle.scenario.specs.declared.drawn.LinkOutage.{LinkOutage}
+use Rattle.network.proofs.Basics.{◌≡◌, ◌<◌, ◌∙◌, ap, sym, subst, ◌++◌, List, length, arith, rules, flat_map, common_steps, links_of, Words, stream_number, stream_of, words_of, Outage, alone, most_outages, on_each, to_come, Ends, LinkOutage}
 use Rattle.network.proofs.Adding.{full_more}
 use Rattle.network.proofs.tables.draw_alone.Goals as goal
 

@@ -1,6 +1,4 @@
-use Rattle.std.proofs.Common.{◌≡◌, ◌++◌, take}
-use Rattle.std.specs.List.{flat_map}
-use Rattle.network.specs.Drawn.{alone}
+use Rattle.network.proofs.Basics.{◌≡◌, ◌++◌, take, flat_map, alone}
 use Rattle.network.proofs.tables.draw_alone.Given as goal
 
 -- those of the links so far

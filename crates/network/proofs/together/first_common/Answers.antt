@@ -1,5 +1,4 @@
-use Rattle.std.proofs.Common.{◌&&◌, ◌∙◌}
-use Rattle.network.specs.Groups.{holds}
+use Rattle.network.proofs.Basics.{◌&&◌, ◌∙◌, holds}
 use Rattle.network.proofs.Firsts.{passed_next}
 use Rattle.network.proofs.together.first_common.Goals as goal
 

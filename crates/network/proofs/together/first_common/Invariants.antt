@@ -1,6 +1,4 @@
-use Rattle.std.proofs.Common.{◌≡◌, ◌+◌, ◌-◌, ◌&&◌}
-use Rattle.network.specs.Groups.{holds}
-use Rattle.std.specs.List.{find, range_with_len}
+use Rattle.network.proofs.Basics.{◌≡◌, ◌+◌, ◌-◌, ◌&&◌, holds, find, range_with_len}
 use Rattle.network.proofs.together.first_common.Given as goal
 
 -- the first one is the first of the rest

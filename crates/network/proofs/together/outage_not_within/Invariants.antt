@@ -1,8 +1,4 @@
-use Rattle.std.proofs.Common.{◌≡◌, drop, not}
-use Rattle.toml.specs.View.{items_view}
-use Rattle.std.specs.List.{find}
-use Rattle.network.specs.Reading.{each, outage_of}
-use Rattle.network.specs.Refusals.{lies_within}
+use Rattle.network.proofs.Basics.{◌≡◌, drop, not, items_view, find, each, outage_of, lies_within}
 use Rattle.network.proofs.together.outage_not_within.Given as goal
 
 abbrev pub invariant-loop-value : goal.invariant-loop-value

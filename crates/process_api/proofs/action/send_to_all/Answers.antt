@@ -1,5 +1,4 @@
-use Rattle.std.proofs.Common.{◌∙◌, ◌++◌, ◌∷◌, [], ap}
-use Rattle.process_api.specs.declared.action.Action.TheVariants.{Send}
+use Rattle.process_api.proofs.Basics.{◌∙◌, ◌++◌, ◌∷◌, [], ap, Send}
 use Rattle.process_api.proofs.Numbering.{appended}
 use Rattle.process_api.proofs.action.send_to_all.Goals as goal
 

@@ -1,5 +1,4 @@
-use Rattle.std.proofs.Common.{◌≡◌, ◌++◌}
-use Rattle.process_api.specs.Answer.{to_all}
+use Rattle.process_api.proofs.Basics.{◌≡◌, ◌++◌, to_all}
 use Rattle.process_api.proofs.action.send_to_all.Given as goal
 
 abbrev pub invariant-loop-before : goal.invariant-loop-before

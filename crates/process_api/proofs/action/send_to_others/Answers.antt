@@ -1,6 +1,4 @@
-use Rattle.std.proofs.Common.{◌≡◌, ◌∷◌, [], ◌++◌, ℕ, ◌+◌, Bool, not, nat_eq, ap, sym, ◌∙◌}
-use Rattle.process_api.specs.declared.action.Action.{Action}
-use Rattle.process_api.specs.declared.action.Action.TheVariants.{Send}
+use Rattle.process_api.proofs.Basics.{◌≡◌, ◌∷◌, [], ◌++◌, ℕ, ◌+◌, Bool, not, nat_eq, ap, sym, ◌∙◌, Action, Send}
 use Rattle.process_api.proofs.Numbering.{appended-passes, appended-fails}
 use Rattle.process_api.proofs.action.send_to_others.Goals as goal
 use Rattle.process_api.proofs.action.send_to_others.Goals.{then-ne+in_ok-copy+in_ok-send_to, else-ne}

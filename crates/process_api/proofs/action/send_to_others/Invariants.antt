@@ -1,5 +1,4 @@
-use Rattle.std.proofs.Common.{◌≡◌, ◌++◌}
-use Rattle.process_api.specs.Answer.{to_others}
+use Rattle.process_api.proofs.Basics.{◌≡◌, ◌++◌, to_others}
 use Rattle.process_api.proofs.action.send_to_others.Given as goal
 
 abbrev pub invariant-loop-before : goal.invariant-loop-before

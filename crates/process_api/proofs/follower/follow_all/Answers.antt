@@ -1,5 +1,4 @@
-use Rattle.std.proofs.Common.{◌∙◌, ◌++◌, ◌∷◌, [], sym, ap, subst, take, append_assoc}
-use Rattle.std.proofs.lemmas.List.{take_more}
+use Rattle.process_api.proofs.Basics.{◌∙◌, ◌++◌, ◌∷◌, [], sym, ap, subst, take, append_assoc, take_more}
 use Rattle.process_api.proofs.follower.follow_all.Goals as goal
 
 pub loop-entry-preserved : goal.loop-entry-preserved

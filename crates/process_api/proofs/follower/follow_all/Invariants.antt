@@ -1,5 +1,4 @@
-use Rattle.std.proofs.Common.{◌++◌, List, take}
-use Rattle.process_api.specs.EntryRecord.{EntryRecord}
+use Rattle.process_api.proofs.Basics.{◌++◌, List, take, EntryRecord}
 use Rattle.process_api.proofs.follower.follow_all.Given as goal
 
 -- those so far were told

@@ -1,6 +1,5 @@
-use Rattle.std.proofs.Common.{◌≡◌}
+use Rattle.process_api.proofs.Basics.{◌≡◌, by_number, since_round}
 use Rattle.std.specs.BTreeMap.{btree_map_len}
-use Rattle.process_api.specs.Letters.{by_number, since_round}
 use Rattle.process_api.proofs.letters.drop_rounds_before.Given as goal
 
 abbrev pub invariant-loop-first : goal.invariant-loop-first

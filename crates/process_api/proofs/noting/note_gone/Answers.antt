@@ -1,7 +1,4 @@
-use Rattle.std.proofs.Common.{◌++◌, ap, ◌∙◌, map}
-use Rattle.process_api.specs.InOrder.{in_order}
-use Rattle.process_api.specs.Sets.{up_to}
-use Rattle.process_api.specs.Inside.Noting.{note_of}
+use Rattle.process_api.proofs.Basics.{◌++◌, ap, ◌∙◌, map, in_order, up_to, note_of}
 use Rattle.process_api.specs.declared.action.Action.TheVariants as action
 use Rattle.process_api.proofs.Rising.{gone-members}
 use Rattle.process_api.proofs.noting.note_gone.Goals as goal

@@ -1,6 +1,4 @@
-use Rattle.std.proofs.Common.{◌≡◌, ◌++◌, map}
-use Rattle.process_api.specs.Sets.{gone}
-use Rattle.process_api.specs.Inside.Noting.{note_of}
+use Rattle.process_api.proofs.Basics.{◌≡◌, ◌++◌, map, gone, note_of}
 use Rattle.process_api.specs.declared.action.Action.TheVariants as action
 use Rattle.process_api.proofs.noting.note_gone.Given as goal
 

@@ -1,5 +1,4 @@
-use Rattle.std.proofs.Common.{◌∙◌, ap}
-use Rattle.process_api.specs.Rows.{cell_of}
+use Rattle.process_api.proofs.Basics.{◌∙◌, ap, cell_of}
 use Rattle.process_api.proofs.Rows.{pushed}
 use Rattle.process_api.proofs.row.widen.Goals as goal
 

@@ -1,5 +1,4 @@
-use Rattle.std.proofs.Common.{◌≡◌, ◌-◌, length}
-use Rattle.process_api.specs.Rows.{cell_of}
+use Rattle.process_api.proofs.Basics.{◌≡◌, ◌-◌, length, cell_of}
 use Rattle.process_api.proofs.row.widen.Given as goal
 
 abbrev pub invariant-wide : goal.invariant-wide

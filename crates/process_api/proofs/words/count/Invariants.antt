@@ -1,6 +1,5 @@
-use Rattle.std.proofs.Common.{◌≡◌, ◌*◌, ◌≤◌}
+use Rattle.process_api.proofs.Basics.{◌≡◌, ◌*◌, ◌≤◌, is_set, members}
 use Rattle.std.specs.FinSet as set
-use Rattle.process_api.specs.Inside.Bits.{is_set, members}
 use Rattle.process_api.proofs.words.count.Given as goal
 
 abbrev pub invariant-loop-k : goal.invariant-loop-k

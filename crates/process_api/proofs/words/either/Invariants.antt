@@ -1,5 +1,4 @@
-use Rattle.std.proofs.Common.{◌≡◌, ℕ, ◌<◌, ◌≤◌, length, get_or, bit_or}
-use Rattle.process_api.specs.declared.words.TheConstants.{WORDS}
+use Rattle.process_api.proofs.Basics.{◌≡◌, ℕ, ◌<◌, ◌≤◌, length, get_or, bit_or, WORDS}
 use Rattle.process_api.proofs.words.either.Given as goal
 
 abbrev pub invariant-loop-k : goal.invariant-loop-k

@@ -1,6 +1,4 @@
-use Rattle.std.proofs.Common.{◌≡◌, ℕ, ◌*◌, ◌-◌, ◌<◌, cond, nat_lt, length, get_or}
-use Rattle.std.specs.Int.{bit_at}
-use Rattle.process_api.specs.declared.words.TheConstants.{WORDS}
+use Rattle.process_api.proofs.Basics.{◌≡◌, ℕ, ◌*◌, ◌-◌, ◌<◌, cond, nat_lt, length, get_or, bit_at, WORDS}
 use Rattle.process_api.proofs.words.low.Given as goal
 
 abbrev pub invariant-loop-k : goal.invariant-loop-k

@@ -1,7 +1,4 @@
-use Rattle.std.proofs.Common.{◌≡◌, ◌*◌, ◌%◌, ◌^◌, ◌-◌, ◌<◌, ◌≤◌, ◌∙◌, ap, sym, arith, true, cond, nat_lt, bit_and, ℕ}
-use Rattle.std.specs.Int.{bit_at}
-use Rattle.std.proofs.lemmas.Nat.{one_shl}
-use Rattle.std.proofs.lemmas.Bool.Decides.{nat_tests}
+use Rattle.process_api.proofs.Basics.{◌≡◌, ◌*◌, ◌%◌, ◌^◌, ◌-◌, ◌<◌, ◌≤◌, ◌∙◌, ap, sym, arith, true, cond, nat_lt, bit_and, ℕ, bit_at, one_shl, nat_tests}
 use Rattle.process_api.proofs.BitWords.{low_bit}
 use Rattle.process_api.proofs.words.low_bits.Goals as goal
 

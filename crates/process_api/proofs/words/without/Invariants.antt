@@ -1,5 +1,4 @@
-use Rattle.std.proofs.Common.{◌≡◌, ℕ, ◌<◌, ◌≤◌, length, get_or, bit_and, bit_xor}
-use Rattle.process_api.specs.declared.words.TheConstants.{WORDS}
+use Rattle.process_api.proofs.Basics.{◌≡◌, ℕ, ◌<◌, ◌≤◌, length, get_or, bit_and, bit_xor, WORDS}
 use Rattle.process_api.proofs.words.without.Given as goal
 
 abbrev pub invariant-loop-k : goal.invariant-loop-k

@@ -1,7 +1,4 @@
-use Rattle.std.proofs.Common.{◌≡◌, rules, subst, sym}
-use Rattle.promised.specs.Kept.{KeepsPromises}
-use Rattle.promised.specs.Links.{watched_links}
-use Rattle.promised.specs.Promised.{promised}
+use Rattle.promised.proofs.Words.{◌≡◌, rules, subst, sym, KeepsPromises, watched_links, promised}
 use Rattle.promised.proofs.Promising.{same_numbers}
 use Rattle.promised.proofs.Keeping.{promises_kept}
 use Rattle.promised.proofs.bounds.promised_bounds.Goals as goal

@@ -1,10 +1,5 @@
-use Rattle.std.proofs.Common.{◌≡◌, ◌∙◌, ◌+◌, ◌++◌, rules, ap, append_assoc, sym, ℕ, Bool, true, false, [], ◌∷◌, filter, map}
-use Rattle.std.specs.List.{range_with_len}
-use Rattle.process_api.specs.Watching.{is_watched}
+use Rattle.promised.proofs.Words.{◌≡◌, ◌∙◌, ◌+◌, ◌++◌, rules, ap, append_assoc, sym, ℕ, Bool, true, false, [], ◌∷◌, filter, map, range_with_len, is_watched, watched_link, watch_of, WatchedLink}
 use Rattle.promised.proofs.Linking.{chosen_more, passed_more}
-use Rattle.promised.specs.Links.{watched_link}
-use Rattle.detector_bounds.specs.Watched.{watch_of}
-use Rattle.promised.specs.declared.watching.WatchedLink.{WatchedLink}
 use Rattle.promised.proofs.watching.push_links.Goals as goal
 use Rattle.promised.proofs.watching.push_links.Goals.{then-takes_in+in_ok-push, else-takes_in}
 

@@ -1,8 +1,4 @@
-use Rattle.std.proofs.Common.{◌≡◌, ◌++◌, filter, map}
-use Rattle.std.specs.List.{range_with_len}
-use Rattle.process_api.specs.Watching.{is_watched}
-use Rattle.promised.specs.Links.{watched_link}
-use Rattle.detector_bounds.specs.Watched.{watch_of}
+use Rattle.promised.proofs.Words.{◌≡◌, ◌++◌, filter, map, range_with_len, is_watched, watched_link, watch_of}
 use Rattle.promised.proofs.watching.push_links.Given as goal
 
 abbrev pub invariant-loop-before : goal.invariant-loop-before

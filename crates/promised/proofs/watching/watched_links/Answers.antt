@@ -1,6 +1,5 @@
-use Rattle.std.proofs.Common.{rules}
+use Rattle.promised.proofs.Words.{rules, links_to}
 use Rattle.promised.proofs.Linking.{each_more}
-use Rattle.promised.specs.Links.{links_to}
 use Rattle.promised.proofs.watching.watched_links.Goals as goal
 
 pub loop-before-preserved : goal.loop-before-preserved

@@ -1,6 +1,5 @@
-use Rattle.std.proofs.Common.{◌≡◌}
+use Rattle.promised.proofs.Words.{◌≡◌, links_to}
 use Rattle.std.specs.List.{flat_map, range_with_len}
-use Rattle.promised.specs.Links.{links_to}
 use Rattle.promised.proofs.watching.watched_links.Given as goal
 
 abbrev pub invariant-loop-before : goal.invariant-loop-before

@@ -1,18 +1,7 @@
-use Rattle.std.proofs.Common.{rules, ◌<◌, ◌^◌, ap, subst, refl, Err, Ok, length, arith}
-use Rattle.std.specs.Prelude.{IsTrue}
-use Rattle.trace_laws.proofs.Closed.{has_trace}
+use Rattle.qos_report.proofs.Words.{rules, ◌<◌, ◌^◌, ap, subst, refl, Err, Ok, length, arith, IsTrue, has_trace, setting_sound, setting_of, IsSound, Memory, Write, if_reason, report_text, IsTextWhere, Running, WroteFront, WroteWhere, rows_text, trace_header}
 use Rattle.trace_laws.proofs.Effects.{trace_has_causes, trace_takes_once}
-use Rattle.trace_laws.proofs.Sound.{setting_sound}
-use Rattle.trace_laws.specs.ScenarioSetting.{setting_of}
-use Rattle.trace_laws.specs.Setting.{IsSound}
-use Rattle.process_api.specs.declared.run_error.RunError.TheVariants.{Memory, Write}
 use Rattle.qos_report.proofs.Breaking.{breaks_at_close, breaks_at_opening, breaks_in_rows, breaks_in_write, part_in_header, part_in_report, wrote_printed}
-use Rattle.reporting.proofs.Fed.{if_reason}
 use Rattle.runs.proofs.Finishing.{finishes}
-use Rattle.reporting.specs.ReportText.{report_text}
-use Rattle.reporting.specs.Running.{IsTextWhere, Running}
-use Rattle.qos_report.specs.Inside.Streaming.{WroteFront, WroteWhere}
-use Rattle.reporting.specs.TraceText.{rows_text, trace_header}
 use Rattle.qos_report.proofs.bench.bench_windows.Goals as goal
 
 pub returns-clause-done : goal.returns-clause-done

@@ -1,5 +1,4 @@
-use Rattle.reporting.specs.TraceText.{trace_header}
-use Rattle.reporting.proofs.Fed.{err_part}
+use Rattle.qos_report.proofs.Words.{trace_header, err_part}
 use Rattle.qos_report.proofs.streaming.write_header.Goals as goal
 
 pub returns-then-is_traced-clause-whole : goal.returns-then-is_traced-clause-whole

@@ -1,10 +1,5 @@
-use Rattle.std.proofs.Common.{◌≡◌, ◌∙◌, ◌++◌, ◌∷◌, [], length, ap, subst, arith, Err}
-use Rattle.std.proofs.lemmas.List.{length-append}
+use Rattle.qos_report.proofs.Words.{◌≡◌, ◌∙◌, ◌++◌, ◌∷◌, [], length, ap, subst, arith, Err, length-append, on_err, written, handed, Wrote, WrotePart}
 use Rattle.csv.specs.Writing.{writer_pending}
-use Rattle.windows.proofs.Handed.{on_err}
-use Rattle.reporting.specs.Rows.{written}
-use Rattle.reporting.specs.TraceText.{handed}
-use Rattle.reporting.specs.Writing.{Wrote, WrotePart}
 use Rattle.qos_report.proofs.Streamed.{all_gone, part_out, row_kept}
 use Rattle.qos_report.proofs.streaming.write_row.Goals as goal
 

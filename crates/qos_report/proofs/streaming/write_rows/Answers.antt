@@ -1,11 +1,4 @@
-use Rattle.std.proofs.Common.{◌≡◌, ◌∙◌, ◌++◌, ◌∷◌, [], suc, sym, ap, subst, true, take, drop, arith}
-use Rattle.std.proofs.lemmas.List.{take_all, take_more}
-use Rattle.windows.proofs.Handed.{on_err}
-use Rattle.qos_report.specs.Inside.Streaming.{AreUnderWay, WroteFront}
-use Rattle.reporting.specs.Rows.{written}
-use Rattle.reporting.specs.TraceText.{rows_text}
-use Rattle.reporting.specs.Writing.{Wrote, WrotePart}
-use Rattle.reporting.proofs.Fed.{err_part, on_ok, split_at}
+use Rattle.qos_report.proofs.Words.{◌≡◌, ◌∙◌, ◌++◌, ◌∷◌, [], suc, sym, ap, subst, true, take, drop, arith, take_all, take_more, on_err, AreUnderWay, WroteFront, written, rows_text, Wrote, WrotePart, err_part, on_ok, split_at}
 use Rattle.qos_report.proofs.Streamed.{all_out, first_out, front_more, front_none, part_out, under_way_first}
 use Rattle.qos_report.proofs.streaming.write_rows.Goals as goal
 

@@ -1,5 +1,4 @@
-use Rattle.std.proofs.Common.{take}
-use Rattle.qos_report.specs.Inside.Streaming.{AreUnderWay}
+use Rattle.qos_report.proofs.Words.{take, AreUnderWay}
 use Rattle.qos_report.proofs.streaming.write_rows.Given as goal
 
 -- rows of the entries so far

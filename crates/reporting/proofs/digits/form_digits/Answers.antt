@@ -1,5 +1,4 @@
-use Rattle.std.proofs.Common.{arith, rules}
-use Rattle.std.proofs.lemmas.Fmt.{length-decimal-le}
+use Rattle.reporting.proofs.Words.{arith, rules, length-decimal-le}
 use Rattle.reporting.proofs.NoQuotes.{plain_decimal}
 use Rattle.reporting.proofs.digits.form_digits.Goals as goal
 

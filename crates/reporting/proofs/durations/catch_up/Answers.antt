@@ -1,6 +1,4 @@
-use Rattle.std.proofs.Common.{get_or, ap, ◌∙◌, arith}
-use Rattle.std.proofs.lemmas.List.{length-set}
-use Rattle.reporting.specs.Durations.{caught, lists_in}
+use Rattle.reporting.proofs.Words.{get_or, ap, ◌∙◌, arith, length-set, caught, lists_in}
 use Rattle.reporting.proofs.Listing.{caught_next}
 use Rattle.reporting.proofs.durations.catch_up.Goals as goal
 

@@ -1,5 +1,4 @@
-use Rattle.std.proofs.Common.{◌≡◌, length}
-use Rattle.reporting.specs.Durations.{AreCaught, lists_in}
+use Rattle.reporting.proofs.Words.{◌≡◌, length, AreCaught, lists_in}
 use Rattle.reporting.proofs.durations.catch_up.Given as goal
 
 abbrev pub invariant-loop-place : goal.invariant-loop-place

@@ -1,7 +1,4 @@
-use Rattle.std.proofs.Common.{◌≡◌, ◌-◌, suc, ◌++◌, map}
-use Rattle.process_api.specs.Numbers.{others}
-use Rattle.reporting.specs.Meter.{closed}
-use Rattle.reporting.specs.LayerPairs.{metered}
+use Rattle.reporting.proofs.Words.{◌≡◌, ◌-◌, suc, ◌++◌, map, others, closed, metered}
 use Rattle.reporting.proofs.layer_pairs.close_row.Given as goal
 
 abbrev pub invariant-loop-column : goal.invariant-loop-column

@@ -1,5 +1,4 @@
-use Rattle.std.proofs.Common.{◌≡◌, ◌++◌}
-use Rattle.reporting.specs.LayerPairs.{closed_rows}
+use Rattle.reporting.proofs.Words.{◌≡◌, ◌++◌, closed_rows}
 use Rattle.reporting.proofs.layer_pairs.close_rows.Given as goal
 
 abbrev pub invariant-loop-row : goal.invariant-loop-row

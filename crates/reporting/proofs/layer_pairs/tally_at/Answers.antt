@@ -1,8 +1,4 @@
-use Rattle.std.proofs.Common.{◌≡◌, ◌+◌, ◌*◌, ◌/◌, ◌%◌, sym, ap, ◌∙◌, arith, get_or}
-use Rattle.std.proofs.Math.Nat.{mod-add-div'}
-use Rattle.judges.specs.Pair.{opened, kept_at}
-use Rattle.reporting.specs.Durations.{pair_at, tally_at}
-use Rattle.reporting.specs.Tally.{counted, new_tally}
+use Rattle.reporting.proofs.Words.{◌≡◌, ◌+◌, ◌*◌, ◌/◌, ◌%◌, sym, ap, ◌∙◌, arith, get_or, mod-add-div', opened, kept_at, pair_at, tally_at, counted, new_tally}
 use Rattle.reporting.proofs.layer_pairs.tally_at.Goals as goal
 
 pub returns-then-closed : goal.returns-then-closed

@@ -1,7 +1,5 @@
-use Rattle.std.proofs.Common.{◌≡◌, ◌++◌, take}
-use Rattle.std.specs.List.{flat_map}
+use Rattle.reporting.proofs.Words.{◌≡◌, ◌++◌, take, flat_map, IsBetweenRows, row_of, text_of}
 use Rattle.reporting.specs.LettersText.{letters_header, fields_of}
-use Rattle.reporting.specs.Rows.{IsBetweenRows, row_of, text_of}
 use Rattle.reporting.proofs.letter_text.letters_text.Given as goal
 
 -- the rows so far

@@ -1,7 +1,4 @@
-use Rattle.std.proofs.Common.{◌≡◌, ◌∷◌, ◌++◌, take}
-use Rattle.std.specs.List.{flat_map}
-use Rattle.reporting.specs.Inside.Plain.{IsPlain}
-use Rattle.reporting.specs.TraceText.{note_text}
+use Rattle.reporting.proofs.Words.{◌≡◌, ◌∷◌, ◌++◌, take, flat_map, IsPlain, note_text}
 use Rattle.reporting.proofs.notes.append_others.Given as goal
 
 abbrev pub invariant-loop-note : goal.invariant-loop-note

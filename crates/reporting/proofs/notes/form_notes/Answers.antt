@@ -1,6 +1,4 @@
-use Rattle.std.proofs.Common.{◌≡◌, ◌∙◌, ◌++◌, ◌∷◌, sym, ap}
-use Rattle.std.specs.List.{flat_map}
-use Rattle.reporting.specs.TraceText.{note_text, notes_text}
+use Rattle.reporting.proofs.Words.{◌≡◌, ◌∙◌, ◌++◌, ◌∷◌, sym, ap, flat_map, note_text, notes_text}
 use Rattle.reporting.proofs.Fed.{on_ok}
 use Rattle.reporting.proofs.Joining.{notes_text_none, notes_text_first}
 use Rattle.reporting.proofs.notes.form_notes.Goals as goal

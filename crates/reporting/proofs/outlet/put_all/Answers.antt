@@ -1,9 +1,4 @@
-use Rattle.std.proofs.Common.{◌≡◌, ◌-◌, take, drop, length, arith, length-drop}
-use Rattle.std.proofs.lemmas.Grind.{common_steps}
-use Rattle.std.proofs.lemmas.List.{take_all}
-use Rattle.std.proofs.Math.Seq.{take-add}
-use Rattle.std.specs.Io.KnownBytes.{Appends}
-use Rattle.std.proofs.KnownBytes.{Appends-trans}
+use Rattle.reporting.proofs.Words.{◌≡◌, ◌-◌, take, drop, length, arith, length-drop, common_steps, take_all, take-add, Appends, Appends-trans}
 use Rattle.reporting.proofs.outlet.put_all.Goals as goal
 
 pub loop-done-preserved : goal.loop-done-preserved

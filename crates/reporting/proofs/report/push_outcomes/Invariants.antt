@@ -1,7 +1,4 @@
-use Rattle.std.proofs.Common.{◌≡◌, ◌++◌, take}
-use Rattle.std.specs.List.{flat_map}
-use Rattle.reporting.specs.ReportText.{decision_text}
-use Rattle.reporting.specs.Rows.{IsBetweenRows, text_of}
+use Rattle.reporting.proofs.Words.{◌≡◌, ◌++◌, take, flat_map, decision_text, IsBetweenRows, text_of}
 use Rattle.reporting.proofs.report.push_outcomes.Given as goal
 
 -- the rows so far

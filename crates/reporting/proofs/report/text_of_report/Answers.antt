@@ -1,6 +1,4 @@
-use Rattle.std.proofs.Common.{append_assoc}
-use Rattle.reporting.specs.Inside.Findings.{found_text}
-use Rattle.reporting.specs.ReportText.{report_header}
+use Rattle.reporting.proofs.Words.{append_assoc, found_text, report_header}
 use Rattle.reporting.proofs.report.text_of_report.Goals as goal
 
 pub returns : goal.returns

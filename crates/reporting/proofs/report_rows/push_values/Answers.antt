@@ -1,6 +1,4 @@
-use Rattle.std.proofs.Common.{rules, ◌≡◌, [], ◌∙◌}
-use Rattle.reporting.specs.Rows.{text_of}
-use Rattle.reporting.specs.Inside.Values.{front_of, value_text}
+use Rattle.reporting.proofs.Words.{rules, ◌≡◌, [], ◌∙◌, text_of, front_of, value_text}
 use Rattle.reporting.specs.declared.values.Value.TheVariants.{Number}
 use Rattle.reporting.proofs.Fronts.{one_more}
 use Rattle.reporting.proofs.report_rows.push_values.Goals as goal

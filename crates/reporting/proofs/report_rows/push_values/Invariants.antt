@@ -1,6 +1,4 @@
-use Rattle.std.proofs.Common.{◌≡◌, ◌++◌, map, take}
-use Rattle.reporting.specs.Rows.{IsBetweenRows, text_of}
-use Rattle.reporting.specs.Inside.Values.{front_of, rows_about, value_text}
+use Rattle.reporting.proofs.Words.{◌≡◌, ◌++◌, map, take, IsBetweenRows, text_of, front_of, rows_about, value_text}
 use Rattle.reporting.proofs.report_rows.push_values.Given as goal
 
 -- the front, and the rows so far

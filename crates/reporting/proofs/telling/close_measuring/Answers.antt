@@ -1,5 +1,4 @@
-use Rattle.std.proofs.Common.{◌∙◌, ◌++◌, ap}
-use Rattle.reporting.specs.Measures.{layer_measures, second_measures}
+use Rattle.reporting.proofs.Words.{◌∙◌, ◌++◌, ap, layer_measures, second_measures}
 use Rattle.reporting.proofs.Layers.{both_layers}
 use Rattle.reporting.proofs.telling.close_measuring.Goals as goal
 

@@ -1,9 +1,4 @@
-use Rattle.std.proofs.Common.{◌∙◌, Some, ap, sym, subst, false}
-use Rattle.process_api.specs.Following.{IsWhere}
-use Rattle.process_api.proofs.Where.{there_where}
-use Rattle.reporting.specs.Inside.Findings.{found_text}
-use Rattle.reporting.specs.ReportText.{report_text}
-use Rattle.reporting.specs.Running.{AreLayers, IsTextWhere}
+use Rattle.reporting.proofs.Words.{◌∙◌, Some, ap, sym, subst, false, IsWhere, there_where, found_text, report_text, AreLayers, IsTextWhere}
 use Rattle.reporting.proofs.Fed.{found_is}
 use Rattle.reporting.proofs.telling.close_running.Goals as goal
 

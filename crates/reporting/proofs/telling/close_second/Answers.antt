@@ -1,8 +1,4 @@
-use Rattle.std.proofs.Common.{◌∙◌, ◌++◌, sym, ap, subst, cond, Some, None, [], is_some}
-use Rattle.process_api.proofs.Where.{there_where}
-use Rattle.judges.specs.Verdicts.{verdicts}
-use Rattle.reporting.specs.Measures.{layer_measures}
-use Rattle.reporting.specs.Running.{IsLayer, IsSecond}
+use Rattle.reporting.proofs.Words.{◌∙◌, ◌++◌, sym, ap, subst, cond, Some, None, [], is_some, there_where, verdicts, layer_measures, IsLayer, IsSecond}
 use Rattle.reporting.proofs.telling.close_second.Goals as goal
 
 pub returns-in_ok-verdicts-in-Some-clause-verdicts : goal.returns-in_ok-verdicts-in-Some-clause-verdicts

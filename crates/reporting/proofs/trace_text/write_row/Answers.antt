@@ -1,10 +1,6 @@
-use Rattle.std.proofs.Common.{◌≡◌, ◌≢◌, ◌∙◌, ◌++◌, ap, subst, arith}
-use Rattle.csv.specs.Writing.{default_writer, row_text, writer_setup}
+use Rattle.reporting.proofs.Words.{◌≡◌, ◌≢◌, ◌∙◌, ◌++◌, ap, subst, arith, default_writer, row_text, writer_setup, ArePlain, kind_text, written}
 use Rattle.csv.specs.declared.writer.QuoteStyle.TheVariants as style
-use Rattle.reporting.specs.Inside.Plain.{ArePlain}
 use Rattle.reporting.specs.Inside.RowTexts.{texts_of}
-use Rattle.reporting.specs.Kinds.{kind_text}
-use Rattle.reporting.specs.Rows.{written}
 use Rattle.reporting.proofs.NoQuotes.{plain_name}
 use Rattle.reporting.proofs.PlainRows.{row_text-bare}
 use Rattle.reporting.proofs.trace_text.write_row.Goals.{in-Ok, in-Err}

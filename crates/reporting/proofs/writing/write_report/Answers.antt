@@ -1,6 +1,4 @@
-use Rattle.std.proofs.Common.{rules, ◌<◌, ◌^◌, ◌∙◌, [], true, ap, subst, length}
-use Rattle.reporting.specs.ReportText.{report_text}
-use Rattle.reporting.specs.Writing.{Wrote, WrotePart}
+use Rattle.reporting.proofs.Words.{rules, ◌<◌, ◌^◌, ◌∙◌, [], true, ap, subst, length, report_text, Wrote, WrotePart}
 use Rattle.reporting.proofs.Fed.{on_ok, text_items}
 use Rattle.reporting.proofs.Followed.{running_same, running_told}
 use Rattle.reporting.proofs.writing.write_report.Goals as goal

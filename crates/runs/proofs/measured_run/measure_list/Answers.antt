@@ -1,7 +1,4 @@
-use Rattle.std.proofs.Common.{◌<◌, ◌^◌, [], length, arith, sym, subst, true}
-use Rattle.judges.specs.Agreement.{Agree}
-use Rattle.judges.proofs.Agreement.Agreed.{agrees}
-use Rattle.reporting.proofs.Followed.{measuring_same, measuring_told}
+use Rattle.runs.proofs.Words.{◌<◌, ◌^◌, [], length, arith, sym, subst, true, Agree, agrees, measuring_same, measuring_told}
 use Rattle.runs.proofs.Resting.{has_grounds}
 use Rattle.runs.proofs.measured_run.measure_list.Goals as goal
 

@@ -1,9 +1,4 @@
-use Rattle.std.proofs.Common.{◌<◌, ◌^◌, sym, ap, ◌∙◌, subst, false, length, [], rules}
-use Rattle.std.specs.List.{All}
-use Rattle.judges.proofs.Blamed.{shares_suspicions}
-use Rattle.runs.specs.Grounds.{IsBounded, RestsOnBlame}
-use Rattle.reporting.specs.Measures.{all_measures}
-use Rattle.reporting.proofs.Followed.{measuring_same, measuring_told}
+use Rattle.runs.proofs.Words.{◌<◌, ◌^◌, sym, ap, ◌∙◌, subst, false, length, [], rules, All, shares_suspicions, IsBounded, RestsOnBlame, all_measures, measuring_same, measuring_told}
 use Rattle.runs.proofs.Resting.{all_bounded, all_rest}
 use Rattle.runs.proofs.measuring.measures.Goals as goal
 

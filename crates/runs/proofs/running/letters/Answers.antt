@@ -1,7 +1,5 @@
-use Rattle.std.proofs.Common.{◌++◌, [], map, refl, sym, ◌∙◌, append-nil}
-use Rattle.trace_laws.specs.ScenarioSetting.{setting_of}
+use Rattle.runs.proofs.Words.{◌++◌, [], map, refl, sym, ◌∙◌, append-nil, setting_of, letter_of}
 use Rattle.runs.specs.Inside.Book.{HasHeard}
-use Rattle.runs.specs.Letters.{letter_of}
 use Rattle.runs.proofs.Coming.{letters_in_trace, only_letters}
 use Rattle.runs.proofs.Losing.{letters_lost}
 use Rattle.runs.proofs.Numbered.{letters_are_numbered}

@@ -1,6 +1,5 @@
-use Rattle.std.proofs.Common.{◌≡◌, ◌+◌, ap, sym, cond, eqb, rules}
+use Rattle.runs.proofs.Words.{◌≡◌, ◌+◌, ap, sym, cond, eqb, rules, is_trust}
 use Rattle.process_api.specs.declared.action.Note.TheVariants as note
-use Rattle.detector_bounds.specs.Detected.{is_trust}
 use Rattle.runs.proofs.Trusting.{same_counts}
 use Rattle.runs.proofs.trusts.note.Goals as goal
 

@@ -1,7 +1,4 @@
-use Rattle.std.proofs.Common.{◌+◌, take, cond, eqb, count_by, subst, rules}
-use Rattle.std.proofs.lemmas.List.{take_all}
-use Rattle.detector_bounds.specs.Detected.{is_trust}
-use Rattle.runs.specs.Trusts.{AreCounts}
+use Rattle.runs.proofs.Words.{◌+◌, take, cond, eqb, count_by, subst, rules, take_all, is_trust, AreCounts}
 use Rattle.runs.proofs.Trusting.{same_counts, counted_next}
 use Rattle.runs.proofs.trusts.note_all.Goals as goal
 

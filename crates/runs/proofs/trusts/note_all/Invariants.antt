@@ -1,6 +1,4 @@
-use Rattle.std.proofs.Common.{◌≡◌, ◌+◌, ◌*◌, ℕ, take, length, cond, eqb, count_by}
-use Rattle.detector_bounds.specs.Detected.{is_trust}
-use Rattle.runs.specs.Trusts.{AreCounts}
+use Rattle.runs.proofs.Words.{◌≡◌, ◌+◌, ◌*◌, ℕ, take, length, cond, eqb, count_by, is_trust, AreCounts}
 use Rattle.runs.proofs.trusts.note_all.Given as goal
 
 abbrev pub invariant-loop-one : goal.invariant-loop-one

@@ -1,9 +1,4 @@
-use Rattle.std.proofs.Common.{◌≡◌, ◌∙◌, ◌+◌, ap, sym, rules, arith, Some, None, find}
-use Rattle.std.specs.List.{range_with_len, flat_map}
-use Rattle.toml.specs.View.{table_view}
-use Rattle.scenario.specs.Text.{record_of}
-use Rattle.scenario.specs.Rules.{is_below, pairs_from}
-use Rattle.scenario.specs.Parts.{link_in}
+use Rattle.scenario.proofs.Words.{◌≡◌, ◌∙◌, ◌+◌, ap, sym, rules, arith, Some, None, find, range_with_len, flat_map, table_view, record_of, is_below, pairs_from, link_in}
 use Rattle.scenario.proofs.BelowFacts.{below_of_parts}
 use Rattle.scenario.proofs.Steps.{next_row}
 use Rattle.scenario.proofs.below.first_below.Goals as goal

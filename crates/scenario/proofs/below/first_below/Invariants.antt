@@ -1,9 +1,4 @@
-use Rattle.std.proofs.Common.{◌≡◌, ◌+◌, ◌-◌, find}
-use Rattle.std.specs.List.{range_with_len, flat_map}
-use Rattle.toml.specs.View.{table_view}
-use Rattle.scenario.specs.Text.{record_of}
-use Rattle.scenario.specs.Rules.{is_below, pairs_from, pair_below}
-use Rattle.scenario.specs.Parts.{link_in}
+use Rattle.scenario.proofs.Words.{◌≡◌, ◌+◌, ◌-◌, find, range_with_len, flat_map, table_view, record_of, is_below, pairs_from, pair_below, link_in}
 use Rattle.scenario.proofs.below.first_below.Given as goal
 
 abbrev pub invariant-loop-from : goal.invariant-loop-from

@@ -1,6 +1,4 @@
-use Rattle.std.proofs.Common.{◌∙◌, ◌==◌, ◌+◌, sym, not}
-use Rattle.scenario.specs.Rules.{is_below}
-use Rattle.scenario.specs.Parts.{link_in}
+use Rattle.scenario.proofs.Words.{◌∙◌, ◌==◌, ◌+◌, sym, not, is_below, link_in}
 use Rattle.scenario.proofs.Steps.{skip}
 use Rattle.scenario.proofs.below.first_from.Goals as goal
 

@@ -1,7 +1,4 @@
-use Rattle.std.proofs.Common.{◌≡◌, ◌==◌, ◌+◌, ◌-◌, map, filter, find, not}
-use Rattle.std.specs.List.{range_with_len}
-use Rattle.scenario.specs.Rules.{is_below, pairs_from}
-use Rattle.scenario.specs.Parts.{link_in}
+use Rattle.scenario.proofs.Words.{◌≡◌, ◌==◌, ◌+◌, ◌-◌, map, filter, find, not, range_with_len, is_below, pairs_from, link_in}
 use Rattle.scenario.proofs.below.first_from.Given as goal
 
 abbrev pub invariant-loop-to : goal.invariant-loop-to

@@ -1,9 +1,4 @@
-use Rattle.std.proofs.Common.{◌≡◌, ◌∙◌, ◌-◌, sym, length, take, get_or, is_some, None, rules, arith, true, false}
-use Rattle.std.proofs.lemmas.List.{take_all}
-use Rattle.toml.specs.View.{table_view}
-use Rattle.scenario.specs.Text.{crash_tick}
-use Rattle.scenario.specs.Rules.{is_bad_crash}
-use Rattle.scenario.specs.Parts.{IsProcess, tables_in}
+use Rattle.scenario.proofs.Words.{◌≡◌, ◌∙◌, ◌-◌, sym, length, take, get_or, is_some, None, rules, arith, true, false, take_all, table_view, crash_tick, is_bad_crash, IsProcess, tables_in}
 use Rattle.scenario.proofs.Elements.{IsAt}
 use Rattle.scenario.proofs.Slots.{at_place, bad_among, again, clean, kept}
 use Rattle.scenario.proofs.Firsts.{applies}

@@ -1,7 +1,4 @@
-use Rattle.std.proofs.Common.{◌≡◌, take, false}
-use Rattle.scenario.specs.Text.{crash_tick}
-use Rattle.scenario.specs.Rules.{are_bad_crashes}
-use Rattle.scenario.specs.Parts.{tables_in}
+use Rattle.scenario.proofs.Words.{◌≡◌, take, false, crash_tick, are_bad_crashes, tables_in}
 use Rattle.scenario.proofs.KeyFacts.{process_keys}
 use Rattle.scenario.proofs.Slots.{AreHeld, once}
 use Rattle.scenario.proofs.crashes.read_crashes.Given as goal

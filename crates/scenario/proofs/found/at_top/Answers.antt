@@ -1,6 +1,4 @@
-use Rattle.std.proofs.Common.{refl}
-use Rattle.toml.specs.View.{table_view}
-use Rattle.scenario.specs.Faults.{IsFoundBy}
+use Rattle.scenario.proofs.Words.{refl, table_view, IsFoundBy}
 use Rattle.scenario.specs.declared.place.Place.TheVariants as place
 use Rattle.scenario.proofs.Findings.{value_fault}
 use Rattle.scenario.proofs.found.at_top.Goals as goal

@@ -1,7 +1,4 @@
-use Rattle.std.proofs.Common.{rules, sym}
-use Rattle.toml.specs.View.{table_view}
-use Rattle.scenario.specs.Ranges.{section_error}
-use Rattle.scenario.specs.Faults.{IsFoundBy}
+use Rattle.scenario.proofs.Words.{rules, sym, table_view, section_error, IsFoundBy}
 use Rattle.scenario.specs.declared.place.Place.TheVariants as place
 use Rattle.scenario.proofs.Findings.{value_fault}
 use Rattle.scenario.proofs.found.in_section.Goals as goal

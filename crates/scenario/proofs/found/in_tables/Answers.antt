@@ -1,8 +1,4 @@
-use Rattle.std.proofs.Common.{◌+◌}
-use Rattle.scenario.specs.Ranges.{array_error}
-use Rattle.toml.specs.View.{table_view}
-use Rattle.scenario.specs.Place.{array_key}
-use Rattle.scenario.specs.Faults.{IsFoundBy}
+use Rattle.scenario.proofs.Words.{◌+◌, array_error, table_view, array_key, IsFoundBy}
 use Rattle.scenario.proofs.Elements.{IsAt, numbered_table}
 use Rattle.scenario.proofs.Findings.{value_fault}
 use Rattle.scenario.proofs.found.in_tables.Goals as goal

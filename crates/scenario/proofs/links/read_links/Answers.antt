@@ -1,8 +1,4 @@
-use Rattle.std.proofs.Common.{◌≡◌, ◌∙◌, map, ap, length, rules, codes}
-use Rattle.std.specs.Option.{unwrap_or}
-use Rattle.toml.specs.View.{table_view}
-use Rattle.scenario.specs.Table.{tables_at}
-use Rattle.scenario.specs.Text.{processes_of}
+use Rattle.scenario.proofs.Words.{◌≡◌, ◌∙◌, map, ap, length, rules, codes, unwrap_or, table_view, tables_at, processes_of}
 use Rattle.scenario.proofs.Taking.{links_length}
 use Rattle.scenario.proofs.links.read_links.Goals as goal
 

@@ -1,9 +1,4 @@
-use Rattle.std.proofs.Common.{◌≡◌, ◌∙◌, ◌<◌, ℕ, ap, sym, length, get_or, take, is_some, None, rules, arith, true, false, subst}
-use Rattle.std.proofs.lemmas.List.{take_all}
-use Rattle.toml.specs.View.{table_view}
-use Rattle.scenario.specs.Text.{delays_of}
-use Rattle.scenario.specs.Rules.{is_bad_pair}
-use Rattle.scenario.specs.Parts.{tables_in}
+use Rattle.scenario.proofs.Words.{◌≡◌, ◌∙◌, ◌<◌, ℕ, ap, sym, length, get_or, take, is_some, None, rules, arith, true, false, subst, take_all, table_view, delays_of, is_bad_pair, tables_in}
 use Rattle.scenario.proofs.Elements.{IsAt}
 use Rattle.scenario.proofs.Slots.{at_place, bad_among, again, clean, kept}
 use Rattle.scenario.proofs.Firsts.{applies}

@@ -1,7 +1,4 @@
-use Rattle.std.proofs.Common.{◌≡◌, take, false}
-use Rattle.scenario.specs.Text.{delays_of}
-use Rattle.scenario.specs.Rules.{are_bad_pairs}
-use Rattle.scenario.specs.Parts.{tables_in}
+use Rattle.scenario.proofs.Words.{◌≡◌, take, false, delays_of, are_bad_pairs, tables_in}
 use Rattle.scenario.proofs.KeyFacts.{pair_keys}
 use Rattle.scenario.proofs.Slots.{AreHeld, once}
 use Rattle.scenario.proofs.links.read_pairs.Given as goal

@@ -1,5 +1,4 @@
-use Rattle.std.proofs.Common.{◌∙◌, ℕ, Result, Ok, Err, OnOk}
-use Rattle.scenario.specs.Parts.{outages_in}
+use Rattle.scenario.proofs.Words.{◌∙◌, ℕ, Result, Ok, Err, OnOk, outages_in}
 use Rattle.scenario.proofs.Cuts.{one_added}
 use Rattle.scenario.proofs.outages.add.Goals as goal
 

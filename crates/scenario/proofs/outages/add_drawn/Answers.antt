@@ -1,7 +1,4 @@
-use Rattle.std.proofs.Common.{◌∙◌, ◌++◌, ◌∷◌, [], ap, sym, map, take, append_assoc}
-use Rattle.scenario.specs.Text.{each_pairs_outages}
-use Rattle.scenario.specs.Drawn.{outage_table}
-use Rattle.scenario.specs.Rules.{is_bad_outage}
+use Rattle.scenario.proofs.Words.{◌∙◌, ◌++◌, ◌∷◌, [], ap, sym, map, take, append_assoc, each_pairs_outages, outage_table, is_bad_outage}
 use Rattle.scenario.proofs.Firsts.{applies}
 use Rattle.scenario.proofs.DrawnTables.{drawn_more, bad_among, good_more}
 use Rattle.scenario.proofs.outages.add_drawn.Goals as goal

@@ -1,8 +1,4 @@
-use Rattle.std.proofs.Common.{◌≡◌, ◌*◌, ◌++◌, List, map, length, take, false}
-use Rattle.toml.specs.Data.{Members}
-use Rattle.scenario.specs.Drawn.{outage_table}
-use Rattle.scenario.specs.Rules.{are_bad_outages}
-use Rattle.scenario.specs.Inside.Outages.{AreOutagesOf}
+use Rattle.scenario.proofs.Words.{◌≡◌, ◌*◌, ◌++◌, List, map, length, take, false, Members, outage_table, are_bad_outages, AreOutagesOf}
 use Rattle.scenario.proofs.outages.add_drawn.Given as goal
 
 abbrev pub invariant-loop-outage : goal.invariant-loop-outage

@@ -1,8 +1,4 @@
-use Rattle.std.proofs.Common.{◌≡◌, ◌∙◌, sym, take, rules, true}
-use Rattle.std.proofs.lemmas.List.{length-map}
-use Rattle.toml.specs.View.{table_view}
-use Rattle.scenario.specs.Rules.{is_bad_outage}
-use Rattle.scenario.specs.Parts.{outages_in, tables_in}
+use Rattle.scenario.proofs.Words.{◌≡◌, ◌∙◌, sym, take, rules, true, length-map, table_view, is_bad_outage, outages_in, tables_in}
 use Rattle.scenario.proofs.Elements.{IsAt}
 use Rattle.scenario.proofs.Slots.{bad_one}
 use Rattle.scenario.proofs.Firsts.{applies}

@@ -1,7 +1,4 @@
-use Rattle.std.proofs.Common.{◌≡◌, take, false}
-use Rattle.scenario.specs.Rules.{are_bad_outages}
-use Rattle.scenario.specs.Parts.{tables_in}
-use Rattle.scenario.specs.Inside.Outages.{AreOutagesOf}
+use Rattle.scenario.proofs.Words.{◌≡◌, take, false, are_bad_outages, tables_in, AreOutagesOf}
 use Rattle.scenario.proofs.outages.add_tables.Given as goal
 
 abbrev pub invariant-loop-i : goal.invariant-loop-i

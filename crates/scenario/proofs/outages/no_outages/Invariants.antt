@@ -1,5 +1,4 @@
-use Rattle.std.proofs.Common.{◌≡◌, replicate, []}
-use Rattle.scenario.specs.Parts.{outages_in}
+use Rattle.scenario.proofs.Words.{◌≡◌, replicate, [], outages_in}
 use Rattle.scenario.proofs.outages.no_outages.Given as goal
 
 abbrev pub invariant-loop-k : goal.invariant-loop-k

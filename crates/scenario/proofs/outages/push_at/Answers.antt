@@ -1,6 +1,4 @@
-use Rattle.std.proofs.Common.{◌<◌, ◌++◌, ◌∷◌, [], ap, sym, ◌∙◌, length, slice_set, arith}
-use Rattle.std.proofs.lemmas.List.{map-set, get_or-map}
-use Rattle.scenario.specs.Parts.{outages_in}
+use Rattle.scenario.proofs.Words.{◌<◌, ◌++◌, ◌∷◌, [], ap, sym, ◌∙◌, length, slice_set, arith, map-set, get_or-map, outages_in}
 use Rattle.scenario.proofs.outages.push_at.Goals as goal
 
 pub returns : goal.returns

@@ -1,8 +1,4 @@
-use Rattle.std.proofs.Common.{◌≡◌, ◌∙◌, ◌≤◌, ◌+◌, ◌++◌, [], sym, map, length, rules, arith, length-append}
-use Rattle.std.proofs.lemmas.List.{take_all, length-map}
-use Rattle.scenario.specs.Text.{outages_among}
-use Rattle.scenario.specs.Drawn.{outage_table}
-use Rattle.scenario.specs.Parts.{outages_in, tables_in}
+use Rattle.scenario.proofs.Words.{◌≡◌, ◌∙◌, ◌≤◌, ◌+◌, ◌++◌, [], sym, map, length, rules, arith, length-append, take_all, length-map, outages_among, outage_table, outages_in, tables_in}
 use Rattle.scenario.proofs.Cuts.{pairs_all, pairs_length}
 use Rattle.scenario.proofs.outages.read_outages.Goals as goal
 use Rattle.scenario.proofs.outages.read_outages.Goals.{else-is_empty-via-then-is_empty+else-is_empty-2, else-is_empty-via-else-is_empty}

@@ -1,6 +1,5 @@
-use Rattle.std.proofs.Common.{◌≡◌, ◌++◌}
+use Rattle.scenario.proofs.Words.{◌≡◌, ◌++◌, outages_in}
 use Rattle.std.specs.Vec.Iter.{into_iter_items}
-use Rattle.scenario.specs.Parts.{outages_in}
 use Rattle.scenario.proofs.outages.ready.Given as goal
 
 abbrev pub invariant-loop-list : goal.invariant-loop-list

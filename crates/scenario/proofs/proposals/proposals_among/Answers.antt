@@ -1,11 +1,4 @@
-use Rattle.std.proofs.Common.{◌≡◌, ◌+◌, sym, take, true, false, rules, arith}
-use Rattle.std.proofs.lemmas.List.{map-append, take_all, take-append-drop}
-use Rattle.std.proofs.lemmas.List.Elements.{filter_map-append}
-use Rattle.std.proofs.lemmas.List.Folds.{list_any-append}
-use Rattle.toml.specs.Data.{as_integer}
-use Rattle.toml.specs.View.{view}
-use Rattle.scenario.specs.Text.{natural}
-use Rattle.scenario.specs.Rules.{is_bad_proposal}
+use Rattle.scenario.proofs.Words.{◌≡◌, ◌+◌, sym, take, true, false, rules, arith, map-append, take_all, take-append-drop, filter_map-append, list_any-append, as_integer, view, natural, is_bad_proposal}
 use Rattle.scenario.proofs.Among.{integers_of, one_there, none_there}
 use Rattle.scenario.proofs.proposals.proposals_among.Goals as goal
 

@@ -1,9 +1,4 @@
-use Rattle.std.proofs.Common.{◌≡◌, map, take, false}
-use Rattle.std.specs.List.{filter_map, list_any}
-use Rattle.toml.specs.Data.{as_integer}
-use Rattle.toml.specs.View.{view}
-use Rattle.scenario.specs.Text.{natural}
-use Rattle.scenario.specs.Rules.{is_bad_proposal}
+use Rattle.scenario.proofs.Words.{◌≡◌, map, take, false, filter_map, list_any, as_integer, view, natural, is_bad_proposal}
 use Rattle.scenario.proofs.proposals.proposals_among.Given as goal
 
 abbrev pub invariant-loop-value : goal.invariant-loop-value

@@ -1,9 +1,4 @@
-use Rattle.std.proofs.Common.{◌≡◌, ◌==◌, rules, true, false, map, length, Some, codes}
-use Rattle.std.specs.List.{list_any}
-use Rattle.toml.specs.View.{items_view, table_view}
-use Rattle.scenario.specs.Table.{array_in, the_integers}
-use Rattle.scenario.specs.Text.{natural}
-use Rattle.scenario.specs.Rules.{is_bad_proposal}
+use Rattle.scenario.proofs.Words.{◌≡◌, ◌==◌, rules, true, false, map, length, Some, codes, list_any, items_view, table_view, array_in, the_integers, natural, is_bad_proposal}
 use Rattle.scenario.proofs.Firsts.{applies, passes}
 use Rattle.scenario.proofs.ProposalFacts.{other_count, right_count}
 use Rattle.scenario.proofs.proposals.read_each_proposal.Goals as goal

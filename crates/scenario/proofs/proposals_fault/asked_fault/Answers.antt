@@ -1,5 +1,4 @@
-use Rattle.std.proofs.Common.{◌≡◌, ◌∙◌, length, sym, rules}
-use Rattle.toml.specs.View.{array_view}
+use Rattle.scenario.proofs.Words.{◌≡◌, ◌∙◌, length, sym, rules, array_view}
 use Rattle.scenario.proofs.Items.{count_view}
 use Rattle.scenario.proofs.proposals_fault.asked_fault.Goals as goal
 

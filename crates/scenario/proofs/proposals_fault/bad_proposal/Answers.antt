@@ -1,5 +1,4 @@
-use Rattle.std.proofs.Common.{◌∙◌, Some, ap, rules, sym}
-use Rattle.toml.specs.View.{items_view, view}
+use Rattle.scenario.proofs.Words.{◌∙◌, Some, ap, rules, sym, items_view, view}
 use Rattle.scenario.proofs.Items.{item_view}
 use Rattle.scenario.proofs.Findings.{integer_is}
 use Rattle.scenario.proofs.proposals_fault.bad_proposal.Goals as goal

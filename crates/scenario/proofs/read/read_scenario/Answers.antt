@@ -1,5 +1,4 @@
-use Rattle.std.proofs.Common.{rules}
-use Rattle.toml.specs.View.{table_view}
+use Rattle.scenario.proofs.Words.{rules, table_view}
 use Rattle.scenario.proofs.Reading.{refused}
 use Rattle.scenario.proofs.read.read_scenario.Goals as goal
 

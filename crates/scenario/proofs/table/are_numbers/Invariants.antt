@@ -1,6 +1,4 @@
-use Rattle.std.proofs.Common.{◌≡◌, drop}
-use Rattle.toml.specs.View.{items_view}
-use Rattle.scenario.specs.Table.{all_items, is_number}
+use Rattle.scenario.proofs.Words.{◌≡◌, drop, items_view, all_items, is_number}
 use Rattle.scenario.proofs.table.are_numbers.Given as goal
 
 abbrev pub invariant-loop-value : goal.invariant-loop-value

@@ -1,7 +1,4 @@
-use Rattle.std.proofs.Common.{◌≡◌, drop}
-use Rattle.std.specs.List.{list_any}
-use Rattle.scenario.specs.Table.{is_listed, same_text}
-use Rattle.scenario.specs.Parts.{fields_of}
+use Rattle.scenario.proofs.Words.{◌≡◌, drop, list_any, is_listed, same_text, fields_of}
 use Rattle.scenario.proofs.table.is_listed_key.Given as goal
 
 abbrev pub invariant-loop-field : goal.invariant-loop-field

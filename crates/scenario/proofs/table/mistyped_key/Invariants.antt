@@ -1,8 +1,4 @@
-use Rattle.std.proofs.Common.{◌≡◌, drop}
-use Rattle.std.specs.List.{list_any}
-use Rattle.toml.specs.View.{table_view}
-use Rattle.scenario.specs.Table.{has_mistyped, is_mistyped}
-use Rattle.scenario.specs.Parts.{field_of, fields_of}
+use Rattle.scenario.proofs.Words.{◌≡◌, drop, list_any, table_view, has_mistyped, is_mistyped, field_of, fields_of}
 use Rattle.scenario.proofs.table.mistyped_key.Given as goal
 
 abbrev pub invariant-loop-field : goal.invariant-loop-field

@@ -1,8 +1,4 @@
-use Rattle.std.proofs.Common.{◌≡◌, ◌∙◌, ◌++◌, [], ◌∷◌, ap, sym, take, arith}
-use Rattle.std.proofs.lemmas.List.{map-append, take_all}
-use Rattle.toml.specs.Data.{as_table}
-use Rattle.toml.specs.View.{view, table_view}
-use Rattle.scenario.specs.Parts.{tables_in}
+use Rattle.scenario.proofs.Words.{◌≡◌, ◌∙◌, ◌++◌, [], ◌∷◌, ap, sym, take, arith, map-append, take_all, as_table, view, table_view, tables_in}
 use Rattle.scenario.proofs.Among.{tables_of, one_there, none_there}
 use Rattle.scenario.proofs.table.tables_among.Goals as goal
 

@@ -1,11 +1,6 @@
-use Rattle.std.proofs.Common.{◌∙◌, ◌∷◌, sym, ap, map, subst, rules, string_bytes, true}
+use Rattle.scenario.proofs.Words.{◌∙◌, ◌∷◌, sym, ap, map, subst, rules, string_bytes, true, Contains, All-head, All-rest, All-same, table_view, keys_of, fields_of}
 use Rattle.std.specs.Map.Iter.{deref}
-use Rattle.std.specs.List.{Contains}
 use Rattle.std.proofs.lemmas.Map.Iter.{rest_more}
-use Rattle.std.proofs.lemmas.List.Elements.{All-head, All-rest, All-same}
-use Rattle.toml.specs.View.{table_view}
-use Rattle.scenario.specs.Table.{keys_of}
-use Rattle.scenario.specs.Parts.{fields_of}
 use Rattle.scenario.proofs.Elements.{keys_there}
 use Rattle.scenario.proofs.FieldFacts.{any_unlisted, unlisted_view, unlisted_step}
 use Rattle.scenario.proofs.table.unlisted_key.Goals as goal

@@ -1,8 +1,4 @@
-use Rattle.std.proofs.Common.{◌≡◌, string_bytes}
-use Rattle.std.specs.List.{All, Contains}
-use Rattle.toml.specs.View.{table_view}
-use Rattle.scenario.specs.Table.{has_unlisted, keys_of}
-use Rattle.scenario.specs.Parts.{fields_of}
+use Rattle.scenario.proofs.Words.{◌≡◌, string_bytes, All, Contains, table_view, has_unlisted, keys_of, fields_of}
 use Rattle.scenario.proofs.FieldFacts.{any_unlisted}
 use Rattle.scenario.proofs.table.unlisted_key.Given as goal
 

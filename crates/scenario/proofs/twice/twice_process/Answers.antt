@@ -1,5 +1,4 @@
-use Rattle.std.proofs.Common.{refl, rules, arith, codes, to_z, of_z, w64}
-use Rattle.toml.specs.View.{table_view}
+use Rattle.scenario.proofs.Words.{refl, rules, arith, codes, to_z, of_z, w64, table_view}
 use Rattle.scenario.proofs.Elements.{numbered_table}
 use Rattle.scenario.proofs.Findings.{has_it}
 use Rattle.scenario.proofs.twice.twice_process.Goals as goal

@@ -1,9 +1,4 @@
-use Rattle.std.proofs.Common.{◌∙◌, [], ◌∷◌, map, ap, w64, rules}
-use Rattle.std.proofs.lemmas.Int.{to_z-of_z}
-use Rattle.std.proofs.lemmas.List.{map_push}
-use Rattle.std.specs.Int.RustNames.{FitsSigned}
-use Rattle.study.specs.Settings.{number, settings_in}
-use Rattle.study.specs.AxisWords.{range_of}
+use Rattle.study.proofs.Basics.{◌∙◌, [], ◌∷◌, map, ap, w64, rules, to_z-of_z, map_push, FitsSigned, number, settings_in, range_of}
 use Rattle.study.proofs.Pieces.{number_pushed}
 use Rattle.study.proofs.axis_words.push_numbers.Goals as goal
 

@@ -1,6 +1,4 @@
-use Rattle.std.proofs.Common.{◌≡◌, ◌++◌, map}
-use Rattle.study.specs.Settings.{settings_in}
-use Rattle.study.specs.AxisWords.{range_of}
+use Rattle.study.proofs.Basics.{◌≡◌, ◌++◌, map, settings_in, range_of}
 use Rattle.study.proofs.Pieces.{numbered}
 use Rattle.study.proofs.axis_words.push_numbers.Given as goal
 

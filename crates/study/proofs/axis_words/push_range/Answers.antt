@@ -1,7 +1,4 @@
-use Rattle.std.proofs.Common.{map, arith}
-use Rattle.std.proofs.lemmas.List.{length-map}
-use Rattle.study.specs.Settings.{settings_in}
-use Rattle.study.specs.AxisWords.{range_of, range_by}
+use Rattle.study.proofs.Basics.{map, arith, length-map, settings_in, range_of, range_by}
 use Rattle.study.proofs.Pieces.{range_added, range_many}
 use Rattle.study.proofs.axis_words.push_range.Goals as goal
 

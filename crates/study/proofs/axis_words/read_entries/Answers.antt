@@ -1,7 +1,4 @@
-use Rattle.std.proofs.Common.{arith, map}
-use Rattle.std.proofs.lemmas.List.{length-map}
-use Rattle.study.specs.Settings.{settings_in}
-use Rattle.study.specs.AxisWords.{IsFault, first_fault, entries_said}
+use Rattle.study.proofs.Basics.{arith, map, length-map, settings_in, IsFault, first_fault, entries_said}
 use Rattle.study.proofs.KeyNames.{carried}
 use Rattle.study.proofs.Pieces.{fault_at, read_more, all_read}
 use Rattle.study.proofs.axis_words.read_entries.Goals as goal

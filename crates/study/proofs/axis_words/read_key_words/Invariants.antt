@@ -1,7 +1,4 @@
-use Rattle.std.proofs.Common.{◌≤◌, length, map, take}
-use Rattle.std.specs.List.{AllZip}
-use Rattle.study.specs.Settings.{path_of}
-use Rattle.study.specs.KeyWords.{SaysKey}
+use Rattle.study.proofs.Basics.{◌≤◌, length, map, take, AllZip, path_of, SaysKey}
 use Rattle.study.proofs.axis_words.read_key_words.Given as goal
 
 abbrev pub invariant-loop-word : goal.invariant-loop-word

@@ -1,6 +1,4 @@
-use Rattle.std.proofs.Common.{◌≡◌, ◌++◌, map, drop}
-use Rattle.std.specs.List.{flat_map}
-use Rattle.study.specs.Settings.{settings_in}
+use Rattle.study.proofs.Basics.{◌≡◌, ◌++◌, map, drop, flat_map, settings_in}
 use Rattle.study.specs.AxisWords.{piece_said, values, parts_fault}
 use Rattle.study.proofs.axis_words.read_parts.Given as goal
 

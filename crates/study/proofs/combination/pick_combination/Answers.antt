@@ -1,6 +1,4 @@
-use Rattle.std.proofs.Common.{◌≡◌, ◌∙◌, ap, sym, [], ◌++◌, append_assoc, map, get_or, ◌+◌, ◌/◌, ◌%◌, length, drop, arith, subst}
-use Rattle.std.proofs.Math.Nat.{mod-lt}
-use Rattle.study.specs.Settings.{chosen, path_of, given_by, settings_in, set_to}
+use Rattle.study.proofs.Basics.{◌≡◌, ◌∙◌, ap, sym, [], ◌++◌, append_assoc, map, get_or, ◌+◌, ◌/◌, ◌%◌, length, drop, arith, subst, mod-lt, chosen, path_of, given_by, settings_in, set_to}
 use Rattle.study.proofs.Points.{ways, block_from, place_within, some_ways, picked_more}
 use Rattle.study.proofs.combination.pick_combination.Goals as goal
 

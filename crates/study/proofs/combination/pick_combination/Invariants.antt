@@ -1,5 +1,4 @@
-use Rattle.std.proofs.Common.{◌≡◌, ◌<◌, ◌++◌, [], length, map, drop, get_or}
-use Rattle.study.specs.Settings.{chosen}
+use Rattle.study.proofs.Basics.{◌≡◌, ◌<◌, ◌++◌, [], length, map, drop, get_or, chosen}
 use Rattle.study.proofs.Points.{ways}
 use Rattle.study.proofs.combination.pick_combination.Given as goal
 

@@ -1,5 +1,4 @@
-use Rattle.std.proofs.Common.{◌≡◌, ◌++◌, map, drop, length}
-use Rattle.study.specs.Settings.{chosen, path_of, given_by, set_to}
+use Rattle.study.proofs.Basics.{◌≡◌, ◌++◌, map, drop, length, chosen, path_of, given_by, set_to}
 use Rattle.study.proofs.combination.push_choices.Given as goal
 
 abbrev pub invariant-loop-key : goal.invariant-loop-key

@@ -1,5 +1,4 @@
-use Rattle.std.proofs.Common.{◌≡◌, ◌++◌, map, take}
-use Rattle.study.specs.Settings.{path_of}
+use Rattle.study.proofs.Basics.{◌≡◌, ◌++◌, map, take, path_of}
 use Rattle.study.proofs.grid_checks.add_axis.Given as goal
 
 abbrev pub invariant-loop-key : goal.invariant-loop-key

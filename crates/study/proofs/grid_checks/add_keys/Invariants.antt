@@ -1,6 +1,4 @@
-use Rattle.std.proofs.Common.{◌≡◌, ◌++◌, map, take}
-use Rattle.study.specs.Settings.{path_of}
-use Rattle.study.specs.Grid.{paths_of}
+use Rattle.study.proofs.Basics.{◌≡◌, ◌++◌, map, take, path_of, paths_of}
 use Rattle.study.proofs.grid_checks.add_keys.Given as goal
 
 abbrev pub invariant-loop-axis : goal.invariant-loop-axis

@@ -1,6 +1,4 @@
-use Rattle.std.proofs.Common.{◌≡◌, ◌≤◌, map, take, drop, length}
-use Rattle.study.specs.Settings.{path_of}
-use Rattle.study.specs.Grid.{first_again}
+use Rattle.study.proofs.Basics.{◌≡◌, ◌≤◌, map, take, drop, length, path_of, first_again}
 use Rattle.study.proofs.key.first_again.Given as goal
 
 abbrev pub invariant-loop-i : goal.invariant-loop-i

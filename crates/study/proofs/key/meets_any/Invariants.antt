@@ -1,7 +1,4 @@
-use Rattle.std.proofs.Common.{◌≡◌, map, drop}
-use Rattle.std.specs.List.{list_any}
-use Rattle.study.specs.Settings.{path_of}
-use Rattle.study.specs.Grid.{meets}
+use Rattle.study.proofs.Basics.{◌≡◌, map, drop, list_any, path_of, meets}
 use Rattle.study.proofs.key.meets_any.Given as goal
 
 abbrev pub invariant-loop-other : goal.invariant-loop-other

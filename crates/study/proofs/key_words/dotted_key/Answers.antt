@@ -1,7 +1,4 @@
-use Rattle.std.proofs.Common.{◌≡◌, ◌≢◌, false, Some, ◌∙◌, sym, codes, rules, lit<}
-use Rattle.std.proofs.lemmas.Bool.{false≢true}
-use Rattle.std.proofs.lemmas.Str.Pattern.{split_parts}
-use Rattle.study.specs.Settings.{file_path_of}
+use Rattle.study.proofs.Basics.{◌≡◌, ◌≢◌, false, Some, ◌∙◌, sym, codes, rules, lit<, false≢true, split_parts, file_path_of}
 use Rattle.study.specs.KeyWords.{is_name, IsOwner, IsNetworkText, is_memory}
 use Rattle.study.specs.declared.error.KeyError.TheVariants as error
 use Rattle.study.proofs.KeyNames.{carried, dotted, no_network, network_parts, network_text}

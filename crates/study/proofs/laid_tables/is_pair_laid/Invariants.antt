@@ -1,6 +1,4 @@
-use Rattle.std.proofs.Common.{◌≡◌, drop}
-use Rattle.std.specs.List.{list_any}
-use Rattle.scenario.specs.Text.{same_pair}
+use Rattle.study.proofs.Basics.{◌≡◌, drop, list_any, same_pair}
 use Rattle.study.proofs.laid_tables.is_pair_laid.Given as goal
 
 abbrev pub invariant-loop-link : goal.invariant-loop-link

@@ -1,10 +1,4 @@
-use Rattle.std.proofs.Common.{◌≡◌, ◌∙◌, ◌++◌, ◌==◌, IfNone, IfSome, map, filter, not, ap, sym, subst, rules}
-use Rattle.std.proofs.lemmas.List.{length-map}
-use Rattle.std.proofs.lemmas.Result.{on_ok_weaker}
-use Rattle.toml.specs.View.{view, table_view}
-use Rattle.toml.proofs.Views.{view-Array}
-use Rattle.study.specs.Laid.{is_laid, StaysAsItIs, HasValues}
-use Rattle.scenario.specs.Drawn.{put}
+use Rattle.study.proofs.Basics.{◌≡◌, ◌∙◌, ◌++◌, ◌==◌, IfNone, IfSome, map, filter, not, ap, sym, subst, rules, length-map, on_ok_weaker, view, table_view, view-Array, is_laid, StaysAsItIs, HasValues, put}
 use Rattle.study.proofs.LaidTables.{none_laid, rows_stay, rows_laid}
 use Rattle.study.proofs.laid_tables.lay_rows.Goals as goal
 

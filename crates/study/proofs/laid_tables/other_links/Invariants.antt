@@ -1,6 +1,4 @@
-use Rattle.std.proofs.Common.{◌≡◌, ◌++◌, map, filter, drop, not}
-use Rattle.toml.specs.View.{view}
-use Rattle.study.specs.Laid.{is_laid}
+use Rattle.study.proofs.Basics.{◌≡◌, ◌++◌, map, filter, drop, not, view, is_laid}
 use Rattle.study.proofs.laid_tables.other_links.Given as goal
 
 abbrev pub invariant-loop-value : goal.invariant-loop-value

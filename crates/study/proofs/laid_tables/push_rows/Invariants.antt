@@ -1,5 +1,4 @@
-use Rattle.std.proofs.Common.{◌≡◌, ◌++◌, map, take}
-use Rattle.toml.specs.View.{view}
+use Rattle.study.proofs.Basics.{◌≡◌, ◌++◌, map, take, view}
 use Rattle.study.proofs.laid_tables.push_rows.Given as goal
 
 abbrev pub invariant-loop-row : goal.invariant-loop-row

@@ -1,8 +1,4 @@
-use Rattle.std.proofs.Common.{◌≡◌, ◌∙◌, None, Some, option_map, map, ap, sym, subst}
-use Rattle.toml.specs.Data.{get_member}
-use Rattle.toml.specs.View.{view, table_view}
-use Rattle.toml.proofs.Views.{view-Array}
-use Rattle.study.specs.Laid.{HasValues}
+use Rattle.study.proofs.Basics.{◌≡◌, ◌∙◌, None, Some, option_map, map, ap, sym, subst, get_member, view, table_view, view-Array, HasValues}
 use Rattle.study.proofs.LaidTables.{nothing_there, no_tables, tables_there}
 use Rattle.study.proofs.laid_tables.values_at.Goals as goal
 

@@ -1,9 +1,4 @@
-use Rattle.std.proofs.Common.{◌≡◌, ◌∙◌, ◌<◌, ◌≤◌, false, length, ap, sym, subst, rules}
-use Rattle.toml.specs.View.{table_view}
-use Rattle.scenario.specs.Drawn.{with_outages}
-use Rattle.network.specs.Drawn.{drawn_of, most_outages}
-use Rattle.network.specs.Laid.{laid_links}
-use Rattle.study.specs.Laid.{laid_in, drawn_in, lay_links, CantBeLaid, too_many}
+use Rattle.study.proofs.Basics.{◌≡◌, ◌∙◌, ◌<◌, ◌≤◌, false, length, ap, sym, subst, rules, table_view, with_outages, drawn_of, most_outages, laid_links, laid_in, drawn_in, lay_links, CantBeLaid, too_many}
 use Rattle.study.specs.Placed.{is_memory}
 use Rattle.study.proofs.KeyNames.{carried}
 use Rattle.study.proofs.laying.lay_over.Goals as goal

@@ -1,8 +1,5 @@
-use Rattle.std.proofs.Common.{◌≡◌, ◌∙◌, ◌||◌, not, true, false, refl, sym, subst}
-use Rattle.toml.specs.View.{table_view}
-use Rattle.scenario.specs.Text.{is_second}
+use Rattle.study.proofs.Basics.{◌≡◌, ◌∙◌, ◌||◌, not, true, false, refl, sym, subst, table_view, is_second, has_sources, CantBeLaid, refused, above, older}
 use Rattle.network.specs.Above.{groups_of, AreWithin, HasAbove}
-use Rattle.study.specs.Laid.{has_sources, CantBeLaid, refused, above, older}
 use Rattle.study.proofs.laying.network_over.Goals as goal
 
 pub returns-in-Err-clause-err : goal.returns-in-Err-clause-err

@@ -1,9 +1,5 @@
-use Rattle.std.proofs.Common.{◌≡◌, ◌∙◌, ◌+◌, ap, sym, subst, drop, [], ◌∷◌, ◌++◌, rules}
-use Rattle.toml.specs.Data.{table}
-use Rattle.toml.specs.View.{view, table_view, items_view}
+use Rattle.study.proofs.Basics.{◌≡◌, ◌∙◌, ◌+◌, ap, sym, subst, drop, [], ◌∷◌, ◌++◌, rules, table, view, table_view, items_view, view-Table, put_in_each}
 use Rattle.toml.specs.declared.value.Value.TheVariants.{Table}
-use Rattle.toml.proofs.Views.{view-Table}
-use Rattle.study.specs.Placed.{put_in_each}
 use Rattle.study.proofs.Placing.{after, put_more, put_all}
 use Rattle.study.proofs.placed.changed_items.Goals as goal
 

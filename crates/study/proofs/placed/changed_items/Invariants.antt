@@ -1,6 +1,4 @@
-use Rattle.std.proofs.Common.{◌≡◌, drop}
-use Rattle.toml.specs.View.{view, items_view}
-use Rattle.study.specs.Placed.{put_in_each}
+use Rattle.study.proofs.Basics.{◌≡◌, drop, view, items_view, put_in_each}
 use Rattle.study.proofs.Placing.{after}
 use Rattle.study.proofs.placed.changed_items.Given as goal
 

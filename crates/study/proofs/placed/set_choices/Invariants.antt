@@ -1,7 +1,4 @@
-use Rattle.std.proofs.Common.{◌≡◌, map, drop}
-use Rattle.study.specs.Settings.{chosen}
-use Rattle.study.specs.Sources.{sources_of}
-use Rattle.study.specs.Placed.{set_all}
+use Rattle.study.proofs.Basics.{◌≡◌, map, drop, chosen, sources_of, set_all}
 use Rattle.study.proofs.placed.set_choices.Given as goal
 
 abbrev pub invariant-loop-choice : goal.invariant-loop-choice

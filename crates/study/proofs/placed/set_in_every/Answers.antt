@@ -1,10 +1,4 @@
-use Rattle.std.proofs.Common.{◌≡◌, ◌≢◌, ◌∙◌, ◌≤◌, Ok, ap, sym, subst, length, vec_len, arith}
-use Rattle.std.proofs.lemmas.Bool.{eqb-false}
-use Rattle.std.proofs.lemmas.Result.{on_ok_weaker}
-use Rattle.toml.specs.View.{view, table_view, items_view}
-use Rattle.toml.proofs.Views.{view-Array}
-use Rattle.scenario.specs.Drawn.{put}
-use Rattle.study.specs.Placed.{put_in_each}
+use Rattle.study.proofs.Basics.{◌≡◌, ◌≢◌, ◌∙◌, ◌≤◌, Ok, ap, sym, subst, length, vec_len, arith, eqb-false, on_ok_weaker, view, table_view, items_view, view-Array, put, put_in_each}
 use Rattle.study.proofs.Placing.{every_set}
 use Rattle.study.proofs.placed.set_in_every.Goals as goal
 

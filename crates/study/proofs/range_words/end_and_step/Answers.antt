@@ -1,5 +1,4 @@
-use Rattle.std.proofs.Common.{None, if◌then◌else◌, codes, sym, ap, lit<}
-use Rattle.std.proofs.lemmas.Str.Pattern.{split_parts}
+use Rattle.study.proofs.Basics.{None, if◌then◌else◌, codes, sym, ap, lit<, split_parts}
 use Rattle.study.specs.Words.{after}
 use Rattle.study.proofs.Parts.{has_not}
 use Rattle.study.proofs.range_words.end_and_step.Goals as goal

@@ -1,5 +1,4 @@
-use Rattle.std.proofs.Common.{◌≡◌, ◌++◌, map, take}
-use Rattle.study.specs.Settings.{path_of}
+use Rattle.study.proofs.Basics.{◌≡◌, ◌++◌, map, take, path_of}
 use Rattle.study.proofs.set_twice.add_assigned.Given as goal
 
 abbrev pub invariant-loop-assignment : goal.invariant-loop-assignment

@@ -1,5 +1,4 @@
-use Rattle.std.proofs.Common.{◌∙◌, sym, None, lit<}
-use Rattle.std.proofs.lemmas.Str.Pattern.{strip_prefix_char}
+use Rattle.study.proofs.Basics.{◌∙◌, sym, None, lit<, strip_prefix_char}
 use Rattle.study.proofs.Numerals.{plain_integer}
 use Rattle.study.proofs.words.is_integer_word.Goals as goal
 

@@ -1,6 +1,4 @@
-use Rattle.std.proofs.Common.{◌≡◌, ◌∙◌, sym, true}
-use Rattle.std.proofs.lemmas.Result.{IfOk-weaker}
-use Rattle.study_commands.specs.File.{is_alone}
+use Rattle.study_commands.proofs.Words.{◌≡◌, ◌∙◌, sym, true, IfOk-weaker, is_alone}
 use Rattle.study_commands.proofs.Standing.{own_scenario}
 use Rattle.study_commands.proofs.alone.scenario_at.Goals as goal
 

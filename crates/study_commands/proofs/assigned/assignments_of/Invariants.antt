@@ -1,6 +1,4 @@
-use Rattle.std.proofs.Common.{map, take}
-use Rattle.std.specs.List.{AllZip}
-use Rattle.study.specs.SetWords.{SaysAssignment}
+use Rattle.study_commands.proofs.Words.{map, take, AllZip, SaysAssignment}
 use Rattle.study_commands.proofs.assigned.assignments_of.Given as goal
 
 abbrev pub invariant-loop-word : goal.invariant-loop-word

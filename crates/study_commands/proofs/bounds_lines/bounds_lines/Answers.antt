@@ -1,5 +1,4 @@
-use Rattle.std.proofs.Common.{◌≡◌}
-use Rattle.promised.specs.Promised.{promised}
+use Rattle.study_commands.proofs.Words.{◌≡◌, promised}
 use Rattle.study_commands.proofs.bounds_lines.bounds_lines.Goals as goal
 
 pub returns : goal.returns

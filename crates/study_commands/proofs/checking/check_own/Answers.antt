@@ -1,10 +1,6 @@
-use Rattle.std.proofs.Common.{◌≡◌}
-use Rattle.diagnosis.specs.Diagnosis.{AcceptsAs, Describes}
-use Rattle.scenario.specs.Refusals.{Accepts}
-use Rattle.promised.specs.Promised.{promised}
+use Rattle.study_commands.proofs.Words.{◌≡◌, AcceptsAs, Describes, Accepts, promised, bounds_text}
 use Rattle.study_commands.proofs.Accepted.{same_scenario, told_more}
 use Rattle.study_commands.proofs.Reasons.{bytes_file}
-use Rattle.study_commands.specs.BoundsText.{bounds_text}
 use Rattle.study_commands.proofs.checking.check_own.Goals as goal
 
 pub returns-in-Accepted-clause-text : goal.returns-in-Accepted-clause-text

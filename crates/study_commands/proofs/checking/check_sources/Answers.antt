@@ -1,13 +1,6 @@
-use Rattle.std.proofs.Common.{◌∙◌, ◌++◌, ap, refl}
-use Rattle.diagnosis.specs.Diagnosis.{AcceptsTableAs, RefusesTableFor}
-use Rattle.promised.specs.Promised.{promised}
-use Rattle.scenario.specs.Text.{record_of}
-use Rattle.scenario_record.specs.Record.{Record}
+use Rattle.study_commands.proofs.Words.{◌∙◌, ◌++◌, ap, refl, AcceptsTableAs, RefusesTableFor, promised, record_of, Record, table_view, bounds_text, accepted_line}
 use Rattle.study.specs.declared.error.ReadError.TheVariants as error
-use Rattle.toml.specs.View.{table_view}
 use Rattle.study_commands.proofs.Accepted.{told_more}
-use Rattle.study_commands.specs.BoundsText.{bounds_text}
-use Rattle.study_commands.specs.Check.{accepted_line}
 use Rattle.study_commands.proofs.checking.check_sources.Goals as goal
 
 pub returns-in-Accepted-clause-text : goal.returns-in-Accepted-clause-text

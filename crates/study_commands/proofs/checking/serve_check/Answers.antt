@@ -1,7 +1,4 @@
-use Rattle.std.proofs.Common.{◌≡◌, ◌∙◌, sym, true}
-use Rattle.std.proofs.lemmas.Result.{IfOk-weaker, on_ok_weaker}
-use Rattle.study.specs.Sources.{sources_of}
-use Rattle.study_commands.specs.File.{is_alone}
+use Rattle.study_commands.proofs.Words.{◌≡◌, ◌∙◌, sym, true, IfOk-weaker, on_ok_weaker, sources_of, is_alone}
 use Rattle.study_commands.proofs.Standing.{own_scenario}
 use Rattle.study_commands.proofs.checking.serve_check.Goals as goal
 

@@ -1,6 +1,4 @@
-use Rattle.std.proofs.Common.{◌≡◌, ◌+◌, ◌-◌}
-use Rattle.std.specs.List.{list_any, range_with_len}
-use Rattle.study_commands.specs.Warnings.{sends_by_link}
+use Rattle.study_commands.proofs.Words.{◌≡◌, ◌+◌, ◌-◌, list_any, range_with_len, sends_by_link}
 use Rattle.study_commands.proofs.common_link.do_any_send.Given as goal
 
 abbrev pub invariant-loop-from : goal.invariant-loop-from

@@ -1,6 +1,5 @@
-use Rattle.std.proofs.Common.{rules, ◌≡◌, ◌+◌, ◌<◌, false}
+use Rattle.study_commands.proofs.Words.{rules, ◌≡◌, ◌+◌, ◌<◌, false, is_no_end}
 use Rattle.study_commands.proofs.CommonLink.{one_fails}
-use Rattle.study_commands.specs.Inside.Warned.{is_no_end}
 use Rattle.study_commands.proofs.common_link.lacks_end.Goals as goal
 
 pub loop-to-preserved : goal.loop-to-preserved

@@ -1,6 +1,4 @@
-use Rattle.std.proofs.Common.{◌≡◌, ◌+◌, ◌-◌}
-use Rattle.std.specs.List.{list_any, range_with_len}
-use Rattle.study_commands.specs.Inside.Warned.{is_no_end}
+use Rattle.study_commands.proofs.Words.{◌≡◌, ◌+◌, ◌-◌, list_any, range_with_len, is_no_end}
 use Rattle.study_commands.proofs.common_link.lacks_end.Given as goal
 
 abbrev pub invariant-loop-to : goal.invariant-loop-to

@@ -1,9 +1,5 @@
-use Rattle.std.proofs.Common.{◌∙◌, ◌++◌, ℕ, ap, sym, take, Option, option_to_list}
-use Rattle.std.specs.List.{filter_map}
+use Rattle.study_commands.proofs.Words.{◌∙◌, ◌++◌, ℕ, ap, sym, take, Option, option_to_list, filter_map, pair_in, view, Value}
 use Rattle.study_commands.proofs.AddedItems.{filter_map_more}
-use Rattle.study_commands.specs.Inside.Warned.{pair_in}
-use Rattle.toml.specs.View.{view}
-use Rattle.toml.specs.declared.value.Value.{Value}
 use Rattle.study_commands.proofs.common_link.pairs_in.Goals as goal
 
 pub loop-value-preserved : goal.loop-value-preserved

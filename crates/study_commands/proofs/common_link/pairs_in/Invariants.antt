@@ -1,7 +1,4 @@
-use Rattle.std.proofs.Common.{◌≡◌, take}
-use Rattle.std.specs.List.{filter_map}
-use Rattle.study_commands.specs.Inside.Warned.{pair_in}
-use Rattle.toml.specs.View.{view}
+use Rattle.study_commands.proofs.Words.{◌≡◌, take, filter_map, pair_in, view}
 use Rattle.study_commands.proofs.common_link.pairs_in.Given as goal
 
 abbrev pub invariant-loop-value : goal.invariant-loop-value

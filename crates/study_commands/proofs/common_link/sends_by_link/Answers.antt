@@ -1,7 +1,5 @@
-use Rattle.std.proofs.Common.{◌∙◌, ap}
-use Rattle.std.specs.List.{list_any, range_with_len}
+use Rattle.study_commands.proofs.Words.{◌∙◌, ap, list_any, range_with_len, is_no_end}
 use Rattle.study_commands.proofs.CommonLink.{sends_where}
-use Rattle.study_commands.specs.Inside.Warned.{is_no_end}
 use Rattle.study_commands.proofs.common_link.sends_by_link.Goals as goal
 
 pub returns : goal.returns

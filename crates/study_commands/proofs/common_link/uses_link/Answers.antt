@@ -1,10 +1,5 @@
-use Rattle.std.proofs.Common.{◌≡◌, ◌∙◌, ℕ, ap, map}
-use Rattle.std.proofs.lemmas.Result.{IfOk-weaker}
-use Rattle.std.specs.List.{list_any, range_with_len}
-use Rattle.scenario.specs.Text.{pair_of}
+use Rattle.study_commands.proofs.Words.{◌≡◌, ◌∙◌, ℕ, ap, map, IfOk-weaker, list_any, range_with_len, pair_of, linked_pairs, sends_by_link, table_view}
 use Rattle.study_commands.proofs.CommonLink.{pairs_are}
-use Rattle.study_commands.specs.Warnings.{linked_pairs, sends_by_link}
-use Rattle.toml.specs.View.{table_view}
 use Rattle.study_commands.proofs.common_link.uses_link.Goals as goal
 
 pub returns : goal.returns

@@ -1,8 +1,4 @@
-use Rattle.std.proofs.Common.{◌≡◌, take, map}
-use Rattle.std.specs.List.{flat_map}
-use Rattle.study.specs.Settings.{choices}
-use Rattle.study_commands.specs.Inside.Warned.{dealt_of}
-use Rattle.study_commands.specs.Warnings.{dealt_by}
+use Rattle.study_commands.proofs.Words.{◌≡◌, take, map, flat_map, choices, dealt_of, dealt_by}
 use Rattle.study_commands.proofs.dealt_ticks.dealt_ticks.Given as goal
 
 abbrev pub invariant-loop-axis : goal.invariant-loop-axis

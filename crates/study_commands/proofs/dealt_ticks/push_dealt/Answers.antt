@@ -1,9 +1,4 @@
-use Rattle.std.proofs.Common.{◌∙◌, ◌++◌, ap, sym, append_assoc, map, option_to_list, take}
-use Rattle.std.specs.List.{filter_map}
-use Rattle.std.specs.Option.{option_map}
-use Rattle.study.specs.Settings.{choices}
-use Rattle.study_commands.specs.Inside.Warned.{dealt_of}
-use Rattle.study_commands.specs.Warnings.{dealt_to}
+use Rattle.study_commands.proofs.Words.{◌∙◌, ◌++◌, ap, sym, append_assoc, map, option_to_list, take, filter_map, option_map, choices, dealt_of, dealt_to}
 use Rattle.study_commands.proofs.AddedItems.{map_option}
 use Rattle.study_commands.proofs.Dealt.{all_dealt, dealt_more, keyed}
 use Rattle.study_commands.proofs.dealt_ticks.push_dealt.Goals as goal

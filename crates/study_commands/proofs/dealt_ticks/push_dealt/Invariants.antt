@@ -1,8 +1,4 @@
-use Rattle.std.proofs.Common.{◌≡◌, ◌++◌, take, map, length, zip}
-use Rattle.std.specs.List.{filter_map, range_with_len}
-use Rattle.study.specs.Settings.{choices}
-use Rattle.study_commands.specs.Inside.Warned.{dealt_of}
-use Rattle.study_commands.specs.Warnings.{dealt_to, keys_of}
+use Rattle.study_commands.proofs.Words.{◌≡◌, ◌++◌, take, map, length, zip, filter_map, range_with_len, choices, dealt_of, dealt_to, keys_of}
 use Rattle.study_commands.proofs.dealt_ticks.push_dealt.Given as goal
 
 abbrev pub invariant-loop-place : goal.invariant-loop-place

@@ -1,8 +1,4 @@
-use Rattle.std.proofs.Common.{◌≡◌, ◌∙◌, ◌++◌, ap, sym, rules, option_to_list, take}
-use Rattle.std.specs.List.{filter_map}
-use Rattle.study.specs.Settings.{choices, settings_in}
-use Rattle.study_commands.specs.Inside.Warned.{tick_said}
-use Rattle.study_commands.specs.Warnings.{tick_in}
+use Rattle.study_commands.proofs.Words.{◌≡◌, ◌∙◌, ◌++◌, ap, sym, rules, option_to_list, take, filter_map, choices, settings_in, tick_said, tick_in}
 use Rattle.study_commands.proofs.Dealt.{ticks_more}
 use Rattle.study_commands.proofs.dealt_ticks.ticks_at.Goals as goal
 

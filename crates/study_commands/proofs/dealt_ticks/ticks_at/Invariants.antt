@@ -1,7 +1,4 @@
-use Rattle.std.proofs.Common.{◌≡◌, take}
-use Rattle.std.specs.List.{filter_map}
-use Rattle.study.specs.Settings.{choices}
-use Rattle.study_commands.specs.Warnings.{tick_in}
+use Rattle.study_commands.proofs.Words.{◌≡◌, take, filter_map, choices, tick_in}
 use Rattle.study_commands.proofs.dealt_ticks.ticks_at.Given as goal
 
 abbrev pub invariant-loop-value : goal.invariant-loop-value

@@ -1,6 +1,4 @@
-use Rattle.std.proofs.Common.{◌≡◌, false, true, subst, ℕ, List, None}
-use Rattle.scenario.specs.Refusals.{IsDocumentOf}
-use Rattle.study_commands.specs.Refusal.{IsOfBytes}
+use Rattle.study_commands.proofs.Words.{◌≡◌, false, true, subst, ℕ, List, None, IsDocumentOf, IsOfBytes}
 use Rattle.study_commands.proofs.Reasons.{bytes_table}
 use Rattle.study_commands.proofs.file.table_of.Goals as goal
 

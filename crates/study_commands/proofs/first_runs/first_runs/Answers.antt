@@ -1,10 +1,5 @@
-use Rattle.std.proofs.Common.{rules, ◌≡◌, ◌∙◌, ◌++◌, ◌+◌, ◌-◌, ◌<◌, ◌≤◌, ℕ, ap, arith, length, length-append, map, subst, sym, Ok, Result, IfOk, slice_index_or}
-use Rattle.std.proofs.lemmas.List.{length-map}
-use Rattle.std.specs.declared.alloc.AllocError.{AllocError}
-use Rattle.study.specs.Sources.{sources_of}
+use Rattle.study_commands.proofs.Words.{rules, ◌≡◌, ◌∙◌, ◌++◌, ◌+◌, ◌-◌, ◌<◌, ◌≤◌, ℕ, ap, arith, length, length-append, map, subst, sym, Ok, Result, IfOk, slice_index_or, length-map, AllocError, sources_of, AreFirst, IsFirstOf, FirstRun}
 use Rattle.study_commands.proofs.FirstRuns.{runs_more}
-use Rattle.study_commands.specs.Inside.Warned.{AreFirst, IsFirstOf}
-use Rattle.study_commands.specs.declared.first_run.FirstRun.{FirstRun}
 use Rattle.study_commands.proofs.first_runs.first_runs.Goals as goal
 
 pub loop-next-preserved : goal.loop-next-preserved

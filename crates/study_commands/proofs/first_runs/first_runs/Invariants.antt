@@ -1,6 +1,4 @@
-use Rattle.std.proofs.Common.{◌≡◌, ◌+◌, ◌-◌, ◌≤◌, length}
-use Rattle.study.specs.Sources.{sources_of}
-use Rattle.study_commands.specs.Inside.Warned.{AreFirst}
+use Rattle.study_commands.proofs.Words.{◌≡◌, ◌+◌, ◌-◌, ◌≤◌, length, sources_of, AreFirst}
 use Rattle.study_commands.proofs.first_runs.first_runs.Given as goal
 
 abbrev pub invariant-loop-next : goal.invariant-loop-next

@@ -1,5 +1,4 @@
-use Rattle.std.proofs.Common.{◌≡◌, is_some, take}
-use Rattle.std.specs.List.{count_by}
+use Rattle.study_commands.proofs.Words.{◌≡◌, is_some, take, count_by}
 use Rattle.study_commands.proofs.found.count_of.Given as goal
 
 abbrev pub invariant-loop-each : goal.invariant-loop-each

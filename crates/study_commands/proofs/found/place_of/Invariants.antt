@@ -1,5 +1,4 @@
-use Rattle.std.proofs.Common.{◌≡◌, is_some, drop}
-use Rattle.std.specs.List.{position_from}
+use Rattle.study_commands.proofs.Words.{◌≡◌, is_some, drop, position_from}
 use Rattle.study_commands.proofs.found.place_of.Given as goal
 
 abbrev pub invariant-loop-place : goal.invariant-loop-place

@@ -1,7 +1,4 @@
-use Rattle.std.proofs.Common.{◌≡◌, ◌++◌, filter, map, take}
-use Rattle.study.specs.Settings.{path_of}
-use Rattle.study_commands.specs.Inside.Warned.{paths_said}
-use Rattle.study_commands.specs.Warnings.{is_of_link}
+use Rattle.study_commands.proofs.Words.{◌≡◌, ◌++◌, filter, map, take, path_of, paths_said, is_of_link}
 use Rattle.study_commands.proofs.link_keys.push_axis_keys.Given as goal
 
 abbrev pub invariant-loop-key : goal.invariant-loop-key

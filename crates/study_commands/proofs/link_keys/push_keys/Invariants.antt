@@ -1,7 +1,4 @@
-use Rattle.std.proofs.Common.{◌≡◌, ◌++◌, filter, take}
-use Rattle.study.specs.Grid.{paths_of}
-use Rattle.study_commands.specs.Inside.Warned.{paths_said}
-use Rattle.study_commands.specs.Warnings.{is_of_link}
+use Rattle.study_commands.proofs.Words.{◌≡◌, ◌++◌, filter, take, paths_of, paths_said, is_of_link}
 use Rattle.study_commands.proofs.link_keys.push_keys.Given as goal
 
 abbrev pub invariant-loop-axis : goal.invariant-loop-axis

@@ -1,6 +1,4 @@
-use Rattle.std.proofs.Common.{◌≡◌, rules, Bor, List, ℕ, [], None, get_or}
-use Rattle.scenario.proofs.Elements.{contains_image}
-use Rattle.study_commands.specs.Draw.{process_said}
+use Rattle.study_commands.proofs.Words.{◌≡◌, rules, Bor, List, ℕ, [], None, get_or, contains_image, process_said}
 use Rattle.study_commands.proofs.Axes.{one_said}
 use Rattle.study_commands.proofs.Reasons.{words_as}
 use Rattle.study_commands.proofs.picturing.named_by.Goals as goal

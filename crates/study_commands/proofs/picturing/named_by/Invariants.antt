@@ -1,5 +1,4 @@
-use Rattle.std.proofs.Common.{◌≡◌, map, take, Some}
-use Rattle.study_commands.specs.Draw.{process_said}
+use Rattle.study_commands.proofs.Words.{◌≡◌, map, take, Some, process_said}
 use Rattle.study_commands.proofs.picturing.named_by.Given as goal
 
 abbrev pub invariant-loop-piece : goal.invariant-loop-piece

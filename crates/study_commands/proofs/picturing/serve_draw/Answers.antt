@@ -1,6 +1,4 @@
-use Rattle.std.proofs.Common.{rules}
-use Rattle.std.proofs.lemmas.Result.{IfErr-weaker, IfOk-weaker}
-use Rattle.study_commands.specs.Draw.{IsOfPicture}
+use Rattle.study_commands.proofs.Words.{rules, IfErr-weaker, IfOk-weaker, IsOfPicture}
 use Rattle.study_commands.proofs.Refusing.{picture_stops}
 use Rattle.study_commands.proofs.picturing.serve_draw.Goals as goal
 

@@ -1,7 +1,5 @@
-use Rattle.std.proofs.Common.{refl, rules}
-use Rattle.study.specs.Sources.{sources_of}
+use Rattle.study_commands.proofs.Words.{refl, rules, sources_of, Memory}
 use Rattle.sweep.specs.declared.error.SweepError.TheVariants as error
-use Rattle.study_commands.specs.declared.fault.Fault.TheVariants.{Memory}
 use Rattle.study_commands.proofs.Swept.{cant_of_run, if_err}
 use Rattle.study_commands.proofs.ready.make_ready.Goals as goal
 

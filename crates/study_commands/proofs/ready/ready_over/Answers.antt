@@ -1,6 +1,4 @@
-use Rattle.std.proofs.Common.{rules}
-use Rattle.study_commands.specs.Fault.{IsBefore}
-use Rattle.study_commands.specs.Why.{StopsSweep}
+use Rattle.study_commands.proofs.Words.{rules, IsBefore, StopsSweep}
 use Rattle.study_commands.proofs.Swept.{cant_stop}
 use Rattle.study_commands.proofs.ready.ready_over.Goals as goal
 

@@ -1,7 +1,4 @@
-use Rattle.std.proofs.Common.{rules, ◌≡◌, ◌∙◌, ◌+◌, ◌++◌, ap, append_assoc, codes, decimal, map, string_bytes}
-use Rattle.study.specs.Settings.{chosen}
-use Rattle.study_commands.specs.WarningText.{choices_text}
-use Rattle.sweep.specs.StudyText.{point_at}
+use Rattle.study_commands.proofs.Words.{rules, ◌≡◌, ◌∙◌, ◌+◌, ◌++◌, ap, append_assoc, codes, decimal, map, string_bytes, chosen, choices_text, point_at}
 use Rattle.study_commands.proofs.run_name.name_of_point.Goals as goal
 
 pub returns : goal.returns

@@ -1,7 +1,5 @@
-use Rattle.std.proofs.Common.{◌≡◌, ◌∙◌, ◌++◌, ◌+◌, arith, ap, sym, refl, append_assoc, codes, drop, drop-cons, map, string_bytes, ◌∷◌, [], ℕ, suc}
-use Rattle.study.specs.Settings.{chosen}
+use Rattle.study_commands.proofs.Words.{◌≡◌, ◌∙◌, ◌++◌, ◌+◌, arith, ap, sym, refl, append_assoc, codes, drop, drop-cons, map, string_bytes, ◌∷◌, [], ℕ, suc, chosen, choice_text, choices_text}
 use Rattle.study.specs.declared.axis.Choice.{Choice}
-use Rattle.study_commands.specs.WarningText.{choice_text, choices_text}
 use Rattle.study_commands.proofs.run_name.push_choices.Goals as goal
 
 pub loop-choice-preserved : goal.loop-choice-preserved

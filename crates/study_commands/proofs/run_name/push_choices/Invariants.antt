@@ -1,8 +1,6 @@
-use Rattle.std.proofs.Common.{◌≡◌, ◌++◌, map, drop, string_bytes}
+use Rattle.study_commands.proofs.Words.{◌≡◌, ◌++◌, map, drop, string_bytes, chosen, choices_text}
 use denote.Shadow.{shadow}
 use denote.Text.{Utf8}
-use Rattle.study.specs.Settings.{chosen}
-use Rattle.study_commands.specs.WarningText.{choices_text}
 use Rattle.study_commands.proofs.run_name.push_choices.Given as goal
 
 abbrev pub invariant-loop-choice : goal.invariant-loop-choice

@@ -1,11 +1,5 @@
-use Rattle.std.proofs.Common.{map, inl, inr, refl}
-use Rattle.std.proofs.lemmas.Result.{IfErr-weaker, on_ok_weaker}
-use Rattle.study_commands.specs.Answer.{Answers, Leaves, Writes}
-use Rattle.study_commands.specs.Fault.{end_of}
-use Rattle.study_commands.specs.Serve.{AreAnswered, IsNoFault}
+use Rattle.study_commands.proofs.Words.{map, inl, inr, refl, IfErr-weaker, on_ok_weaker, Answers, Leaves, Writes, end_of, AreAnswered, IsNoFault, States, for_help, for_order}
 use Rattle.study_commands.proofs.Stopping.{answered, telling_asked}
-use Rattle.study_line.specs.Order.{States}
-use Rattle.shell.proofs.Going.{for_help, for_order}
 use Rattle.study_commands.proofs.serve.answer_words.Goals as goal
 
 pub returns-in-Ok-clause-text : goal.returns-in-Ok-clause-text

@@ -1,5 +1,4 @@
-use Rattle.std.proofs.Common.{rules}
-use Rattle.std.proofs.lemmas.Result.{IfErr-weaker, on_ok_weaker}
+use Rattle.study_commands.proofs.Words.{rules, IfErr-weaker, on_ok_weaker}
 use Rattle.study_commands.proofs.Stopping.{no_sweep, stops_at_write, text_goes}
 use Rattle.study_commands.proofs.serve.carry_out.Goals as goal
 

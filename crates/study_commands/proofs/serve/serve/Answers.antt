@@ -1,12 +1,8 @@
-use Rattle.std.proofs.Common.{map}
-use Rattle.study_commands.specs.Answer.{Answers, Leaves, Writes}
-use Rattle.study_commands.specs.Fault.{end_of, line_of, status_of}
+use Rattle.study_commands.proofs.Words.{map, Answers, Leaves, Writes, end_of, line_of, status_of, StopsFor, Explains, States}
 use Rattle.study_commands.specs.Inside.Statuses.{has_status}
 use Rattle.study_commands.specs.Serve.{AreAnswered, TellsOf}
 use Rattle.study_commands.specs.Told.{IsToldFor}
-use Rattle.study_commands.specs.Why.{StopsFor}
 use Rattle.study_commands.proofs.Stopping.{unasked_status}
-use Rattle.study_line.specs.Order.{Explains, States}
 use Rattle.shell.proofs.Serving.{at_zero, ends}
 use Rattle.study_commands.proofs.serve.serve.Goals as goal
 

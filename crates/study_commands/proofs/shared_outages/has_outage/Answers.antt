@@ -1,10 +1,5 @@
-use Rattle.std.proofs.Common.{◌≡◌, ◌∙◌, ap, arith, rules, sym, Some, refl, not, ◌==◌, length, List, [], ◌∷◌, codes}
-use Rattle.std.proofs.lemmas.Bool.{ne_eqb}
+use Rattle.study_commands.proofs.Words.{◌≡◌, ◌∙◌, ap, arith, rules, sym, Some, refl, not, ◌==◌, length, List, [], ◌∷◌, codes, ne_eqb, array, get_member, items_view, table_view, view, Value, are_tables}
 use Rattle.toml.proofs.Views.{view-Array}
-use Rattle.toml.specs.Data.{array, get_member}
-use Rattle.toml.specs.View.{items_view, table_view, view}
-use Rattle.toml.specs.declared.value.Value.{Value}
-use Rattle.study_commands.specs.Warnings.{are_tables}
 use Rattle.study_commands.proofs.shared_outages.has_outage.Goals as goal
 
 there : (tables : List Value) → not (length tables == 0) ≡ are_tables (Some (array (items_view tables)))

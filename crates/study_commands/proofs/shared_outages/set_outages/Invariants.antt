@@ -1,7 +1,4 @@
-use Rattle.std.proofs.Common.{◌≡◌, map, drop}
-use Rattle.std.specs.List.{list_any}
-use Rattle.study.specs.Settings.{choices}
-use Rattle.study_commands.specs.Warnings.{sets_outage}
+use Rattle.study_commands.proofs.Words.{◌≡◌, map, drop, list_any, choices, sets_outage}
 use Rattle.study_commands.proofs.shared_outages.set_outages.Given as goal
 
 abbrev pub invariant-loop-axis : goal.invariant-loop-axis

@@ -1,7 +1,4 @@
-use Rattle.std.proofs.Common.{◌≡◌, ◌∙◌, ap, sym, rules, true}
-use Rattle.std.specs.List.{list_any}
-use Rattle.study.specs.Settings.{path_of}
-use Rattle.study_commands.specs.Warnings.{is_of_outage}
+use Rattle.study_commands.proofs.Words.{◌≡◌, ◌∙◌, ap, sym, rules, true, list_any, path_of, is_of_outage}
 use Rattle.study_commands.proofs.Dealt.{any_here, keys_are, none_there}
 use Rattle.study_commands.proofs.shared_outages.sets_outage.Goals as goal
 

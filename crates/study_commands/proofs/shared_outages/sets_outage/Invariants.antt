@@ -1,7 +1,4 @@
-use Rattle.std.proofs.Common.{◌≡◌, map, drop}
-use Rattle.std.specs.List.{list_any}
-use Rattle.study.specs.Settings.{path_of}
-use Rattle.study_commands.specs.Warnings.{is_of_outage}
+use Rattle.study_commands.proofs.Words.{◌≡◌, map, drop, list_any, path_of, is_of_outage}
 use Rattle.study_commands.proofs.shared_outages.sets_outage.Given as goal
 
 abbrev pub invariant-loop-key : goal.invariant-loop-key

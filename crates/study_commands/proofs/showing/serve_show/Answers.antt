@@ -1,9 +1,4 @@
-use Rattle.std.proofs.Common.{rules, inl, inr, length}
-use Rattle.study.specs.Grid.{points, runs}
-use Rattle.study.specs.Sources.{sources_of}
-use Rattle.study_commands.specs.Fault.{IsBefore, IsOfWordsFor}
-use Rattle.study_commands.specs.WordRefusals.{IsOutside}
-use Rattle.study_commands.specs.Why.{StopsShow}
+use Rattle.study_commands.proofs.Words.{rules, inl, inr, length, points, runs, sources_of, IsBefore, IsOfWordsFor, IsOutside, StopsShow}
 use Rattle.study_commands.proofs.Reasons.{sources_stop, study_text, words_stop}
 use Rattle.study_commands.proofs.showing.serve_show.Goals as goal
 

@@ -1,5 +1,4 @@
-use Rattle.std.proofs.Common.{◌≡◌, fold, max, take}
-use Rattle.study_commands.specs.Warnings.{gaps}
+use Rattle.study_commands.proofs.Words.{◌≡◌, fold, max, take, gaps}
 use Rattle.study_commands.proofs.spread.greatest_gap.Given as goal
 
 abbrev pub invariant-loop-place : goal.invariant-loop-place

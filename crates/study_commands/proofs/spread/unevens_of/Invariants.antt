@@ -1,5 +1,4 @@
-use Rattle.std.proofs.Common.{◌≡◌, map, take}
-use Rattle.study_commands.specs.Warnings.{period_of, uneven_in}
+use Rattle.study_commands.proofs.Words.{◌≡◌, map, take, period_of, uneven_in}
 use Rattle.study_commands.proofs.spread.unevens_of.Given as goal
 
 abbrev pub invariant-loop-run : goal.invariant-loop-run

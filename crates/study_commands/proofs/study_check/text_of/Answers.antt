@@ -1,9 +1,4 @@
-use Rattle.std.proofs.Common.{◌≡◌, ◌∙◌, ◌-◌, ◌++◌, ap, rules, length, string_bytes}
-use Rattle.std.specs.List.{range_with_len}
-use Rattle.std.proofs.lemmas.List.FromFn.{length-range_with_len}
-use Rattle.study.specs.Grid.{runs}
-use Rattle.sweep.specs.StudyText.{numbers_of}
-use Rattle.study_commands.specs.Check.{study_begin}
+use Rattle.study_commands.proofs.Words.{◌≡◌, ◌∙◌, ◌-◌, ◌++◌, ap, rules, length, string_bytes, range_with_len, length-range_with_len, runs, numbers_of, study_begin}
 use Rattle.study_commands.proofs.study_check.text_of.Goals as goal
 
 pub returns : goal.returns

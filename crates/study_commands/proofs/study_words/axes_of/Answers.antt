@@ -1,5 +1,4 @@
-use Rattle.std.proofs.Common.{rules, Bor, List, ℕ, [], get_or}
-use Rattle.scenario.proofs.Elements.{contains_image}
+use Rattle.study_commands.proofs.Words.{rules, Bor, List, ℕ, [], get_or, contains_image}
 use Rattle.study_commands.proofs.Axes.{one_more}
 use Rattle.study_commands.proofs.Reasons.{words_as}
 use Rattle.study_commands.proofs.study_words.axes_of.Goals as goal

@@ -1,6 +1,4 @@
-use Rattle.std.proofs.Common.{map, take}
-use Rattle.std.specs.List.{AllZip}
-use Rattle.study.specs.AxisWords.{SaysAxis}
+use Rattle.study_commands.proofs.Words.{map, take, AllZip, SaysAxis}
 use Rattle.study_commands.proofs.study_words.axes_of.Given as goal
 
 abbrev pub invariant-loop-word : goal.invariant-loop-word

@@ -1,6 +1,4 @@
-use Rattle.std.proofs.Common.{map, take}
-use Rattle.std.specs.List.{AllZip}
-use Rattle.sweep.specs.GroupWords.{SaysGroup}
+use Rattle.study_commands.proofs.Words.{map, take, AllZip, SaysGroup}
 use Rattle.study_commands.proofs.study_words.groups_of.Given as goal
 
 abbrev pub invariant-loop-word : goal.invariant-loop-word

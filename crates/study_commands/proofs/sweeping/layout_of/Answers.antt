@@ -1,8 +1,5 @@
-use Rattle.std.proofs.Common.{inl, map, rules}
-use Rattle.std.specs.Option.{option_map}
+use Rattle.study_commands.proofs.Words.{inl, map, rules, option_map, IsOfWordsFor, SaysNoLayout}
 use Rattle.study_commands.proofs.Reasons.{words_as}
-use Rattle.study_commands.specs.Fault.{IsOfWordsFor}
-use Rattle.study_commands.specs.WordRefusals.{SaysNoLayout}
 use Rattle.study_commands.proofs.sweeping.layout_of.Goals as goal
 
 pub returns-in_err-groups-clause-refused : goal.returns-in_err-groups-clause-refused

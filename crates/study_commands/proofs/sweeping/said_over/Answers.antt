@@ -1,10 +1,7 @@
-use Rattle.std.proofs.Common.{inl, inr, map, rules, subst, Bor, List, ℕ}
+use Rattle.study_commands.proofs.Words.{inl, inr, map, rules, subst, Bor, List, ℕ, IsBefore, IsOfWordsFor, StopsSweep, SaysNoLayout}
 use Rattle.study_commands.proofs.Reasons.{sources_stop, words_stop}
 use Rattle.study_commands.proofs.sweeping.said_over.Goals as goal
-use Rattle.study_commands.specs.Fault.{IsBefore, IsOfWordsFor}
 use Rattle.study_commands.specs.Study.{columns_word}
-use Rattle.study_commands.specs.Why.{StopsSweep}
-use Rattle.study_commands.specs.WordRefusals.{SaysNoLayout}
 
 pub returns-in_err-layout-clause-why : goal.returns-in_err-layout-clause-why
 returns-in_err-layout-clause-why g c =

@@ -1,5 +1,4 @@
-use Rattle.std.proofs.Common.{◌≡◌, ◌∙◌, sym, true, false}
-use Rattle.study_commands.specs.WordRefusals.{is_like}
+use Rattle.study_commands.proofs.Words.{◌≡◌, ◌∙◌, sym, true, false, is_like}
 use Rattle.study_commands.proofs.unknown_column.line_of_unknown.Goals as goal
 
 pub returns-then-is_meant : goal.returns-then-is_meant

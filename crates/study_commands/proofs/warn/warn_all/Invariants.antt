@@ -1,7 +1,4 @@
-use Rattle.std.proofs.Common.{◌≡◌, false, map, take}
-use Rattle.study_commands.specs.Inside.Warned.{warning_of}
-use Rattle.study_commands.specs.WarningText.{warning_line}
-use Rattle.trace_laws.specs.Joins.{HaveJoined}
+use Rattle.study_commands.proofs.Words.{◌≡◌, false, map, take, warning_of, warning_line, HaveJoined}
 use Rattle.study_commands.proofs.warn.warn_all.Given as goal
 
 abbrev pub invariant-loop-warning : goal.invariant-loop-warning

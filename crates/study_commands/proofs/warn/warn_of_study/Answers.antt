@@ -1,14 +1,5 @@
-use Rattle.std.proofs.Common.{◌≡◌, ◌∙◌, ◌-◌, ap, length, map, subst, sym}
-use Rattle.std.proofs.lemmas.List.FromFn.{length-range_with_len}
-use Rattle.std.proofs.lemmas.Result.{on_ok_weaker}
-use Rattle.std.specs.List.{AllZip, range_with_len}
-use Rattle.study.specs.Sources.{sources_of}
+use Rattle.study_commands.proofs.Words.{◌≡◌, ◌∙◌, ◌-◌, ap, length, map, subst, sym, length-range_with_len, on_ok_weaker, AllZip, range_with_len, sources_of, IsRunOf, warning_of, warning_line, IsFirst, warnings, numbers_of, HaveJoined}
 use Rattle.study_commands.proofs.FirstRuns.{tables_of}
-use Rattle.study_commands.specs.Inside.Warned.{IsRunOf, warning_of}
-use Rattle.study_commands.specs.WarningText.{warning_line}
-use Rattle.study_commands.specs.Warnings.{IsFirst, warnings}
-use Rattle.sweep.specs.StudyText.{numbers_of}
-use Rattle.trace_laws.specs.Joins.{HaveJoined}
 use Rattle.study_commands.proofs.warn.warn_of_study.Goals as goal
 
 pub returns-clause-told : goal.returns-clause-told

@@ -1,9 +1,5 @@
-use Rattle.std.proofs.Common.{◌≡◌, ◌∙◌, ap, length, map}
-use Rattle.std.proofs.lemmas.List.{length-map}
-use Rattle.std.specs.Option.{option_map}
-use Rattle.study.specs.Settings.{path_of}
+use Rattle.study_commands.proofs.Words.{◌≡◌, ◌∙◌, ap, length, map, length-map, option_map, path_of, period_of, uneven_in, unevens}
 use Rattle.study_commands.proofs.FirstRuns.{found_at, same_unevens}
-use Rattle.study_commands.specs.Warnings.{period_of, uneven_in, unevens}
 use Rattle.study_commands.proofs.warning.dealt_warning.Goals as goal
 
 pub returns : goal.returns

@@ -1,8 +1,5 @@
-use Rattle.std.proofs.Common.{◌≡◌, ◌∙◌, ap, length, map}
-use Rattle.std.proofs.lemmas.List.{length-map}
-use Rattle.std.specs.Option.{option_map}
+use Rattle.study_commands.proofs.Words.{◌≡◌, ◌∙◌, ap, length, map, length-map, option_map, late_with, lates}
 use Rattle.study_commands.proofs.FirstRuns.{found_at, same_lates}
-use Rattle.study_commands.specs.Warnings.{late_with, lates}
 use Rattle.study_commands.proofs.warning.late_warning.Goals as goal
 
 pub returns : goal.returns

@@ -1,8 +1,5 @@
-use Rattle.std.proofs.Common.{length}
-use Rattle.std.specs.List.{range_with_len}
+use Rattle.study_commands.proofs.Words.{length, range_with_len, dealt_of, warning_of, warning_of_dealt}
 use Rattle.study_commands.proofs.AddedItems.{added}
-use Rattle.study_commands.specs.Inside.Warned.{dealt_of, warning_of}
-use Rattle.study_commands.specs.Warnings.{warning_of_dealt}
 use Rattle.study_commands.proofs.warning.push_dealt_warnings.Goals as goal
 
 pub loop-each-preserved : goal.loop-each-preserved

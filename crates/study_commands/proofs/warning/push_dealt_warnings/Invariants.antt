@@ -1,7 +1,4 @@
-use Rattle.std.proofs.Common.{map, take}
-use Rattle.std.specs.List.{filter_map}
-use Rattle.study_commands.specs.Inside.Warned.{Gains, OfRuns, dealt_of}
-use Rattle.study_commands.specs.Warnings.{warning_of_dealt}
+use Rattle.study_commands.proofs.Words.{map, take, filter_map, Gains, OfRuns, dealt_of, warning_of_dealt}
 use Rattle.study_commands.proofs.warning.push_dealt_warnings.Given as goal
 
 abbrev pub invariant-loop-each : goal.invariant-loop-each

@@ -1,8 +1,5 @@
-use Rattle.std.specs.Option.{option_map}
-use Rattle.study.specs.Settings.{path_of}
+use Rattle.study_commands.proofs.Words.{option_map, path_of, warning_of, unused}
 use Rattle.study_commands.proofs.AddedItems.{added}
-use Rattle.study_commands.specs.Inside.Warned.{warning_of}
-use Rattle.study_commands.specs.Warnings.{unused}
 use Rattle.study_commands.proofs.warning.push_found.Goals as goal
 
 pub loop-key-preserved : goal.loop-key-preserved

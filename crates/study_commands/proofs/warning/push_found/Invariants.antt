@@ -1,8 +1,4 @@
-use Rattle.std.proofs.Common.{take}
-use Rattle.std.specs.List.{filter_map}
-use Rattle.std.specs.Option.{option_map}
-use Rattle.study_commands.specs.Inside.Warned.{Gains, paths_said}
-use Rattle.study_commands.specs.Warnings.{unused}
+use Rattle.study_commands.proofs.Words.{take, filter_map, option_map, Gains, paths_said, unused}
 use Rattle.study_commands.proofs.warning.push_found.Given as goal
 
 abbrev pub invariant-loop-key : goal.invariant-loop-key

@@ -1,11 +1,5 @@
-use Rattle.std.proofs.Common.{◌≡◌, ◌∙◌, ◌++◌, ap, length, map}
-use Rattle.std.proofs.lemmas.List.{length-map}
-use Rattle.std.proofs.lemmas.Result.{on_ok_weaker}
-use Rattle.std.specs.List.{filter_map}
-use Rattle.std.specs.Option.{option_map}
+use Rattle.study_commands.proofs.Words.{◌≡◌, ◌∙◌, ◌++◌, ap, length, map, length-map, on_ok_weaker, filter_map, option_map, paths_said, warning_of, unlinked_where, unused}
 use Rattle.study_commands.proofs.FirstRuns.{found_at, same_unlinked}
-use Rattle.study_commands.specs.Inside.Warned.{paths_said, warning_of}
-use Rattle.study_commands.specs.Warnings.{unlinked_where, unused}
 use Rattle.study_commands.proofs.warning.push_key_warnings.Goals as goal
 
 pub returns : goal.returns

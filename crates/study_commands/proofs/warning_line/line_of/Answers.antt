@@ -1,7 +1,4 @@
-use Rattle.std.proofs.Common.{◌∙◌, ap, sym}
-use Rattle.std.proofs.lemmas.Result.{IfOk-weaker}
-use Rattle.study_commands.specs.Inside.Warned.{warning_of}
-use Rattle.study_commands.specs.WarningText.{warning_line}
+use Rattle.study_commands.proofs.Words.{◌∙◌, ap, sym, IfOk-weaker, warning_of, warning_line}
 use Rattle.study_commands.proofs.warning_line.line_of.Goals as goal
 
 pub returns-in-Unused : goal.returns-in-Unused

@@ -1,6 +1,4 @@
-use Rattle.std.proofs.Common.{◌≡◌, rules}
-use Rattle.clap.specs.Words.{app_of}
-use Rattle.study_line.specs.Commands.{IsLocal, top_app}
+use Rattle.study_line.proofs.Basics.{◌≡◌, rules, app_of, IsLocal, top_app}
 use Rattle.study_line.proofs.command.command.Goals as goal
 
 pub returns : goal.returns

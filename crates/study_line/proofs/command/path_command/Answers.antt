@@ -1,6 +1,4 @@
-use Rattle.std.proofs.Common.{◌≡◌, rules}
-use Rattle.clap.specs.Words.{app_of, new_app}
-use Rattle.study_line.specs.Commands.{IsLocal, path_rule}
+use Rattle.study_line.proofs.Basics.{◌≡◌, rules, app_of, new_app, IsLocal, path_rule}
 use Rattle.study_line.proofs.command.path_command.Goals as goal
 
 pub returns : goal.returns

@@ -1,7 +1,4 @@
-use Rattle.std.proofs.Common.{◌≡◌, ◌∙◌, ◌||◌, ap}
-use Rattle.std.proofs.lemmas.Result.{IfOk-at_ok, IfOk-weaker}
-use Rattle.clap.specs.Words.{app_of, rule_of, with_rule}
-use Rattle.study_line.specs.Commands.{IsLocal}
+use Rattle.study_line.proofs.Basics.{◌≡◌, ◌∙◌, ◌||◌, ap, IfOk-at_ok, IfOk-weaker, app_of, rule_of, with_rule, IsLocal}
 use Rattle.study_line.proofs.command.with_argument.Goals as goal
 
 pub returns : goal.returns

@@ -1,8 +1,5 @@
-use Rattle.std.proofs.Common.{◌≡◌, ◌∙◌, ◌||◌, ap}
-use Rattle.std.proofs.lemmas.Result.{IfOk-at_ok, IfOk-weaker}
-use Rattle.clap.specs.Words.{app_of, with_subcommand}
+use Rattle.study_line.proofs.Basics.{◌≡◌, ◌∙◌, ◌||◌, ap, IfOk-at_ok, IfOk-weaker, app_of, with_subcommand, IsLocal}
 use Rattle.clap.specs.declared.builder.command.Command.TheViews.{out-Command}
-use Rattle.study_line.specs.Commands.{IsLocal}
 use Rattle.study_line.proofs.command.with_command.Goals as goal
 
 pub returns : goal.returns

@@ -1,6 +1,4 @@
-use Rattle.std.proofs.Common.{rules, codes}
-use Rattle.clap.specs.Words.{found_of, rows_of}
-use Rattle.study_line.specs.Order.{IsNumberAt, StatesIn}
+use Rattle.study_line.proofs.Basics.{rules, codes, found_of, rows_of, IsNumberAt, StatesIn}
 use Rattle.study_line.proofs.Words.{lacks_part, show_has_numbers}
 use Rattle.study_line.proofs.order.read_show.Goals as goal
 

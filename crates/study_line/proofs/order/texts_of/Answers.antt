@@ -1,6 +1,4 @@
-use Rattle.std.proofs.Common.{◌∙◌, ap, map, ◌++◌, Bor, List, refl, ℕ}
-use Rattle.clap.specs.Words.{found_of}
-use Rattle.clap.proofs.WalkLemmas.{raw_values-rows}
+use Rattle.study_line.proofs.Basics.{◌∙◌, ap, map, ◌++◌, Bor, List, refl, ℕ, found_of, raw_values-rows}
 use Rattle.study_line.proofs.Words.{all_texts}
 use Rattle.study_line.proofs.order.texts_of.Goals as goal
 

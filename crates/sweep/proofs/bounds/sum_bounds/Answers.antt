@@ -1,10 +1,4 @@
-use Rattle.sweep.proofs.Words.{◌≡◌, ◌+◌, take, sym, ap, ◌∙◌, subst, PairMeasures}
-use Rattle.runs.specs.Trusts.{trusts_of}
-use Rattle.sweep.specs.Columns.{AreBounds}
-use Rattle.sweep.specs.Inside.Adding.{bounds_plus, of_bound}
-use Rattle.sweep.specs.Inside.OwnSums.{IsPair}
-use Rattle.sweep.specs.OneRun.{bound_after, bounds_of}
-use Rattle.sweep.specs.declared.columns.DetectionBounds.{DetectionBounds}
+use Rattle.sweep.proofs.Words.{◌≡◌, ◌+◌, take, sym, ap, ◌∙◌, subst, PairMeasures, trusts_of, AreBounds, bounds_plus, of_bound, IsPair, bound_after, bounds_of, DetectionBounds}
 use Rattle.sweep.proofs.Bounding.{bound_more, bound_same}
 use Rattle.sweep.proofs.bounds.sum_bounds.Goals.{then-is_to_detect+then-is_pair, else-is_to_detect, else-is_to_detect-via-then-is_to_detect+else-is_pair, else-is_to_detect-via-else-is_to_detect}
 use Rattle.sweep.proofs.bounds.sum_bounds.Goals as goal

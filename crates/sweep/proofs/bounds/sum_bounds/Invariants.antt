@@ -1,8 +1,4 @@
-use Rattle.sweep.proofs.Words.{All, take}
-use Rattle.runs.specs.Trusts.{trusts_of}
-use Rattle.sweep.specs.Columns.{AreBounds}
-use Rattle.sweep.specs.Inside.OwnSums.{IsPair}
-use Rattle.sweep.specs.OneRun.{bounds_of}
+use Rattle.sweep.proofs.Words.{All, take, trusts_of, AreBounds, IsPair, bounds_of}
 use Rattle.sweep.proofs.bounds.sum_bounds.Given as goal
 
 abbrev pub invariant-loop-pair : goal.invariant-loop-pair

@@ -1,6 +1,4 @@
-use Rattle.sweep.proofs.Words.{rules, ◌≡◌, ◌++◌, ◌∷◌, [], Ok, Err, true, map, get_or, length, sym, ap, ◌∙◌, arith, length-map}
-use Rattle.std.specs.Result.{is_ok}
-use Rattle.sweep.specs.GroupWords.{block_said}
+use Rattle.sweep.proofs.Words.{rules, ◌≡◌, ◌++◌, ◌∷◌, [], Ok, Err, true, map, get_or, length, sym, ap, ◌∙◌, arith, length-map, is_ok, block_said}
 use Rattle.sweep.proofs.Blocks.{one_more, none_said}
 use Rattle.sweep.proofs.Places.{word_at}
 use Rattle.sweep.proofs.Reading.{if_err}

@@ -1,5 +1,4 @@
-use Rattle.sweep.proofs.Words.{map, take}
-use Rattle.sweep.specs.GroupWords.{SayBlocks}
+use Rattle.sweep.proofs.Words.{map, take, SayBlocks}
 use Rattle.sweep.proofs.group_words.blocks_in.Given as goal
 
 abbrev pub invariant-loop-word : goal.invariant-loop-word

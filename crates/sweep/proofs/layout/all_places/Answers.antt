@@ -1,5 +1,4 @@
-use Rattle.sweep.proofs.Words.{arith}
-use Rattle.std.proofs.lemmas.Iterator.{YieldsList-from_range, items_from_collect}
+use Rattle.sweep.proofs.Words.{arith, YieldsList-from_range, items_from_collect}
 use Rattle.sweep.proofs.layout.all_places.Goals as goal
 
 pub returns : goal.returns

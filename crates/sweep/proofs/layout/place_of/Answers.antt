@@ -1,5 +1,4 @@
-use Rattle.sweep.proofs.Words.{◌∙◌, rules, string_bytes, sym, tests}
-use Rattle.std.proofs.lemmas.Iterator.{YieldsList-from_slice}
+use Rattle.sweep.proofs.Words.{◌∙◌, rules, string_bytes, sym, tests, YieldsList-from_slice}
 use Rattle.std.proofs.lemmas.Iterator.Search.{position_from_yields_List}
 use Rattle.scenario.specs.Table.{same_text}
 use Rattle.sweep.proofs.Places.{position_map}

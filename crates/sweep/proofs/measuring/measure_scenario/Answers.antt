@@ -1,5 +1,4 @@
-use Rattle.sweep.proofs.Words.{rules, IfOk-weaker, MeasuresRun, finished, limited}
-use Rattle.runs.specs.Finishing.{IsLonger}
+use Rattle.sweep.proofs.Words.{rules, IfOk-weaker, MeasuresRun, finished, limited, IsLonger}
 use Rattle.sweep.proofs.measuring.measure_scenario.Goals as goal
 
 pub returns-in_ok-numbers-in-Ok : goal.returns-in_ok-numbers-in-Ok

@@ -1,7 +1,4 @@
-use Rattle.sweep.proofs.Words.{◌≡◌, ◌++◌, append_assoc, map, length, length-append, length-map, string_bytes, ap, ◌∙◌, arith}
-use Rattle.sweep.specs.ColumnTable.{column_names, columns_of_runs}
-use Rattle.sweep.specs.Groups.{group_names}
-use Rattle.sweep.specs.StudyText.{lead_names}
+use Rattle.sweep.proofs.Words.{◌≡◌, ◌++◌, append_assoc, map, length, length-append, length-map, string_bytes, ap, ◌∙◌, arith, column_names, columns_of_runs, group_names, lead_names}
 use Rattle.sweep.proofs.names.names_of.Goals as goal
 
 pub returns-clause-names : goal.returns-clause-names

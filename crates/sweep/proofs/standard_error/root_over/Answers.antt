@@ -1,5 +1,4 @@
-use Rattle.sweep.proofs.Words.{ℕ, ◌+◌, ◌*◌, ◌<◌, ◌≤◌, ⊎_elim, arith, cases_lt}
-use Rattle.std.proofs.lemmas.Nat.{mul-le, mul-lt}
+use Rattle.sweep.proofs.Words.{ℕ, ◌+◌, ◌*◌, ◌<◌, ◌≤◌, ⊎_elim, arith, cases_lt, mul-le, mul-lt}
 use Rattle.sweep.proofs.standard_error.root_over.Goals as goal
 
 -- roots of squares in order

@@ -1,6 +1,4 @@
-use Rattle.sweep.proofs.Words.{rules, ◌≡◌, ℕ, ◌+◌, ◌-◌, ◌*◌, ◌≤◌, length, arith, sym, ap, ◌∙◌, subst, range_with_len, mul-le-mul_right, sources_of, wrote_nothing, points, runs, runs_each, unit_count, WroteUpTo, HeardLimits}
-use Rattle.sweep.specs.Inside.Limits.{numbers_in}
-use Rattle.sweep.specs.declared.error.SweepError.TheVariants.{Memory}
+use Rattle.sweep.proofs.Words.{rules, ◌≡◌, ℕ, ◌+◌, ◌-◌, ◌*◌, ◌≤◌, length, arith, sym, ap, ◌∙◌, subst, range_with_len, mul-le-mul_right, sources_of, wrote_nothing, points, runs, runs_each, unit_count, WroteUpTo, HeardLimits, numbers_in, Memory}
 use Rattle.sweep.proofs.Reading.{if_err, if_any_err}
 use Rattle.sweep.proofs.Numbered.{point_at_end, point_below, count_each, count_order, some_each}
 use Rattle.sweep.proofs.Advancing.{wrote_none}

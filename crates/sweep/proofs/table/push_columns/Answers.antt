@@ -1,7 +1,5 @@
-use Rattle.sweep.proofs.Words.{◌≡◌, ◌∙◌, ◌++◌, ap, sym, append_assoc, map, map-append, List, fields_of, on_ok_weaker, number_text, Text}
-use Rattle.sweep.specs.ColumnTable.{Column, columns_of_detections, columns_of_mistakes, columns_of_outcomes, columns_of_runs, number_of}
+use Rattle.sweep.proofs.Words.{◌≡◌, ◌∙◌, ◌++◌, ap, sym, append_assoc, map, map-append, List, fields_of, on_ok_weaker, number_text, Text, Column, columns_of_detections, columns_of_mistakes, columns_of_outcomes, columns_of_runs, number_of, Columns}
 use Rattle.sweep.specs.declared.column_table.Told.{Told}
-use Rattle.sweep.specs.declared.columns.Columns.{Columns}
 use Rattle.sweep.proofs.table.push_columns.Goals as goal
 
 abbrev texts : Columns → List Column → List Text

@@ -1,5 +1,4 @@
-use Rattle.sweep.proofs.Words.{◌≡◌, ◌++◌, map, take, fields_of, number_text}
-use Rattle.sweep.specs.ColumnTable.{number_of}
+use Rattle.sweep.proofs.Words.{◌≡◌, ◌++◌, map, take, fields_of, number_text, number_of}
 use Rattle.sweep.proofs.table.push_told.Given as goal
 
 abbrev pub invariant-loop-told : goal.invariant-loop-told

@@ -1,5 +1,4 @@
-use Rattle.windows.proofs.Words.{ap, not, sym, ◌∙◌}
-use Rattle.std.specs.Option.{is_some}
+use Rattle.windows.proofs.Words.{ap, not, sym, ◌∙◌, is_some}
 use Rattle.windows.proofs.Agendas.{none_same}
 use Rattle.windows.proofs.agenda.swap_empty.Goals as goal
 

@@ -1,5 +1,4 @@
-use Rattle.std.proofs.Common.{subst, sym}
-use Rattle.consensus_es.specs.Orderly.{IsOrderly}
+use Rattle.consensus_es.proofs.Words.{subst, sym, IsOrderly}
 use Rattle.consensus_es.proofs.Bound.{opening_orderly}
 use Rattle.consensus_es.proofs.consensus.EsConsensus.open.Goals as goal
 

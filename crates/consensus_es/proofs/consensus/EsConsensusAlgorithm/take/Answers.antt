@@ -1,13 +1,9 @@
-use Rattle.std.proofs.Common.{ap, subst, sym, length, arith}
+use Rattle.consensus_es.proofs.Words.{ap, subst, sym, length, arith, step_coordinator, IsOrderly, state_of, not-true}
 use Rattle.std.specs.FinSet as set
 use Rattle.process_api.proofs.Allowed.{algorithm_allowed}
-use Rattle.process_api.specs.Coordinator.{step_coordinator}
 use Rattle.process_api.specs.Mind.{Coordinating}
 use Rattle.process_api.specs.React.{react_algorithm}
-use Rattle.consensus_es.specs.Orderly.{IsOrderly}
-use Rattle.consensus_es.specs.State.{state_of}
 use Rattle.consensus_es.specs.Inside.Whole.{place_of, algorithm_of}
-use Rattle.std.proofs.lemmas.Bool.{not-true}
 use Rattle.consensus_es.proofs.Bound.{same_itself, step_few, within}
 use Rattle.consensus_es.proofs.consensus.EsConsensusAlgorithm.take.Goals as goal
 

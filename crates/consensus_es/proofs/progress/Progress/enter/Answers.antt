@@ -1,9 +1,7 @@
-use Rattle.std.proofs.Common.{◌∙◌, ap, append_assoc, ◌++◌, ◌∷◌, [], cond}
+use Rattle.consensus_es.proofs.Words.{◌∙◌, ap, append_assoc, ◌++◌, ◌∷◌, [], cond, Collect, Await, state_of}
 use Rattle.process_api.specs.declared.action.Action.TheVariants as action
 use Rattle.process_api.specs.declared.action.Note.TheVariants as note
-use Rattle.process_api.specs.declared.consensus.Phase.TheVariants.{Collect, Await}
 use Rattle.process_api.specs.declared.message.Payload.TheVariants as payload
-use Rattle.consensus_es.specs.State.{state_of}
 use Rattle.consensus_es.proofs.progress.Progress.enter.Goals as goal
 
 pub returns : goal.returns

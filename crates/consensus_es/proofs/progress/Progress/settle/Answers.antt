@@ -1,7 +1,5 @@
-use Rattle.std.proofs.Common.{subst, sym, cond, ◌+◌, ◌<◌}
+use Rattle.consensus_es.proofs.Words.{subst, sym, cond, ◌+◌, ◌<◌, waits_left, state_of}
 use Rattle.std.specs.FinSet as set
-use Rattle.process_api.specs.Coordinator.{waits_left}
-use Rattle.consensus_es.specs.State.{state_of}
 use Rattle.consensus_es.proofs.Settling.{Going, going_on, going_fewer, gone}
 use Rattle.consensus_es.proofs.progress.Progress.settle.Goals as goal
 

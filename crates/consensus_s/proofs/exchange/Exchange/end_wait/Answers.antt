@@ -1,9 +1,5 @@
-use Rattle.std.proofs.Common.{◌∙◌, ◌+◌, ap, sym, arith}
-use Rattle.std.proofs.lemmas.Bool.{lt-ltb}
-use Rattle.std.proofs.lemmas.Result.{on_ok_weaker}
+use Rattle.consensus_s.proofs.Words.{◌∙◌, ◌+◌, ap, sym, arith, lt-ltb, on_ok_weaker, enter, exchange_of}
 use Rattle.std.specs.FinSet as set
-use Rattle.process_api.specs.ConsensusS.{enter}
-use Rattle.consensus_s.specs.State.{exchange_of}
 use Rattle.consensus_s.proofs.Settled.{ends_round}
 use Rattle.consensus_s.proofs.exchange.Exchange.end_wait.Goals as goal
 

@@ -1,7 +1,5 @@
-use Rattle.std.proofs.Common.{◌≡◌, ◌≤◌, ℕ, sym, subst, arith}
-use Rattle.std.proofs.lemmas.Result.{on_ok_weaker}
+use Rattle.consensus_s.proofs.Words.{◌≡◌, ◌≤◌, ℕ, sym, subst, arith, on_ok_weaker, exchange_of, IsOrderly}
 use Rattle.std.specs.FinSet as set
-use Rattle.consensus_s.specs.State.{exchange_of, IsOrderly}
 use Rattle.consensus_s.proofs.Settled.{steps, acts, stays_orderly, few_actions}
 use Rattle.consensus_s.proofs.exchange.Exchange.step.Goals as goal
 

@@ -1,9 +1,4 @@
-use Rattle.std.proofs.Common.{◌≡◌, sym, ap, ◌∙◌, subst, map, length, IfOk}
-use Rattle.std.specs.Global.{Vec}
-use Rattle.std.specs.List.{All}
-use Rattle.std.proofs.lemmas.List.{length-map}
-use Rattle.std.proofs.lemmas.List.Elements.{All-weaker}
-use Rattle.deques.specs.Deques.{HandView, dealt_of, many_out, blank, HasTold, AreBlank, IsDealt}
+use Rattle.deques.proofs.Words.{◌≡◌, sym, ap, ◌∙◌, subst, map, length, IfOk, Vec, All, length-map, All-weaker, HandView, dealt_of, many_out, blank, HasTold, AreBlank, IsDealt}
 use Rattle.deques.proofs.Deals.{have_told, are_blank, many_dealt}
 use Rattle.deques.proofs.dealing.Dealer.hands.Goals as goal
 

@@ -1,7 +1,4 @@
-use Rattle.std.proofs.Common.{rules, ◌≡◌, [], ◌∷◌, ◌++◌, length, map, sym, ap, ◌∙◌, arith}
-use Rattle.std.proofs.lemmas.List.{map-append, length-map}
-use Rattle.std.proofs.lemmas.List.Elements.{All-same, All-push, All-map}
-use Rattle.deques.specs.Deques.{OwnerView, Dealt, dealt_of}
+use Rattle.deques.proofs.Words.{rules, ◌≡◌, [], ◌∷◌, ◌++◌, length, map, sym, ap, ◌∙◌, arith, map-append, length-map, All-same, All-push, All-map, OwnerView, Dealt, dealt_of}
 use Rattle.deques.proofs.Deals.{New, deque_of, dealt_deques}
 use Rattle.deques.proofs.dealing.Dealer.open.Goals as goal
 

@@ -1,5 +1,4 @@
-use Rattle.std.proofs.Common.{◌≡◌, ◌≤◌, [], map, vec_len, vec_capacity, None}
-use Rattle.std.specs.List.{All}
+use Rattle.deques.proofs.Words.{◌≡◌, ◌≤◌, [], map, vec_len, vec_capacity, None, All}
 use Rattle.deques.proofs.dealing.Dealer.open.Given as goal
 
 abbrev pub invariant-loop : goal.invariant-loop

@@ -1,7 +1,5 @@
-use Rattle.std.proofs.lemmas.List.{length-map}
+use Rattle.deques.proofs.Words.{length-map, ◌≡◌, ◌<◌, ◌++◌, ◌∷◌, [], None, length, sym, ap, ◌∙◌, subst, owner_of, dealt_of, with_item}
 use Rattle.std.proofs.lemmas.Result.{on_ok_weaker}
-use Rattle.std.proofs.Common.{◌≡◌, ◌<◌, ◌++◌, ◌∷◌, [], None, length, sym, ap, ◌∙◌, subst}
-use Rattle.deques.specs.Deques.{owner_of, dealt_of, with_item}
 use Rattle.deques.proofs.Deals.{put_is}
 use Rattle.deques.proofs.dealing.Dealer.put.Goals as goal
 

@@ -1,11 +1,4 @@
-use Rattle.std.proofs.Common.{◌≡◌, ◌-◌, ◌∷◌, [], ◌++◌, length, map, ap, sym, subst, ◌∙◌, append-nil, ℕ, suc, arith}
-use Rattle.std.specs.List.{All, flat_map}
-use Rattle.std.specs.List.Sorted.{IsPermutation}
-use Rattle.std.specs.Global.{Vec}
-use Rattle.std.specs.Vec.Iter.{into_iter_items}
-use Rattle.std.proofs.lemmas.List.{nil_from_length}
-use Rattle.std.proofs.lemmas.List.Elements.{All-tail}
-use Rattle.deques.specs.Deques.{HandView, RestView, PermitView, deques_of}
+use Rattle.deques.proofs.Words.{◌≡◌, ◌-◌, ◌∷◌, [], ◌++◌, length, map, ap, sym, subst, ◌∙◌, append-nil, ℕ, suc, arith, All, flat_map, IsPermutation, Vec, into_iter_items, nil_from_length, All-tail, HandView, RestView, PermitView, deques_of}
 use Rattle.deques.proofs.Deals.{back_more}
 use Rattle.deques.proofs.dealing.Rest.of_hands.Goals as goal
 

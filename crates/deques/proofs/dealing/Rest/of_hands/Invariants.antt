@@ -1,8 +1,4 @@
-use Rattle.std.proofs.Common.{◌≡◌, ◌++◌, length, map}
-use Rattle.std.specs.List.{All, flat_map}
-use Rattle.std.specs.List.Sorted.{IsPermutation}
-use Rattle.std.specs.Vec.Iter.{into_iter_items}
-use Rattle.deques.specs.Deques.{deques_of}
+use Rattle.deques.proofs.Words.{◌≡◌, ◌++◌, length, map, All, flat_map, IsPermutation, into_iter_items, deques_of}
 use Rattle.deques.proofs.dealing.Rest.of_hands.Given as goal
 
 abbrev pub invariant-loop-permits : goal.invariant-loop-permits

@@ -1,6 +1,4 @@
-use Rattle.std.proofs.Common.{◌≡◌, ◌-◌, refl, sym, ap, ◌∙◌, subst, map}
-use Rattle.std.specs.List.{flat_map}
-use Rattle.deques.specs.Deques.{RestView, deques_of, CameBack}
+use Rattle.deques.proofs.Words.{◌≡◌, ◌-◌, refl, sym, ap, ◌∙◌, subst, map, flat_map, RestView, deques_of, CameBack}
 use Rattle.deques.proofs.Deals.{from_deque, deque_of, stolen_by, dealt_deques, rest_at, came_back, counts_back}
 use Rattle.deques.proofs.dealing.Rest.take_back.Goals as goal
 

@@ -1,8 +1,4 @@
-use Rattle.std.proofs.Common.{rules, ◌≡◌, ◌<◌, ◌≤◌, refl, sym, ap, ◌∙◌, subst, get_or, set, length}
-use Rattle.std.specs.List.Sorted.{IsPermutation}
-use Rattle.std.proofs.lemmas.List.{set-get_or}
-use Rattle.std.proofs.lemmas.List.Elements.{All-get_or}
-use Rattle.deques.specs.Deques.{RestView, all_put, TookLast}
+use Rattle.deques.proofs.Words.{rules, ◌≡◌, ◌<◌, ◌≤◌, refl, sym, ap, ◌∙◌, subst, get_or, set, length, IsPermutation, set-get_or, All-get_or, RestView, all_put, TookLast}
 use Rattle.deques.proofs.Deals.{Counts, rest_at, took_last, emptied_more, emptied_all}
 use Rattle.deques.proofs.dealing.Rest.take_last.Goals as goal
 

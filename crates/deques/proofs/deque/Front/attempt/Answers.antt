@@ -1,5 +1,4 @@
-use Rattle.std.proofs.Common.{ap}
-use Rattle.ledger.specs.declared.account.Account.{Account}
+use Rattle.deques.proofs.Words.{ap, Account}
 use Rattle.deques.proofs.Dealings.{taken_one, live_permit, stole}
 use Rattle.deques.proofs.deque.Front.attempt.Goals as goal
 

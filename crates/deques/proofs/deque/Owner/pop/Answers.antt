@@ -1,5 +1,4 @@
-use Rattle.std.proofs.Common.{[]}
-use Rattle.ledger.proofs.Ledgers.{learns}
+use Rattle.deques.proofs.Words.{[], learns}
 use Rattle.deques.proofs.Dealings.{taken_one, popped}
 use Rattle.deques.proofs.deque.Owner.pop.Goals as goal
 

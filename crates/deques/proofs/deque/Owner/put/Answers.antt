@@ -1,7 +1,4 @@
-use Rattle.std.proofs.Common.{[], ◌∷◌, ◌∙◌, ap, refl}
-use Rattle.ledger.specs.Ledger.{has_put}
-use Rattle.ledger.proofs.Ledgers.{puts}
-use Rattle.deques.specs.Deques.{OwnerView}
+use Rattle.deques.proofs.Words.{[], ◌∷◌, ◌∙◌, ap, refl, has_put, puts, OwnerView}
 use Rattle.deques.proofs.deque.Owner.put.Goals as goal
 
 pub push_as-requires-clause-pushes : goal.push_as-requires-clause-pushes

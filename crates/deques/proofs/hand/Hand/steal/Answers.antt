@@ -1,8 +1,4 @@
-use Rattle.std.proofs.Common.{◌≡◌, ◌<◌, ◌+◌, ◌%◌, ℕ, List, sym, ap, ◌∙◌, subst, length, map, set, arith}
-use Rattle.std.proofs.lemmas.Nat.{mod_below}
-use Rattle.std.proofs.lemmas.List.{length-map, map-id}
-use Rattle.ledger.proofs.Lists.{parts_agree}
-use Rattle.deques.specs.Deques.{OwnerView, HandView, PermitView, hand_at, TookOne}
+use Rattle.deques.proofs.Words.{◌≡◌, ◌<◌, ◌+◌, ◌%◌, ℕ, List, sym, ap, ◌∙◌, subst, length, map, set, arith, mod_below, length-map, map-id, parts_agree, OwnerView, HandView, PermitView, hand_at, TookOne}
 use Rattle.deques.proofs.Dealings.{hand_stole, known_same}
 use Rattle.deques.proofs.Deals.{holds_still, known_in}
 use Rattle.deques.proofs.hand.Hand.steal.Goals as goal

@@ -1,5 +1,4 @@
-use Rattle.std.proofs.Common.{subst}
-use Rattle.deques.specs.Deques.{hand_at, TookOne}
+use Rattle.deques.proofs.Words.{subst, hand_at, TookOne}
 use Rattle.deques.proofs.Dealings.{hand_popped}
 use Rattle.deques.proofs.hand.Hand.take.Goals as goal
 

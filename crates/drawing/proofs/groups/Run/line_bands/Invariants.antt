@@ -1,6 +1,4 @@
-use Rattle.std.proofs.Common.{◌≡◌, flat_map}
-use Rattle.process_api.specs.Numbers.{numbers_to}
-use Rattle.drawing.specs.Inside.LettersDrawn.{line_bands_in}
+use Rattle.drawing.proofs.Words.{◌≡◌, flat_map, numbers_to, line_bands_in}
 use Rattle.drawing.proofs.groups.Run.line_bands.Given as goal
 
 -- the processes so far

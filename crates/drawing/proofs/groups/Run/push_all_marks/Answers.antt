@@ -1,7 +1,4 @@
-use Rattle.std.proofs.Common.{◌++◌, arith, ap}
-use Rattle.std.proofs.lemmas.List.{take_all}
-use Rattle.drawing.specs.Frame.{placeless}
-use Rattle.drawing.specs.Inside.LettersDrawn.{marks_in}
+use Rattle.drawing.proofs.Words.{◌++◌, arith, ap, take_all, placeless, marks_in}
 use Rattle.drawing.proofs.LineShapes.{all_told, told_at}
 use Rattle.drawing.proofs.groups.Run.push_all_marks.Goals as goal
 

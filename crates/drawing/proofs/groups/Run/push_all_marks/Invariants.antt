@@ -1,7 +1,4 @@
-use Rattle.std.proofs.Common.{◌≡◌, ◌++◌, flat_map, take}
-use Rattle.judges.specs.declared.outcomes.Outcome.{Outcome}
-use Rattle.drawing.specs.Frame.{placeless}
-use Rattle.drawing.specs.Inside.LettersDrawn.{marks_in}
+use Rattle.drawing.proofs.Words.{◌≡◌, ◌++◌, flat_map, take, Outcome, placeless, marks_in}
 use Rattle.drawing.proofs.groups.Run.push_all_marks.Given as goal
 
 -- the processes so far

@@ -1,6 +1,4 @@
-use Rattle.std.proofs.Common.{◌≡◌, ◌++◌, take}
-use Rattle.drawing.specs.Frame.{placeless}
-use Rattle.drawing.specs.LettersPicture.{arrows}
+use Rattle.drawing.proofs.Words.{◌≡◌, ◌++◌, take, placeless, arrows}
 use Rattle.drawing.proofs.groups.Run.push_arrows.Given as goal
 
 -- the letters so far

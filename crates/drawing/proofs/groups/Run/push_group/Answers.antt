@@ -1,8 +1,4 @@
-use Rattle.std.proofs.Common.{◌≡◌, ◌∙◌, ◌-◌, ◌++◌, suc, sym, ap, subst, arith, flat_map}
-use Rattle.process_api.specs.Numbers.{numbers_to, others}
-use Rattle.drawing.specs.Inside.Drawn.{AreRowsOf, absent, has_row_in, pair_in, group_of, bands_in, group_bands_of, own_of}
-use Rattle.drawing.specs.Layout.{group_height}
-use Rattle.drawing.specs.Suspicions.{group_shapes, group_bands}
+use Rattle.drawing.proofs.Words.{◌≡◌, ◌∙◌, ◌-◌, ◌++◌, suc, sym, ap, subst, arith, flat_map, numbers_to, others, AreRowsOf, absent, has_row_in, pair_in, group_of, bands_in, group_bands_of, own_of, group_height, group_shapes, group_bands}
 use Rattle.drawing.proofs.Counting.{groups_more, sum_more}
 use Rattle.drawing.proofs.Joining.{numbers_more}
 use Rattle.drawing.proofs.groups.Run.push_group.Goals as goal

@@ -1,5 +1,4 @@
-use Rattle.process_api.specs.Numbers.{others}
-use Rattle.drawing.specs.Inside.Drawn.{AreRowsOf}
+use Rattle.drawing.proofs.Words.{others, AreRowsOf}
 use Rattle.drawing.proofs.groups.Run.push_group.Given as goal
 
 -- the other processes so far

@@ -1,6 +1,4 @@
-use Rattle.std.proofs.Common.{◌≡◌, ◌++◌, flat_map}
-use Rattle.process_api.specs.Numbers.{others}
-use Rattle.drawing.specs.Inside.LettersDrawn.{link_bands}
+use Rattle.drawing.proofs.Words.{◌≡◌, ◌++◌, flat_map, others, link_bands}
 use Rattle.drawing.proofs.groups.Run.push_line_bands.Given as goal
 
 -- the other processes so far

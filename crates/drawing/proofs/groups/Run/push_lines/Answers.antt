@@ -1,8 +1,4 @@
-use Rattle.std.proofs.Common.{◌++◌, arith, ap}
-use Rattle.std.proofs.lemmas.List.{take_all}
-use Rattle.drawing.specs.Frame.{placeless}
-use Rattle.drawing.specs.Inside.Drawn.{own_of}
-use Rattle.drawing.specs.Layout.{own_top}
+use Rattle.drawing.proofs.Words.{◌++◌, arith, ap, take_all, placeless, own_of, own_top}
 use Rattle.drawing.proofs.LineShapes.{all_told, told_at}
 use Rattle.drawing.proofs.groups.Run.push_lines.Goals as goal
 

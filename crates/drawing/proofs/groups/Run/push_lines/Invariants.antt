@@ -1,8 +1,4 @@
-use Rattle.std.proofs.Common.{◌≡◌, ◌++◌, flat_map, take}
-use Rattle.judges.specs.declared.outcomes.Outcome.{Outcome}
-use Rattle.drawing.specs.Frame.{placeless}
-use Rattle.drawing.specs.Inside.Drawn.{own_of}
-use Rattle.drawing.specs.Layout.{own_top}
+use Rattle.drawing.proofs.Words.{◌≡◌, ◌++◌, flat_map, take, Outcome, placeless, own_of, own_top}
 use Rattle.drawing.proofs.groups.Run.push_lines.Given as goal
 
 -- the processes so far

@@ -1,6 +1,4 @@
-use Rattle.std.proofs.Common.{append_assoc}
-use Rattle.drawing.specs.Inside.LettersDrawn.{marks_in, turns_in}
-use Rattle.drawing.specs.LettersPicture.{mark_shapes}
+use Rattle.drawing.proofs.Words.{append_assoc, marks_in, turns_in, mark_shapes}
 use Rattle.drawing.proofs.groups.Run.push_marks.Goals as goal
 
 pub returns : goal.returns

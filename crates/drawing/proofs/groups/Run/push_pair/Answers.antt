@@ -1,7 +1,4 @@
-use Rattle.std.proofs.Common.{◌∙◌, ◌++◌, sym, ap, arith}
-use Rattle.std.proofs.lemmas.Bool.{eqb-false}
-use Rattle.drawing.specs.Suspicions.{bands}
-use Rattle.drawing.specs.Inside.Drawn.{pair_of}
+use Rattle.drawing.proofs.Words.{◌∙◌, ◌++◌, sym, ap, arith, eqb-false, bands, pair_of}
 use Rattle.drawing.proofs.RowShapes.{shown_same, with_row, without_row}
 use Rattle.drawing.proofs.groups.Run.push_pair.Goals as goal
 

@@ -1,6 +1,4 @@
-use Rattle.std.proofs.Common.{◌≡◌, refl, arith, take}
-use Rattle.std.proofs.lemmas.List.{take_all}
-use Rattle.drawing.specs.Inside.LettersDrawn.{turns_in}
+use Rattle.drawing.proofs.Words.{◌≡◌, refl, arith, take, take_all, turns_in}
 use Rattle.drawing.proofs.groups.Run.push_pair_turns.Goals as goal
 
 pub returns : goal.returns

@@ -1,6 +1,4 @@
-use Rattle.std.proofs.Common.{◌≡◌, ◌++◌, flat_map, take}
-use Rattle.drawing.specs.Frame.{placeless}
-use Rattle.drawing.specs.LettersPicture.{bar_turns}
+use Rattle.drawing.proofs.Words.{◌≡◌, ◌++◌, flat_map, take, placeless, bar_turns}
 use Rattle.drawing.proofs.groups.Run.push_pair_turns.Given as goal
 
 -- the stretches so far

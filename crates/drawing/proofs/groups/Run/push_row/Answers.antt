@@ -1,6 +1,4 @@
-use Rattle.std.proofs.Common.{append_assoc}
-use Rattle.drawing.specs.Inside.Drawn.{pair_of}
-use Rattle.drawing.specs.Suspicions.{pair_at}
+use Rattle.drawing.proofs.Words.{append_assoc, pair_of, pair_at}
 use Rattle.drawing.proofs.groups.Run.push_row.Goals as goal
 
 pub returns : goal.returns

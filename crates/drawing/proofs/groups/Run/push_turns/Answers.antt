@@ -1,5 +1,4 @@
-use Rattle.std.proofs.Common.{◌≡◌, ◌≢◌, ◌+◌, refl, arith, append-nil, append_assoc}
-use Rattle.std.proofs.lemmas.Grind.{flat_map-append}
+use Rattle.drawing.proofs.Words.{◌≡◌, ◌≢◌, ◌+◌, refl, arith, append-nil, append_assoc, flat_map-append}
 use Rattle.drawing.proofs.Counting.{others_itself, others_other}
 use Rattle.drawing.proofs.groups.Run.push_turns.Goals as goal
 use Rattle.drawing.proofs.groups.Run.push_turns.Goals.{then-ne+in_ok-push_pair_turns, else-ne}

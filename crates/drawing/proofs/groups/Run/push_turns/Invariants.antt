@@ -1,7 +1,4 @@
-use Rattle.std.proofs.Common.{◌≡◌, ◌++◌, flat_map}
-use Rattle.process_api.specs.Numbers.{others}
-use Rattle.drawing.specs.Frame.{placeless}
-use Rattle.drawing.specs.Inside.LettersDrawn.{turns_in}
+use Rattle.drawing.proofs.Words.{◌≡◌, ◌++◌, flat_map, others, placeless, turns_in}
 use Rattle.drawing.proofs.groups.Run.push_turns.Given as goal
 
 -- the other processes so far

@@ -1,8 +1,4 @@
-use Rattle.std.proofs.Common.{◌≡◌, ◌∙◌, ◌+◌, ◌-◌, refl, subst, arith, ap, length}
-use Rattle.judges.proofs.Outcoming.{length-outcomes}
-use Rattle.drawing.specs.Inside.Drawn.{AreRows, has_row_in}
-use Rattle.drawing.specs.Frame.{placeless}
-use Rattle.drawing.specs.Layout.{groups_bottom}
+use Rattle.drawing.proofs.Words.{◌≡◌, ◌∙◌, ◌+◌, ◌-◌, refl, subst, arith, ap, length, length-outcomes, AreRows, has_row_in, placeless, groups_bottom}
 use Rattle.drawing.proofs.Counting.{groups_low}
 use Rattle.drawing.proofs.LineShapes.{told_at}
 use Rattle.drawing.proofs.groups.Run.rows.Goals as goal

@@ -1,6 +1,4 @@
-use Rattle.std.proofs.Common.{◌∙◌, sym, ap, false}
-use Rattle.drawing.specs.Inside.Sweeping.{passed_by}
-use Rattle.drawing.specs.declared.sweep.Sweep.{Sweep}
+use Rattle.drawing.proofs.Words.{◌∙◌, sym, ap, false, passed_by, Sweep}
 use Rattle.drawing.proofs.Sweeping.{closed}
 use Rattle.drawing.proofs.sweep.Sweep.close.Goals as goal
 use Rattle.drawing.proofs.sweep.Sweep.close.Goals.{in-Some+in_ok-push, in_default}

@@ -1,6 +1,4 @@
-use Rattle.std.proofs.Common.{ℕ, Bool, ◌≤◌, max, take}
-use Rattle.judges.specs.Turns.{noted_turns}
-use Rattle.drawing.specs.Inside.Sweeping.{IsSwept, after_all}
+use Rattle.drawing.proofs.Words.{ℕ, Bool, ◌≤◌, max, take, noted_turns, IsSwept, after_all}
 use Rattle.drawing.proofs.sweep.Sweep.note_all.Given as goal
 
 -- the notes so far

@@ -1,11 +1,5 @@
-use Rattle.std.proofs.Common.{length, map, ap, ◌∙◌, arith}
-use Rattle.std.proofs.lemmas.List.{length-map}
-use Rattle.process_api.specs.Numbers.{numbers_to}
-use Rattle.scenario_record.specs.Record.{opening_mind}
-use Rattle.steps.specs.Seat.{process_of}
-use Rattle.trace_laws.specs.World.{opened, starts}
+use Rattle.event_list.proofs.Words.{length, map, ap, ◌∙◌, arith, length-map, numbers_to, opening_mind, process_of, opened, starts, machines_open, length-numbers_to}
 use Rattle.event_list.proofs.Opening.{opening_stands}
-use Rattle.steps.proofs.Openings.{machines_open, length-numbers_to}
 use Rattle.event_list.proofs.list.EventList.open.Goals as goal
 
 pub seats_of-requires-after_bounds : goal.seats_of-requires-after_bounds

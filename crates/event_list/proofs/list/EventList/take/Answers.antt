@@ -1,16 +1,6 @@
-use Rattle.std.proofs.Common.{[], refl, ◌≡◌, ◌+◌, ◌-◌, ◌<◌, length, get_or, slice_get, slice_set, Some, map, ap, sym, subst, ◌∙◌, arith}
-use Rattle.std.proofs.lemmas.List.{map-set}
-use Rattle.std.proofs.lemmas.List.Elements.{All-set, All-weaker, All-get_or}
-use Rattle.trace_laws.specs.Joins.{HaveJoined}
-use Rattle.steps.specs.Posting.{posted_in}
-use Rattle.trace_laws.specs.ScenarioSetting.{setting_of}
-use Rattle.steps.specs.Seat.{process_of, IsSeated}
-use Rattle.event_list.specs.Inside.Standing.{IsStepped}
-use Rattle.process_api.specs.Mind.{Mind}
-use Rattle.trace_laws.specs.Step.{Process, step}
+use Rattle.event_list.proofs.Words.{[], refl, ◌≡◌, ◌+◌, ◌-◌, ◌<◌, length, get_or, slice_get, slice_set, Some, map, ap, sym, subst, ◌∙◌, arith, map-set, All-set, All-weaker, All-get_or, HaveJoined, posted_in, setting_of, process_of, IsSeated, IsStepped, Mind, Process, step, most_step_actions}
 use Rattle.event_list.proofs.Standing.{place_is, image_at}
 use Rattle.event_list.proofs.list.EventList.take.Goals as goal
-use Rattle.process_api.specs.Bounds.{most_step_actions}
 
 pub turn-requires-clause-own : goal.turn-requires-clause-own
 turn-requires-clause-own g c κs within =

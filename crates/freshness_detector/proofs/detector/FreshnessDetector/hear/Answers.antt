@@ -1,15 +1,7 @@
-use Rattle.std.proofs.Common.{◌≡◌, ◌<◌, ℕ, ◌++◌, ap, sym, ◌∙◌, append-nil, ◌≤◌, Option, None, true, false, ◌||◌, nat_le, length, slice_index_or, slice_set, arith}
-use Rattle.std.proofs.lemmas.Bool.{and_parts}
-use Rattle.std.proofs.lemmas.List.{get_or_default}
-use Rattle.std.specs.Option.{option_map_or}
+use Rattle.freshness_detector.proofs.Words.{◌≡◌, ◌<◌, ℕ, ◌++◌, ap, sym, ◌∙◌, append-nil, ◌≤◌, Option, None, true, false, ◌||◌, nat_le, length, slice_index_or, slice_set, arith, and_parts, get_or_default, option_map_or, suspected, is_process, place_of, state_by, state_of, heard_by}
 use Rattle.std.specs.FinSet as set
-use Rattle.process_api.specs.Freshness.{suspected}
-use Rattle.process_api.specs.Numbers.{is_process}
 use Rattle.process_api.specs.Watching.{is_other}
-use Rattle.scenario_record.specs.Opening.{place_of}
-use Rattle.freshness_detector.specs.Inside.Tables.{state_by}
 use Rattle.freshness_detector.specs.declared.detector.FreshnessDetector.{FreshnessDetector}
-use Rattle.freshness_detector.specs.Inside.View.{state_of, heard_by}
 use Rattle.freshness_detector.proofs.Points.{left_members, left_notes, kept_members, kept_notes}
 use Rattle.freshness_detector.proofs.Tables.{heard_tables}
 use Rattle.freshness_detector.proofs.detector.FreshnessDetector.hear.Goals as goal

@@ -1,8 +1,5 @@
-use Rattle.std.proofs.Common.{◌≡◌, ℕ, ◌+◌, Bool, sym, ap, ◌∙◌}
-use Rattle.std.proofs.lemmas.Bool.{cond-true, cond-false}
+use Rattle.freshness_detector.proofs.Words.{◌≡◌, ℕ, ◌+◌, Bool, sym, ap, ◌∙◌, cond-true, cond-false, insert_all-next, is_stale_at}
 use Rattle.std.specs.FinSet as set
-use Rattle.process_api.proofs.Contains.{insert_all-next}
-use Rattle.freshness_detector.specs.Inside.View.{is_stale_at}
 use Rattle.freshness_detector.proofs.detector.FreshnessDetector.suspects_at.Goals as goal
 use Rattle.freshness_detector.proofs.detector.FreshnessDetector.suspects_at.Goals.{then-is_stale, else-is_stale}
 

@@ -1,9 +1,6 @@
-use Rattle.std.proofs.Common.{◌≡◌}
+use Rattle.freshness_detector.proofs.Words.{◌≡◌, numbers_to, insert_all, is_stale_at}
 use Rattle.std.specs.List.{filter}
 use Rattle.std.specs.FinSet as set
-use Rattle.process_api.specs.Numbers.{numbers_to}
-use Rattle.process_api.specs.Sets.{insert_all}
-use Rattle.freshness_detector.specs.Inside.View.{is_stale_at}
 use Rattle.freshness_detector.proofs.detector.FreshnessDetector.suspects_at.Given as goal
 
 abbrev pub invariant-loop-before : goal.invariant-loop-before

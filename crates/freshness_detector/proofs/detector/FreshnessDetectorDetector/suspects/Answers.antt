@@ -1,6 +1,4 @@
-use Rattle.std.proofs.Common.{◌∙◌}
-use Rattle.scenario_record.specs.Opening.{place_of}
-use Rattle.freshness_detector.specs.Inside.View.{state_of}
+use Rattle.freshness_detector.proofs.Words.{◌∙◌, place_of, state_of}
 use Rattle.freshness_detector.proofs.Points.{same_suspects, not_itself}
 use Rattle.freshness_detector.proofs.detector.FreshnessDetectorDetector.suspects.Goals as goal
 

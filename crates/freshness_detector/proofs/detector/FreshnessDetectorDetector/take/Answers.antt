@@ -1,11 +1,8 @@
-use Rattle.std.proofs.Common.{subst, arith}
+use Rattle.freshness_detector.proofs.Words.{subst, arith, suspected, place_of, state_of}
 use Rattle.std.specs.Prelude.{IsTrue}
 use Rattle.process_api.proofs.DetectorLaws.{base_allowed, base_few, base_changes}
 use Rattle.process_api.specs.Detector.{ByFreshness, opening_detector, has_pauses, step_detector}
-use Rattle.process_api.specs.Freshness.{suspected}
 use Rattle.scenario_record.proofs.DetectorFacts.{opens_paced}
-use Rattle.scenario_record.specs.Opening.{place_of}
-use Rattle.freshness_detector.specs.Inside.View.{state_of}
 use Rattle.freshness_detector.proofs.detector.FreshnessDetectorDetector.take.Goals as goal
 
 pub returns-clause-allowed : goal.returns-clause-allowed

@@ -1,9 +1,4 @@
-use Rattle.std.proofs.Common.{◌≡◌, ◌-◌, ◌<◌, suc, refl, ap, ◌∙◌, arith, get_or, set, length, List, vec_len, inl, inr}
-use Rattle.std.proofs.lemmas.Bool.{cases_lt, false≢true}
-use Rattle.process_api.specs.EntryRecord.{EntryRecord}
-use Rattle.judges.specs.Outcomes.{outcome}
-use Rattle.judges.specs.Inside.Noting.{all_noted}
-use Rattle.judges.specs.declared.outcomes.Outcome.{Outcome}
+use Rattle.judges.proofs.Words.{◌≡◌, ◌-◌, ◌<◌, suc, refl, ap, ◌∙◌, arith, get_or, set, length, List, vec_len, inl, inr, cases_lt, false≢true, EntryRecord, outcome, all_noted, Outcome}
 use Rattle.judges.proofs.Outcoming.{outcomes-own, outcomes-other, outcomes-at, length-outcomes}
 use Rattle.judges.proofs.outcomes.RunningOutcomes.feed.Goals as goal
 

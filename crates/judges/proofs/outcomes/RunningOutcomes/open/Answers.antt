@@ -1,6 +1,5 @@
-use Rattle.std.proofs.Common.{◌∙◌, ◌++◌, ◌∷◌, [], ap}
+use Rattle.judges.proofs.Words.{◌∙◌, ◌++◌, ◌∷◌, [], ap, outcome}
 use Rattle.process_api.proofs.Numbering.{appended}
-use Rattle.judges.specs.Outcomes.{outcome}
 use Rattle.judges.proofs.outcomes.RunningOutcomes.open.Goals as goal
 
 pub loop-before-preserved : goal.loop-before-preserved

@@ -1,5 +1,4 @@
-use Rattle.std.proofs.Common.{◌≡◌, []}
-use Rattle.judges.specs.Outcomes.{outcomes}
+use Rattle.judges.proofs.Words.{◌≡◌, [], outcomes}
 use Rattle.judges.proofs.outcomes.RunningOutcomes.open.Given as goal
 
 abbrev pub invariant-loop-before : goal.invariant-loop-before

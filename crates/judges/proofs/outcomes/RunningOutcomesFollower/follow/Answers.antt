@@ -1,7 +1,4 @@
-use Rattle.std.proofs.Common.{◌≡◌, ◌∙◌, [], ap, sym, arith, vec_len}
-use Rattle.std.proofs.lemmas.Bool.{eqb-true}
-use Rattle.std.proofs.lemmas.List.{nil_from_length}
-use Rattle.process_api.specs.EntryRecord.{EntryRecord}
+use Rattle.judges.proofs.Words.{◌≡◌, ◌∙◌, [], ap, sym, arith, vec_len, eqb-true, nil_from_length, EntryRecord}
 use Rattle.judges.proofs.Outcoming.{outcomes_quiet}
 use Rattle.judges.proofs.outcomes.RunningOutcomesFollower.follow.Goals as goal
 

@@ -1,6 +1,4 @@
-use Rattle.std.proofs.Common.{◌≡◌, take}
-use Rattle.judges.specs.Turns.{noted_turns}
-use Rattle.judges.specs.Pair.{all_turned}
+use Rattle.judges.proofs.Words.{◌≡◌, take, noted_turns, all_turned}
 use Rattle.judges.proofs.pair.Pair.note_all.Given as goal
 
 abbrev pub invariant-loop-note : goal.invariant-loop-note

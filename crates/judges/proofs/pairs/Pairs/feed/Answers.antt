@@ -1,7 +1,4 @@
-use Rattle.std.proofs.Common.{[], cond, eqb, ap, subst, arith}
-use Rattle.process_api.specs.EntryRecord.{EntryRecord}
-use Rattle.judges.specs.Pair.{AreTurned}
-use Rattle.judges.specs.Turns.{noted_turns}
+use Rattle.judges.proofs.Words.{[], cond, eqb, ap, subst, arith, EntryRecord, AreTurned, noted_turns}
 use Rattle.judges.proofs.Entering.{pairs_fed, pairs_late}
 use Rattle.judges.proofs.pairs.Pairs.feed.Goals as goal
 

@@ -1,5 +1,4 @@
-use Rattle.mailboxes.proofs.Words.{subst, ap, HomeView, Account, Letter}
-use Rattle.std.specs.List.Sorted.{IsPermutation}
+use Rattle.mailboxes.proofs.Words.{subst, ap, HomeView, Account, Letter, IsPermutation}
 use Rattle.mailboxes.proofs.mailbox.Mailbox.empty.Goals as goal
 
 pub returns-clause-letters : goal.returns-clause-letters

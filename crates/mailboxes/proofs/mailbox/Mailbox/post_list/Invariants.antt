@@ -1,5 +1,4 @@
-use Rattle.mailboxes.proofs.Words.{◌≡◌, ◌++◌, []}
-use Rattle.std.specs.Vec.Iter.{drain_items, drain_kept}
+use Rattle.mailboxes.proofs.Words.{◌≡◌, ◌++◌, [], drain_items, drain_kept}
 use Rattle.mailboxes.proofs.mailbox.Mailbox.post_list.Given as goal
 
 -- what was posted, and what the rest would give

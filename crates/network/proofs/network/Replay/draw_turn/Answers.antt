@@ -1,12 +1,4 @@
-use Rattle.std.proofs.Common.{◌≡◌, ◌<◌, ◌∙◌, ap, sym, subst, ◌++◌, List, length, take, get_or, arith, rules}
-use Rattle.std.specs.Option.{option_to_list}
-use Rattle.std.specs.List.{flat_map}
-use Rattle.std.proofs.lemmas.List.{take_all, get_or_default}
-use Rattle.std.proofs.lemmas.Grind.{common_steps}
-use Rattle.scenario_record.specs.declared.outage.Outage.{Outage}
-use Rattle.network.specs.Drawn.{most_outages, on_each}
-use Rattle.network.specs.Replays.{left_of}
-use Rattle.scenario.specs.declared.drawn.LinkOutage.{LinkOutage}
+use Rattle.network.proofs.Basics.{◌≡◌, ◌<◌, ◌∙◌, ap, sym, subst, ◌++◌, List, length, take, get_or, arith, rules, option_to_list, flat_map, take_all, get_or_default, common_steps, Outage, most_outages, on_each, left_of, LinkOutage}
 use Rattle.network.proofs.Adding.{each_group, full_more}
 use Rattle.network.proofs.network.Replay.draw_turn.Goals as goal
 

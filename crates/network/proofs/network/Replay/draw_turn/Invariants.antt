@@ -1,7 +1,4 @@
-use Rattle.std.proofs.Common.{◌≡◌, ◌++◌, take}
-use Rattle.std.specs.List.{flat_map}
-use Rattle.network.specs.Drawn.{on_each}
-use Rattle.network.specs.Replays.{left_of}
+use Rattle.network.proofs.Basics.{◌≡◌, ◌++◌, take, flat_map, on_each, left_of}
 use Rattle.network.proofs.network.Replay.draw_turn.Given as goal
 
 -- those of the record's outages so far

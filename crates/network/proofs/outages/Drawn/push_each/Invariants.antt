@@ -1,5 +1,4 @@
-use Rattle.std.proofs.Common.{◌≡◌, ◌++◌, map, take}
-use Rattle.network.specs.Drawn.{outage_on}
+use Rattle.network.proofs.Basics.{◌≡◌, ◌++◌, map, take, outage_on}
 use Rattle.network.proofs.outages.Drawn.push_each.Given as goal
 
 -- those of the links so far

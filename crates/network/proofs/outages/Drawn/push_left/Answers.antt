@@ -1,6 +1,4 @@
-use Rattle.std.proofs.Common.{◌≡◌, ◌∙◌, ap, sym, ◌++◌, [], append-nil}
-use Rattle.std.specs.Option.{option_to_list}
-use Rattle.network.specs.Drawn.{on_each}
+use Rattle.network.proofs.Basics.{◌≡◌, ◌∙◌, ap, sym, ◌++◌, [], append-nil, option_to_list, on_each}
 use Rattle.network.proofs.Adding.{none_each}
 use Rattle.network.proofs.outages.Drawn.push_left.Goals as goal
 

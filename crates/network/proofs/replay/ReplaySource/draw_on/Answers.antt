@@ -1,10 +1,4 @@
-use Rattle.std.proofs.Common.{ℕ, ◌<◌, ◌+◌, ◌*◌, ◌/◌, ◌%◌, ◌∙◌, ap, sym, subst, ◌++◌, List, length, arith, rules}
-use Rattle.std.specs.List.{flat_map, range_with_len}
-use Rattle.std.proofs.lemmas.List.FromFn.{length-range_with_len}
-use Rattle.network.specs.Drawn.{most_outages, on_each}
-use Rattle.network.specs.Replays.{replayed_in}
-use Rattle.network.specs.Inside.Coming.{to_come}
-use Rattle.scenario.specs.declared.drawn.LinkOutage.{LinkOutage}
+use Rattle.network.proofs.Basics.{ℕ, ◌<◌, ◌+◌, ◌*◌, ◌/◌, ◌%◌, ◌∙◌, ap, sym, subst, ◌++◌, List, length, arith, rules, flat_map, range_with_len, length-range_with_len, most_outages, on_each, replayed_in, to_come, LinkOutage}
 use Rattle.network.proofs.Adding.{adds_more, all_taken, full_more, number_at}
 use Rattle.network.proofs.Records.{replayed-turns}
 use Rattle.network.proofs.replay.ReplaySource.draw_on.Goals as goal

@@ -1,7 +1,4 @@
-use Rattle.std.proofs.Common.{◌≡◌, ◌+◌, ◌*◌, ◌/◌, ◌++◌, take}
-use Rattle.std.specs.List.{flat_map, range_with_len}
-use Rattle.network.specs.Drawn.{on_each}
-use Rattle.network.specs.Replays.{replayed_in}
+use Rattle.network.proofs.Basics.{◌≡◌, ◌+◌, ◌*◌, ◌/◌, ◌++◌, take, flat_map, range_with_len, on_each, replayed_in}
 use Rattle.network.proofs.replay.ReplaySource.draw_on.Given as goal
 
 -- those of the turns so far

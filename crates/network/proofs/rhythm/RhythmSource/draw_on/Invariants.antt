@@ -1,6 +1,4 @@
-use Rattle.std.proofs.Common.{ℕ, ◌≡◌, ◌-◌, ◌++◌}
-use Rattle.network.specs.Drawn.{on_each}
-use Rattle.network.specs.Inside.Coming.{to_come}
+use Rattle.network.proofs.Basics.{ℕ, ◌≡◌, ◌-◌, ◌++◌, on_each, to_come}
 use Rattle.network.proofs.Turns.{IsAt, seen}
 use Rattle.network.proofs.rhythm.RhythmSource.draw_on.Given as goal
 

@@ -1,10 +1,4 @@
-use Rattle.std.proofs.Common.{◌≡◌, ℕ, ◌<◌, ◌∙◌, ap, sym, subst, ◌++◌, List, filter, length, arith, rules}
-use Rattle.std.specs.List.{flat_map, range_with_len}
-use Rattle.std.proofs.lemmas.List.{take_all}
-use Rattle.std.proofs.lemmas.Grind.{common_steps}
-use Rattle.network.specs.Groups.{holds}
-use Rattle.network.specs.Drawn.{most_outages, of_pause, pause_of}
-use Rattle.scenario.specs.declared.drawn.LinkOutage.{LinkOutage}
+use Rattle.network.proofs.Basics.{◌≡◌, ℕ, ◌<◌, ◌∙◌, ap, sym, subst, ◌++◌, List, filter, length, arith, rules, flat_map, range_with_len, take_all, common_steps, holds, most_outages, of_pause, pause_of, LinkOutage}
 use Rattle.network.proofs.Adding.{full_more}
 use Rattle.network.proofs.tables.PauseDrawsOutages.draw.Goals as goal
 

@@ -1,6 +1,4 @@
-use Rattle.std.proofs.Common.{◌≡◌, ◌++◌, take}
-use Rattle.std.specs.List.{flat_map}
-use Rattle.network.specs.Drawn.{pause_of}
+use Rattle.network.proofs.Basics.{◌≡◌, ◌++◌, take, flat_map, pause_of}
 use Rattle.network.proofs.tables.PauseDrawsOutages.draw.Given as goal
 
 -- those of the processes so far

@@ -1,7 +1,4 @@
-use Rattle.std.proofs.Common.{◌≡◌, ℕ, ◌%◌, ◌∙◌, ap, length, slice_index}
-use Rattle.network.specs.Words.{after}
-use Rattle.network.specs.Spells.{first_ticks_of, first_words_taken}
-use Rattle.network.specs.Inside.Coming.{to_come}
+use Rattle.network.proofs.Basics.{◌≡◌, ℕ, ◌%◌, ◌∙◌, ap, length, slice_index, after, first_ticks_of, first_words_taken, to_come}
 use Rattle.network.proofs.Coming.{after-after, after-first}
 use Rattle.network.proofs.words.SourceWords.first_ticks.Goals as goal
 

@@ -1,8 +1,4 @@
-use Rattle.std.proofs.Common.{◌≡◌, ℕ, ◌+◌, ◌-◌, ◌*◌, ◌/◌, ◌^◌, ◌<◌, if◌then◌else◌, ap, sym, ◌∙◌, arith}
-use Rattle.std.proofs.lemmas.Grind.{pow_more}
-use Rattle.network.specs.Words.{after}
-use Rattle.network.specs.Spells.{digits, is_one, odds}
-use Rattle.network.specs.Inside.Coming.{to_come}
+use Rattle.network.proofs.Basics.{◌≡◌, ℕ, ◌+◌, ◌-◌, ◌*◌, ◌/◌, ◌^◌, ◌<◌, if◌then◌else◌, ap, sym, ◌∙◌, arith, pow_more, after, digits, is_one, odds, to_come}
 use Rattle.network.proofs.Coming.{after-after, after-first, after-none}
 use Rattle.network.proofs.Odds.{digits-more, digits-zero, first_low, geometric-is, next_low, odds-more, odds-zero}
 use Rattle.network.proofs.words.SourceWords.geometric.Goals as goal

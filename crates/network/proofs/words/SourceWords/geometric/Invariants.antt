@@ -1,7 +1,4 @@
-use Rattle.std.proofs.Common.{◌≡◌, ◌<◌, ◌^◌}
-use Rattle.network.specs.Words.{after}
-use Rattle.network.specs.Spells.{digits, odds}
-use Rattle.network.specs.Inside.Coming.{to_come}
+use Rattle.network.proofs.Basics.{◌≡◌, ◌<◌, ◌^◌, after, digits, odds, to_come}
 use Rattle.network.proofs.words.SourceWords.geometric.Given as goal
 
 -- the digits so far

@@ -1,6 +1,4 @@
-use Rattle.std.proofs.Common.{◌≡◌, ◌∙◌, ap}
-use Rattle.network.specs.Words.{after}
-use Rattle.network.specs.Inside.Coming.{to_come}
+use Rattle.network.proofs.Basics.{◌≡◌, ◌∙◌, ap, after, to_come}
 use Rattle.network.proofs.Coming.{to_come-first, to_come-next}
 use Rattle.network.proofs.words.SourceWords.next.Goals as goal
 

@@ -1,5 +1,4 @@
-use Rattle.network.specs.Spells.{words_taken}
-use Rattle.network.specs.Inside.Coming.{to_come}
+use Rattle.network.proofs.Basics.{words_taken, to_come}
 use Rattle.network.proofs.Coming.{after-none}
 use Rattle.network.proofs.words.SourceWords.ticks.Goals as goal
 

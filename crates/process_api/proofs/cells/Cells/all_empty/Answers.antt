@@ -1,7 +1,5 @@
-use Rattle.std.proofs.Common.{◌-◌, ◌<◌, ◌∙◌, sym, ap, None, get_or, length, replicate, arith}
+use Rattle.process_api.proofs.Basics.{◌-◌, ◌<◌, ◌∙◌, sym, ap, None, get_or, length, replicate, arith, get_or_append_left, get_or_from_slice_get, slice_get_within}
 use Rattle.std.proofs.lemmas.Grind.{common_steps}
-use Rattle.std.proofs.lemmas.List.{get_or_append_left}
-use Rattle.std.proofs.lemmas.Option.{get_or_from_slice_get, slice_get_within}
 use Rattle.process_api.proofs.cells.Cells.all_empty.Goals as goal
 
 pub returns-else-is_empty : goal.returns-else-is_empty

@@ -1,5 +1,4 @@
-use Rattle.std.proofs.Common.{◌≡◌, ◌==◌, sym, ap, ◌∙◌, length, get_or, true, None, arith}
-use Rattle.std.specs.Option.{option_eq}
+use Rattle.process_api.proofs.Basics.{◌≡◌, ◌==◌, sym, ap, ◌∙◌, length, get_or, true, None, arith, option_eq}
 use Rattle.process_api.proofs.Vectors.{alike, granted, one_more, refuted, unlike, wide}
 use Rattle.process_api.proofs.cells.CellsPartialEq.eq.Goals as goal
 

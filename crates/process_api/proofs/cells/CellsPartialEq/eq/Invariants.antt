@@ -1,5 +1,4 @@
-use Rattle.std.proofs.Common.{◌≡◌, ◌==◌, ℕ, ◌<◌, None, true, get_or}
-use Rattle.std.specs.Option.{option_eq}
+use Rattle.process_api.proofs.Basics.{◌≡◌, ◌==◌, ℕ, ◌<◌, None, true, get_or, option_eq}
 use Rattle.process_api.proofs.cells.CellsPartialEq.eq.Given as goal
 
 abbrev pub invariant-loop-place : goal.invariant-loop-place

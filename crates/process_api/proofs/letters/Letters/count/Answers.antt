@@ -1,6 +1,4 @@
-use Rattle.std.proofs.Common.{◌∙◌, sym, ap, is_some}
-use Rattle.process_api.specs.Rounds.{count_to}
-use Rattle.process_api.specs.Letters.{in_row}
+use Rattle.process_api.proofs.Basics.{◌∙◌, sym, ap, is_some, count_to, in_row}
 use Rattle.process_api.proofs.Rows.{none_counted}
 use Rattle.process_api.proofs.letters.Letters.count.Goals as goal
 

@@ -1,8 +1,5 @@
-use Rattle.std.proofs.Common.{◌∙◌, ap, sym, subst, refl, IsSome}
+use Rattle.process_api.proofs.Basics.{◌∙◌, ap, sym, subst, refl, IsSome, keep, by_number, by_row, in_row, keep_one}
 use Rattle.std.proofs.lemmas.Result.{on_ok_weaker}
-use Rattle.process_api.specs.Coordinator.{keep}
-use Rattle.process_api.specs.Letters.{by_number, by_row, in_row}
-use Rattle.process_api.specs.Rows.{keep_one}
 use Rattle.process_api.proofs.Rows.{row_changed}
 use Rattle.process_api.proofs.letters.Letters.keep.Goals as goal
 

@@ -1,8 +1,4 @@
-use Rattle.std.proofs.Common.{rules, ◌≡◌, ◌+◌, ◌*◌, ◌/◌, ◌<◌, ◌^◌, [], ◌∷◌, get_or, refl, sym, ap, ◌∙◌, arith, w64, Some}
-use Rattle.std.specs.Int.{trailing_zeros}
-use Rattle.process_api.specs.Inside.Bits.{is_set, members}
-use Rattle.process_api.specs.Bounds.{most_processes}
-use Rattle.process_api.specs.InOrder.{in_order}
+use Rattle.process_api.proofs.Basics.{rules, ◌≡◌, ◌+◌, ◌*◌, ◌/◌, ◌<◌, ◌^◌, [], ◌∷◌, get_or, refl, sym, ap, ◌∙◌, arith, w64, Some, trailing_zeros, is_set, members, most_processes, in_order}
 use Rattle.process_api.proofs.BitWords.{lowest_place, lowest_set, none_below, none_set}
 use Rattle.process_api.proofs.Rising.{in_order-told, in_order-none, yielded, progressed}
 use Rattle.process_api.proofs.proc_set.MembersIterator.next.Goals as goal

@@ -1,8 +1,5 @@
-use Rattle.std.proofs.Common.{◌≡◌, ◌-◌, ◌/◌, ◌%◌, ap, sym, ◌∙◌, nat_eq, get_or, arith}
+use Rattle.process_api.proofs.Basics.{◌≡◌, ◌-◌, ◌/◌, ◌%◌, ap, sym, ◌∙◌, nat_eq, get_or, arith, shr_and_one, is_set, most_processes}
 use Rattle.std.specs.FinSet as set
-use Rattle.std.proofs.lemmas.Nat.Bits.{shr_and_one}
-use Rattle.process_api.specs.Inside.Bits.{is_set}
-use Rattle.process_api.specs.Bounds.{most_processes}
 use Rattle.process_api.proofs.Told.{told_in_range}
 use Rattle.process_api.proofs.proc_set.ProcSet.contains.Goals as goal
 

@@ -1,7 +1,5 @@
-use Rattle.std.proofs.Common.{◌≡◌, ◌-◌, ap, sym, ◌∙◌, arith}
+use Rattle.process_api.proofs.Basics.{◌≡◌, ◌-◌, ap, sym, ◌∙◌, arith, is_set, most_processes}
 use Rattle.std.specs.FinSet as set
-use Rattle.process_api.specs.Inside.Bits.{is_set}
-use Rattle.process_api.specs.Bounds.{most_processes}
 use Rattle.process_api.proofs.Told.{members-insert}
 use Rattle.process_api.proofs.proc_set.ProcSet.insert.Goals as goal
 

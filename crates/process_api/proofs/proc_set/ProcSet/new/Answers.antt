@@ -1,8 +1,4 @@
-use Rattle.std.proofs.Common.{◌/◌, arith, replicate}
-use Rattle.std.proofs.lemmas.List.{get_or-replicate}
-use Rattle.process_api.specs.Inside.Bits.{is_set}
-use Rattle.process_api.specs.Bounds.{most_processes}
-use Rattle.process_api.specs.declared.words.TheConstants.{WORDS}
+use Rattle.process_api.proofs.Basics.{◌/◌, arith, replicate, get_or-replicate, is_set, most_processes, WORDS}
 use Rattle.process_api.proofs.BitWords.{none_set}
 use Rattle.process_api.proofs.Told.{members-none}
 use Rattle.process_api.proofs.proc_set.ProcSet.new.Goals as goal

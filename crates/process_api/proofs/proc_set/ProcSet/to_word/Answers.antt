@@ -1,5 +1,4 @@
-use Rattle.std.proofs.Common.{rules, ℕ, ◌<◌, ◌^◌, get_or, sym, ◌∙◌, subst}
-use Rattle.process_api.specs.Sets.{HasAbove}
+use Rattle.process_api.proofs.Basics.{rules, ℕ, ◌<◌, ◌^◌, get_or, sym, ◌∙◌, subst, HasAbove}
 use Rattle.process_api.proofs.OneWord.{is_word, has_above}
 use Rattle.process_api.proofs.proc_set.ProcSet.to_word.Goals as goal
 

@@ -1,7 +1,4 @@
-use Rattle.std.proofs.Common.{◌∙◌, ap, nat_lt, ◌&&◌}
-use Rattle.process_api.specs.Inside.Bits.{is_set}
-use Rattle.process_api.specs.Bounds.{most_processes}
-use Rattle.process_api.specs.Sets.{up_to}
+use Rattle.process_api.proofs.Basics.{◌∙◌, ap, nat_lt, ◌&&◌, is_set, most_processes, up_to}
 use Rattle.process_api.proofs.Told.{members-up_to}
 use Rattle.process_api.proofs.proc_set.ProcSet.up_to.Goals as goal
 

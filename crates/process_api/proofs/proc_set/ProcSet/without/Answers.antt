@@ -1,7 +1,5 @@
-use Rattle.std.proofs.Common.{◌∙◌}
+use Rattle.process_api.proofs.Basics.{◌∙◌, is_set, most_processes}
 use Rattle.std.specs.FinSet as set
-use Rattle.process_api.specs.Inside.Bits.{is_set}
-use Rattle.process_api.specs.Bounds.{most_processes}
 use Rattle.process_api.proofs.Told.{members-difference}
 use Rattle.process_api.proofs.proc_set.ProcSet.without.Goals as goal
 

@@ -1,7 +1,5 @@
-use Rattle.std.proofs.Common.{◌≡◌, ◌∙◌, ap, arith, is_some}
+use Rattle.process_api.proofs.Basics.{◌≡◌, ◌∙◌, ap, arith, is_some, of_sender, count_to}
 use Rattle.std.specs.FinSet as set
-use Rattle.process_api.specs.Letters.{of_sender}
-use Rattle.process_api.specs.Rounds.{count_to}
 use Rattle.process_api.proofs.Rows.{counted, count_most}
 use Rattle.process_api.proofs.row.Row.count.Goals as goal
 

@@ -1,10 +1,4 @@
-use Rattle.std.proofs.Common.{◌++◌, [], inl, refl, sym, subst}
-use Rattle.windows.proofs.Handed.{on_err}
-use Rattle.reporting.specs.Running.{RunningFollowed}
-use Rattle.reporting.specs.TraceText.{rows_text}
-use Rattle.reporting.specs.Writing.{Wrote}
-use Rattle.reporting.proofs.Fed.{on_ok}
-use Rattle.qos_report.specs.Inside.Streaming.{WroteWhere}
+use Rattle.qos_report.proofs.Words.{◌++◌, [], inl, refl, sym, subst, on_err, RunningFollowed, rows_text, Wrote, on_ok, WroteWhere}
 use Rattle.qos_report.proofs.Streamed.{where_nothing}
 use Rattle.qos_report.proofs.streaming.StreamingSink.part.Goals as goal
 

@@ -1,6 +1,4 @@
-use Rattle.std.proofs.Common.{◌≡◌, true, length, refl, arith}
-use Rattle.std.proofs.lemmas.List.{with_items_is}
-use Rattle.reporting.specs.Durations.{AreCaught, lists_in}
+use Rattle.reporting.proofs.Words.{◌≡◌, true, length, refl, arith, with_items_is, AreCaught, lists_in}
 use Rattle.reporting.proofs.Listing.{closes_caught, same_length}
 use Rattle.reporting.proofs.durations.Durations.close.Goals as goal
 

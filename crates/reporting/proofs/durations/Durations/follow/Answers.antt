@@ -1,7 +1,4 @@
-use Rattle.std.proofs.Common.{◌≡◌, ◌+◌, ◌-◌, ◌*◌, false, ap, ◌∙◌, refl, arith}
-use Rattle.std.proofs.lemmas.List.{with_items_is}
-use Rattle.process_api.specs.EntryRecord.{EntryRecord}
-use Rattle.reporting.specs.Durations.{AreCaught, lists_in}
+use Rattle.reporting.proofs.Words.{◌≡◌, ◌+◌, ◌-◌, ◌*◌, false, ap, ◌∙◌, refl, arith, with_items_is, EntryRecord, AreCaught, lists_in}
 use Rattle.reporting.proofs.Listing.{follows_above, follows_caught, same_length}
 use Rattle.reporting.proofs.durations.Durations.follow.Goals as goal
 

@@ -1,5 +1,4 @@
-use Rattle.std.proofs.Common.{◌≡◌, ℕ, [], get_or, vec_len}
-use Rattle.reporting.specs.Durations.{lists_in}
+use Rattle.reporting.proofs.Words.{◌≡◌, ℕ, [], get_or, vec_len, lists_in}
 use Rattle.reporting.proofs.durations.Durations.open.Given as goal
 
 abbrev pub invariant-loop : goal.invariant-loop

@@ -1,6 +1,5 @@
-use Rattle.std.proofs.Common.{◌∙◌, refl}
+use Rattle.reporting.proofs.Words.{◌∙◌, refl, counted, new_tally, tracked}
 use Rattle.judges.proofs.Closing.{judging_closed}
-use Rattle.reporting.specs.Tally.{counted, new_tally, tracked}
 use Rattle.reporting.proofs.Passes.{tallies_seen}
 use Rattle.reporting.proofs.layer.Layer.close.Goals as goal
 

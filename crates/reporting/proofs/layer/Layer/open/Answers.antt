@@ -1,6 +1,4 @@
-use Rattle.std.proofs.Common.{[], subst}
-use Rattle.judges.specs.Pairs.{ArePairs}
-use Rattle.reporting.specs.Tally.{counted}
+use Rattle.reporting.proofs.Words.{[], subst, ArePairs, counted}
 use Rattle.reporting.proofs.layer.Layer.open.Goals as goal
 
 pub returns : goal.returns

@@ -1,11 +1,5 @@
-use Rattle.std.proofs.Common.{◌≡◌, ◌∙◌, [], ap, sym, arith, vec_len}
-use Rattle.std.proofs.lemmas.Bool.{eqb-true}
-use Rattle.std.proofs.lemmas.List.{nil_from_length}
-use Rattle.process_api.specs.EntryRecord.{EntryRecord}
-use Rattle.judges.proofs.Entering.{pairs_quiet}
+use Rattle.reporting.proofs.Words.{◌≡◌, ◌∙◌, [], ap, sym, arith, vec_len, eqb-true, nil_from_length, EntryRecord, pairs_quiet, IsLayer, counted, new_tally}
 use Rattle.judges.proofs.Following.{next_followed}
-use Rattle.reporting.specs.Running.{IsLayer}
-use Rattle.reporting.specs.Tally.{counted, new_tally}
 use Rattle.reporting.proofs.Listing.{follows_quiet}
 use Rattle.reporting.proofs.Fed.{on_ok}
 use Rattle.reporting.proofs.layer.LayerFollower.follow.Goals as goal

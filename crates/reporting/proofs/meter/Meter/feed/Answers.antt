@@ -1,9 +1,4 @@
-use Rattle.std.proofs.Common.{◌≡◌, ap, sym, ◌∙◌, arith}
-use Rattle.std.proofs.lemmas.Bool.{eq-eqb, eqb-true, both_ways}
-use Rattle.process_api.specs.EntryRecord.{EntryRecord}
-use Rattle.judges.specs.Pair.{all_turned}
-use Rattle.judges.specs.Turns.{noted_turns}
-use Rattle.reporting.specs.Tally.{counted}
+use Rattle.reporting.proofs.Words.{◌≡◌, ap, sym, ◌∙◌, arith, eq-eqb, eqb-true, both_ways, EntryRecord, all_turned, noted_turns, counted}
 use Rattle.reporting.proofs.Closing.{meter_fed, meter_late, meter_other}
 use Rattle.reporting.proofs.meter.Meter.feed.Goals.{else-eq-via-then-eq+else-entry-self, else-eq-via-else-eq}
 use Rattle.reporting.proofs.meter.Meter.feed.Goals as goal

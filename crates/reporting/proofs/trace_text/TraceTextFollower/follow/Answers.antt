@@ -1,5 +1,4 @@
-use Rattle.std.proofs.Common.{◌∙◌, ◌++◌, ◌∷◌, [], ap, sym, subst, append_assoc}
-use Rattle.reporting.specs.Rows.{row_of}
+use Rattle.reporting.proofs.Words.{◌∙◌, ◌++◌, ◌∷◌, [], ap, sym, subst, append_assoc, row_of}
 use Rattle.reporting.specs.TraceText.{Holds, fields_of, rows_text}
 use Rattle.reporting.proofs.Fed.{on_ok}
 use Rattle.reporting.proofs.Written.{rows_both, rows_one}

@@ -1,9 +1,5 @@
-use Rattle.std.proofs.Common.{◌≡◌, ℕ, ◌+◌, ◌-◌, [], ◌∷◌, ◌++◌, List, sym, ap, ◌∙◌, arith, rules}
-use Rattle.std.specs.List.{flat_map, range_with_len}
+use Rattle.reporting_tests.proofs.Words.{◌≡◌, ℕ, ◌+◌, ◌-◌, [], ◌∷◌, ◌++◌, List, sym, ap, ◌∙◌, arith, rules, flat_map, range_with_len, flat_map_more, block, range_more}
 use Rattle.std.specs.declared.ops.Range.{Range}
-use Rattle.std.proofs.lemmas.List.{flat_map_more}
-use Rattle.study.specs.Shard.{block}
-use Rattle.sweep.proofs.Zipped.{range_more}
 use Rattle.reporting_tests.proofs.sweep_tests.laws.points_of_shards.Goals as goal
 
 pub loop-before-preserved : goal.loop-before-preserved

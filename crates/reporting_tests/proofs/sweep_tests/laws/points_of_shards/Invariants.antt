@@ -1,6 +1,4 @@
-use Rattle.std.proofs.Common.{◌≡◌, ◌-◌}
-use Rattle.std.specs.List.{flat_map, range_with_len}
-use Rattle.study.specs.Shard.{block}
+use Rattle.reporting_tests.proofs.Words.{◌≡◌, ◌-◌, flat_map, range_with_len, block}
 use Rattle.reporting_tests.proofs.sweep_tests.laws.points_of_shards.Given as goal
 
 abbrev pub invariant-loop-before : goal.invariant-loop-before

@@ -1,8 +1,6 @@
-use Rattle.std.proofs.Common.{◌≡◌, ℕ, ◌*◌, ◌/◌, ◌==◌, length, map, ap, sym, ◌∙◌, arith}
-use Rattle.std.specs.List.{count_by, range_with_len}
+use Rattle.reporting_tests.proofs.Words.{◌≡◌, ℕ, ◌*◌, ◌/◌, ◌==◌, length, map, ap, sym, ◌∙◌, arith, count_by, range_with_len, runs, turn}
 use Rattle.std.proofs.Math.Nat.{mul-div_left}
 use Rattle.study.specs.Combinations.{combinations}
-use Rattle.study.specs.Grid.{runs, turn}
 use Rattle.study.proofs.Points.{runs_length}
 use Rattle.reporting_tests.proofs.sweep_tests.laws.seeds_of_each.Goals as goal
 

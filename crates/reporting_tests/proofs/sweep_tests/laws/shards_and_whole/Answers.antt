@@ -1,9 +1,4 @@
-use Rattle.std.proofs.Common.{◌++◌, Some, sym, ap, ◌∙◌, subst}
-use Rattle.study.specs.Sources.{sources_of}
-use Rattle.reporting.specs.Outlet.{Held}
-use Rattle.study.specs.Shard.{ShardRecord}
-use Rattle.sweep.specs.Outcome.{WroteStudy}
-use Rattle.sweep.specs.StudyText.{HasOneText}
+use Rattle.reporting_tests.proofs.Words.{◌++◌, Some, sym, ap, ◌∙◌, subst, sources_of, Held, ShardRecord, WroteStudy, HasOneText}
 use Rattle.reporting_tests.proofs.sweep_tests.laws.shards_and_whole.Goals as goal
 
 -- both are the one text of the whole

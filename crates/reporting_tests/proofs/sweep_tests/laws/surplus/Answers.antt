@@ -1,7 +1,5 @@
-use Rattle.std.proofs.Common.{◌≡◌, ℕ, ◌-◌, List, length, ap, sym, refl, ◌∙◌, arith}
-use Rattle.std.specs.List.{range_with_len}
+use Rattle.reporting_tests.proofs.Words.{◌≡◌, ℕ, ◌-◌, List, length, ap, sym, refl, ◌∙◌, arith, range_with_len, ShardRecord, IsShard, block}
 use Rattle.std.proofs.lemmas.List.FromFn.{length-range_with_len}
-use Rattle.study.specs.Shard.{ShardRecord, IsShard, block}
 use Rattle.reporting_tests.proofs.sweep_tests.laws.surplus.Goals as goal
 
 pub returns : goal.returns

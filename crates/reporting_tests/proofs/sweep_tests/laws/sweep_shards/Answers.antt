@@ -1,11 +1,4 @@
-use Rattle.std.proofs.Common.{◌≡◌, ℕ, Some, sym, subst, arith}
-use Rattle.std.specs.List.{AllZip, range_with_len}
-use Rattle.study.specs.Sources.{sources_of}
-use Rattle.reporting.specs.Outlet.{Held}
-use Rattle.study.specs.Shard.{ShardRecord}
-use Rattle.sweep.specs.Outcome.{WroteStudy}
-use Rattle.sweep.specs.RowText.{Text}
-use Rattle.sweep.specs.StudyText.{IsStudyText}
+use Rattle.reporting_tests.proofs.Words.{◌≡◌, ℕ, Some, sym, subst, arith, AllZip, range_with_len, sources_of, Held, ShardRecord, WroteStudy, Text, IsStudyText}
 use Rattle.reporting_tests.proofs.InTurn.{none_out, one_more}
 use Rattle.reporting_tests.proofs.sweep_tests.laws.sweep_shards.Goals as goal
 

@@ -1,5 +1,4 @@
-use Rattle.std.proofs.Common.{ap, sym, ◌∙◌}
-use Rattle.study.specs.Grid.{RunRecord, run_of}
+use Rattle.reporting_tests.proofs.Words.{ap, sym, ◌∙◌, RunRecord, run_of}
 use Rattle.reporting_tests.proofs.sweep_tests.laws.two_seeds.Goals as goal
 
 pub returns : goal.returns

@@ -1,9 +1,5 @@
-use Rattle.std.proofs.Common.{◌≡◌, ◌+◌, ◌*◌, ◌∙◌, [], ◌∷◌, ◌++◌, ℕ, cond, eqb, count_by, ap, sym, subst, arith}
+use Rattle.runs.proofs.Words.{◌≡◌, ◌+◌, ◌*◌, ◌∙◌, [], ◌∷◌, ◌++◌, ℕ, cond, eqb, count_by, ap, sym, subst, arith, with_items_is, EntryRecord, is_trust, trusts, AreCounts}
 use Rattle.std.specs.Vec.{with_items}
-use Rattle.std.proofs.lemmas.List.{with_items_is}
-use Rattle.process_api.specs.EntryRecord.{EntryRecord}
-use Rattle.detector_bounds.specs.Detected.{is_trust, trusts}
-use Rattle.runs.specs.Trusts.{AreCounts}
 use Rattle.runs.proofs.Trusting.{entry_counted}
 use Rattle.runs.proofs.trusts.Trusts.feed.Goals as goal
 

@@ -1,7 +1,4 @@
-use Rattle.std.proofs.Common.{◌≡◌, ◌∙◌, [], ap, sym, arith, vec_len}
-use Rattle.std.proofs.lemmas.Bool.{eqb-true}
-use Rattle.std.proofs.lemmas.List.{nil_from_length}
-use Rattle.process_api.specs.EntryRecord.{EntryRecord}
+use Rattle.runs.proofs.Words.{◌≡◌, ◌∙◌, [], ap, sym, arith, vec_len, eqb-true, nil_from_length, EntryRecord}
 use Rattle.runs.proofs.Trusting.{quiet_counted}
 use Rattle.runs.proofs.trusts.TrustsFollower.follow.Goals as goal
 

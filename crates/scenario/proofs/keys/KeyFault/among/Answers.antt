@@ -1,7 +1,4 @@
-use Rattle.std.proofs.Common.{◌≡◌, ◌∙◌, ap, sym, is_some, true}
-use Rattle.toml.specs.View.{table_view}
-use Rattle.scenario.specs.Parts.{fault_of}
-use Rattle.scenario.specs.Place.{array_key, fields_of_array, table_of}
+use Rattle.scenario.proofs.Words.{◌≡◌, ◌∙◌, ap, sym, is_some, true, table_view, fault_of, array_key, fields_of_array, table_of}
 use Rattle.scenario.proofs.Elements.{IsAt, numbered_table}
 use Rattle.scenario.proofs.Slots.{bad_one}
 use Rattle.scenario.proofs.keys.KeyFault.among.Goals as goal

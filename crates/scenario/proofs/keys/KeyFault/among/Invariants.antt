@@ -1,7 +1,4 @@
-use Rattle.std.proofs.Common.{◌≡◌, take, false}
-use Rattle.std.specs.List.{list_any}
-use Rattle.scenario.specs.Parts.{fault_of, tables_in}
-use Rattle.scenario.specs.Place.{fields_of_array}
+use Rattle.scenario.proofs.Words.{◌≡◌, take, false, list_any, fault_of, tables_in, fields_of_array}
 use Rattle.scenario.proofs.keys.KeyFault.among.Given as goal
 
 abbrev pub invariant-loop-i : goal.invariant-loop-i

@@ -1,13 +1,4 @@
-use Rattle.std.proofs.Common.{◌≡◌, ◌+◌, ◌∷◌, ◌++◌, ◌∙◌, [], ap, refl, sym, arith, slice_set}
-use Rattle.std.specs.Prelude.{drop}
-use Rattle.process_api.specs.declared.action.Action.{Action}
-use Rattle.process_api.specs.Actions.{IsAllowed}
-use Rattle.trace_laws.specs.ScenarioSetting.{setting_of}
-use Rattle.steps.specs.Posting.{posted_by, posting}
-use Rattle.steps.specs.Seat.{count_of}
-use Rattle.trace_laws.specs.Step.{added, joining, lost, noted, sent}
-use Rattle.trace_laws.proofs.Joining.{joined_init, all_joined}
-use Rattle.std.proofs.lemmas.List.{drop_all, length-set}
+use Rattle.steps.proofs.Words.{◌≡◌, ◌+◌, ◌∷◌, ◌++◌, ◌∙◌, [], ap, refl, sym, arith, slice_set, drop, Action, IsAllowed, setting_of, posted_by, posting, count_of, added, joining, lost, noted, sent, joined_init, all_joined, drop_all, length-set}
 use Rattle.steps.proofs.Performing.{one_counted, one_joined, one_lost, one_sent, one_noted, one_sent_few, one_lost_few, one_room, one_allowed, drop_at, sent_all, noted_all, counted_all, lost_all}
 use Rattle.steps.proofs.links.Links.perform.Goals as goal
 

@@ -1,13 +1,4 @@
-use Rattle.std.proofs.Common.{◌≡◌, ◌≤◌, ◌+◌, ◌++◌, ℕ, length, vec_len}
-use Rattle.std.specs.List.{AllByRecursion}
-use Rattle.std.specs.Prelude.{drop}
-use Rattle.process_api.specs.Actions.{IsAllowed}
-use Rattle.trace_laws.specs.Joins.{StillServes}
-use Rattle.trace_laws.specs.ScenarioSetting.{setting_of}
-use Rattle.steps.specs.Posting.{posted_by}
-use Rattle.steps.specs.Seat.{count_of}
-use Rattle.trace_laws.specs.Step.{counts_after, added, sent, lost, noted}
-use Rattle.trace_laws.proofs.Joining.{Joined}
+use Rattle.steps.proofs.Words.{◌≡◌, ◌≤◌, ◌+◌, ◌++◌, ℕ, length, vec_len, AllByRecursion, drop, IsAllowed, StillServes, setting_of, posted_by, count_of, counts_after, added, sent, lost, noted, Joined}
 use Rattle.steps.proofs.links.Links.perform.Given as goal
 
 -- what was done so far, and what the rest does, is what all actions do

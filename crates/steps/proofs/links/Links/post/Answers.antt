@@ -1,5 +1,4 @@
-use Rattle.std.proofs.Common.{◌≡◌, ap, subst, sym, ◌∙◌}
-use Rattle.std.proofs.lemmas.Bool.{eqb-true}
+use Rattle.steps.proofs.Words.{◌≡◌, ap, subst, sym, ◌∙◌, eqb-true}
 use Rattle.steps.proofs.links.Links.post.Goals as goal
 
 pub add-requires : goal.add-requires

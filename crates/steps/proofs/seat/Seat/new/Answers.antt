@@ -1,7 +1,4 @@
-use Rattle.std.proofs.Common.{◌≡◌, ◌+◌, ◌∙◌, ℕ, zero, suc, ap, refl, replicate, length, arith}
-use Rattle.std.proofs.lemmas.List.{length-replicate}
-use Rattle.scenario_record.specs.Record.{crash}
-use Rattle.steps.specs.Seat.{count_of}
+use Rattle.steps.proofs.Words.{◌≡◌, ◌+◌, ◌∙◌, ℕ, zero, suc, ap, refl, replicate, length, arith, length-replicate, crash, count_of}
 use Rattle.steps.proofs.seat.Seat.new.Goals as goal
 
 zero_at : (n q : ℕ) → count_of (replicate n 0) q ≡ 0

@@ -1,16 +1,10 @@
-use Rattle.std.proofs.Common.{[], ◌++◌, cond, false, ◌≡◌, ◌≤◌, ap, sym, subst, ◌∙◌, arith, vec_len}
+use Rattle.steps.proofs.Words.{[], ◌++◌, cond, false, ◌≡◌, ◌≤◌, ap, sym, subst, ◌∙◌, arith, vec_len, Mind, is_mind_at, Record, crash, place_in, setting_of, process_of, own_of, IsSeated, has_crashed, dead, lost, made_by, noted, sent}
 use Rattle.std.specs.Prelude.{IsTrue, ℕ}
 use Rattle.std.proofs.lemmas.Result.{IfOk-weaker}
-use Rattle.process_api.specs.Mind.{Mind, is_mind_at}
 use Rattle.process_api.proofs.Minds.{mind_place, same_own}
 use Rattle.process_api.proofs.Keeping.{react_keeps}
 use Rattle.process_api.specs.React.{react}
 use Rattle.process_api.specs.declared.message.StepInput.{StepInput}
-use Rattle.scenario_record.specs.Record.{Record, crash, place_in}
-use Rattle.trace_laws.specs.ScenarioSetting.{setting_of}
-use Rattle.steps.specs.Seat.{process_of, own_of, IsSeated}
-use Rattle.trace_laws.specs.Setting.{has_crashed}
-use Rattle.trace_laws.specs.Step.{dead, lost, made_by, noted, sent}
 use Rattle.steps.proofs.Performing.{on_ok_of, on_ok_three}
 use Rattle.steps.proofs.seat.Seat.turn.Goals as goal
 

@@ -1,8 +1,4 @@
-use Rattle.std.proofs.Common.{◌≡◌, ◌∙◌, [], None, length, sym, subst, lit<}
-use Rattle.std.proofs.lemmas.Bool.{eqb-true}
-use Rattle.std.proofs.lemmas.Str.Pattern.{split_parts}
-use Rattle.study.specs.Settings.{path_of}
-use Rattle.study.specs.KeyWords.{SaysKey, SaysNoKey}
+use Rattle.study.proofs.Basics.{◌≡◌, ◌∙◌, [], None, length, sym, subst, lit<, eqb-true, split_parts, path_of, SaysKey, SaysNoKey}
 use Rattle.study.specs.SetWords.{no_equals, no_key, no_value}
 use Rattle.study.proofs.Parts.{has_not, split_has, nothing}
 use Rattle.study.proofs.assignment.Assignment.parse.Goals as goal

@@ -1,10 +1,6 @@
-use Rattle.std.proofs.Common.{◌≡◌, ◌∙◌, None, Some, false, sym, subst, map, length, lit<}
-use Rattle.std.proofs.lemmas.List.{length-map}
-use Rattle.std.proofs.lemmas.Str.Pattern.{split_parts}
+use Rattle.study.proofs.Basics.{◌≡◌, ◌∙◌, None, Some, false, sym, subst, map, length, lit<, length-map, split_parts, path_of, SaysKey, SayNoKeys}
 use Rattle.std.specs.List.{All, AllZip}
-use Rattle.study.specs.Settings.{path_of}
 use Rattle.study.specs.Words.{after, between}
-use Rattle.study.specs.KeyWords.{SaysKey, SayNoKeys}
 use Rattle.study.specs.AxisWords.{first_fault, entries, SaysNoAxis, no_equals, no_key, no_values, is_memory}
 use Rattle.study.proofs.KeyNames.{carried}
 use Rattle.study.proofs.Parts.{has_not, split_has}

@@ -1,6 +1,4 @@
-use Rattle.std.proofs.Common.{◌≡◌, ◌∙◌, ap, sym, arith, ◌%◌, length}
-use Rattle.study.specs.Combinations.{combinations}
-use Rattle.study.specs.Grid.{GridRecord}
+use Rattle.study.proofs.Basics.{◌≡◌, ◌∙◌, ap, sym, arith, ◌%◌, length, combinations, GridRecord}
 use Rattle.study.proofs.Points.{own_seeds, dealt_evenly}
 use Rattle.study.proofs.grid.Grid.law_deals.Goals as goal
 

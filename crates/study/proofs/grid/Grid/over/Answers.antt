@@ -1,6 +1,4 @@
-use Rattle.std.proofs.Common.{◌≡◌, ◌∙◌, ap, sym, map}
-use Rattle.study.specs.Settings.{choices}
-use Rattle.study.specs.Grid.{GridRecord, paths_of, keys_of}
+use Rattle.study.proofs.Basics.{◌≡◌, ◌∙◌, ap, sym, map, choices, GridRecord, paths_of, keys_of}
 use Rattle.study.proofs.Points.{first_keys}
 use Rattle.study.proofs.grid.Grid.over.Goals as goal
 

@@ -1,6 +1,4 @@
-use Rattle.std.proofs.Common.{◌≡◌, ◌∙◌, ap, sym, subst, ◌++◌, [], ◌+◌, ◌/◌, ◌%◌, ◌<◌, map, length, get_or, arith}
-use Rattle.study.specs.Settings.{chosen}
-use Rattle.study.specs.Grid.{GridRecord, runs}
+use Rattle.study.proofs.Basics.{◌≡◌, ◌∙◌, ap, sym, subst, ◌++◌, [], ◌+◌, ◌/◌, ◌%◌, ◌<◌, map, length, get_or, arith, chosen, GridRecord, runs}
 use Rattle.study.proofs.Points.{ways, shown, mix_within, run_is, made}
 use Rattle.study.proofs.grid.Grid.run.Goals as goal
 

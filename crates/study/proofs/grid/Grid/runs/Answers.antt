@@ -1,7 +1,5 @@
-use Rattle.std.proofs.Common.{◌∙◌, ap, sym, subst, ℕ, ◌*◌, ◌≤◌, length}
-use Rattle.std.proofs.Math.Nat.{one-le-mul}
+use Rattle.study.proofs.Basics.{◌∙◌, ap, sym, subst, ℕ, ◌*◌, ◌≤◌, length, one-le-mul, GridRecord, runs}
 use Rattle.study.proofs.Points.{shown, some_ways, runs_length}
-use Rattle.study.specs.Grid.{GridRecord, runs}
 use Rattle.study.proofs.grid.Grid.runs.Goals as goal
 
 pub returns-clause-value : goal.returns-clause-value

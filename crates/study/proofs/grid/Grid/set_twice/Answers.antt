@@ -1,8 +1,4 @@
-use Rattle.std.proofs.Common.{◌≡◌, ◌∙◌, ◌++◌, ap, sym, map, take, drop, length, Bor, List}
-use Rattle.std.proofs.lemmas.List.{length-map}
-use Rattle.study.specs.Settings.{Path, path_of}
-use Rattle.study.specs.Grid.{first_again, all_keys}
-use Rattle.study.specs.declared.key.Key.{Key}
+use Rattle.study.proofs.Basics.{◌≡◌, ◌∙◌, ◌++◌, ap, sym, map, take, drop, length, Bor, List, length-map, Path, path_of, first_again, all_keys, Key}
 use Rattle.study.proofs.Parts.{parted}
 use Rattle.study.proofs.grid.Grid.set_twice.Goals as goal
 

@@ -1,7 +1,4 @@
-use Rattle.std.proofs.Common.{◌≡◌, ◌∙◌, [], ap, sym, map, get_or}
-use Rattle.study.specs.Combinations.{combinations}
-use Rattle.study.specs.Settings.{choices}
-use Rattle.study.specs.Grid.{GridRecord, paths_of}
+use Rattle.study.proofs.Basics.{◌≡◌, ◌∙◌, [], ap, sym, map, get_or, combinations, choices, GridRecord, paths_of}
 use Rattle.study.proofs.Points.{first_keys}
 use Rattle.study.proofs.grid.Grid.varied.Goals as goal
 

@@ -1,6 +1,4 @@
-use Rattle.std.proofs.Common.{◌≡◌, ◌*◌, pos, ◌∙◌, ap, arith, w64, rules}
-use Rattle.std.proofs.lemmas.Int.{ints, to_z-of_z}
-use Rattle.std.specs.Int.RustNames.{FitsSigned, unsigned_abs}
+use Rattle.study.proofs.Basics.{◌≡◌, ◌*◌, pos, ◌∙◌, ap, arith, w64, rules, ints, to_z-of_z, FitsSigned, unsigned_abs}
 use Rattle.study.proofs.Pieces.{reached}
 use Rattle.study.proofs.range.Range.number.Goals as goal
 

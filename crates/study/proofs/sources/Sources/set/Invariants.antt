@@ -1,6 +1,4 @@
-use Rattle.std.proofs.Common.{◌≡◌, drop}
-use Rattle.study.specs.Sources.{sources_of}
-use Rattle.study.specs.Placed.{assign_all}
+use Rattle.study.proofs.Basics.{◌≡◌, drop, sources_of, assign_all}
 use Rattle.study.proofs.sources.Sources.set.Given as goal
 
 abbrev pub invariant-loop-assignment : goal.invariant-loop-assignment

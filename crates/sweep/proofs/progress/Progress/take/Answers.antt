@@ -1,5 +1,4 @@
-use Rattle.sweep.proofs.Words.{rules, ℕ, ◌+◌, arith, refl, sym, subst, runs_each, WroteUpTo}
-use Rattle.sweep.specs.declared.error.SweepError.TheVariants.{Memory, Write}
+use Rattle.sweep.proofs.Words.{rules, ℕ, ◌+◌, arith, refl, sym, subst, runs_each, WroteUpTo, Memory, Write}
 use Rattle.sweep.proofs.Numbered.{unit_below, point_below}
 use Rattle.sweep.proofs.Reading.{if_err}
 use Rattle.sweep.proofs.Advancing.{added_to, rows_added, wrote_more, wrote_front}

@@ -1,7 +1,5 @@
-use Rattle.sweep.proofs.Words.{rules, ◌≡◌, ◌++◌, ◌/◌, ℕ, List, length, take, drop, refl, ap, ◌∙◌, take-append_seam, drop-append_seam, verdicts, Verdicts, MeasuresRun, RunFindings, PairMeasures, IsInRange, Record, done_run, AreLayerFindings}
-use Rattle.reporting.specs.Measures.{layer_measures}
+use Rattle.sweep.proofs.Words.{rules, ◌≡◌, ◌++◌, ◌/◌, ℕ, List, length, take, drop, refl, ap, ◌∙◌, take-append_seam, drop-append_seam, verdicts, Verdicts, MeasuresRun, RunFindings, PairMeasures, IsInRange, Record, done_run, AreLayerFindings, layer_measures, Trusts}
 use Rattle.reporting.specs.declared.durations.RunDurations.{RunDurations}
-use Rattle.runs.specs.declared.trusts.Trusts.{Trusts}
 use Rattle.sweep.proofs.Layered.{has_first, has_second}
 use Rattle.sweep.proofs.Parts.{alone, shared, first_alone, both_layers, half}
 use Rattle.sweep.proofs.run_numbers.GroupNumbers.of_run.Goals as goal

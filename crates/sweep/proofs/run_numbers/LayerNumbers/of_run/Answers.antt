@@ -1,6 +1,4 @@
-use Rattle.sweep.proofs.Words.{◌≡◌, ◌*◌, ◌^◌, [], length, ap, sym, ◌∙◌, subst, cons_option, flat_map, lengths_of, AreDecisionSums, AreDecisionsWithin, counted_of, deciding_of, last_decision, times_of, top_round}
-use Rattle.sweep.specs.Columns.{AreBounds}
-use Rattle.sweep.specs.OneRun.{bounds}
+use Rattle.sweep.proofs.Words.{◌≡◌, ◌*◌, ◌^◌, [], length, ap, sym, ◌∙◌, subst, cons_option, flat_map, lengths_of, AreDecisionSums, AreDecisionsWithin, counted_of, deciding_of, last_decision, times_of, top_round, AreBounds, bounds}
 use Rattle.sweep.proofs.Bounding.{bounded_one}
 use Rattle.sweep.proofs.Lasted.{lasted_of}
 use Rattle.sweep.proofs.Parts.{durations_one, detections_one, decisions_one, rounds_one, fitting_one}

@@ -1,6 +1,4 @@
-use Rattle.sweep.proofs.Words.{rules, ◌≡◌, ◌++◌, ℕ, true, false, [], List, cond, ap, sym, ◌∙◌, append_assoc, append-nil, lead_of, picked, Group}
-use Rattle.sweep.specs.RowText.{Text, layer_fields, layer_text, line_text}
-use Rattle.sweep.specs.declared.columns.Columns.{Columns}
+use Rattle.sweep.proofs.Words.{rules, ◌≡◌, ◌++◌, ℕ, true, false, [], List, cond, ap, sym, ◌∙◌, append_assoc, append-nil, lead_of, picked, Group, Text, layer_fields, layer_text, line_text, Columns}
 use Rattle.sweep.proofs.Lines.{on_ok}
 use Rattle.sweep.proofs.table.Table.push_group.Goals as goal
 

@@ -1,5 +1,4 @@
-use Rattle.sweep.proofs.Words.{◌≤◌, length, min, take}
-use Rattle.sweep.specs.Fields.{AddsRowsOfSums, IsBetweenLines}
+use Rattle.sweep.proofs.Words.{◌≤◌, length, min, take, AddsRowsOfSums, IsBetweenLines}
 use Rattle.sweep.proofs.table.Table.push_unit.Given as goal
 
 abbrev pub invariant-loop-place : goal.invariant-loop-place

@@ -1,6 +1,4 @@
-use Rattle.sweep.proofs.Words.{rules, ◌≡◌, ◌<◌, ◌≤◌, length, min, arith, AreSums, AreGroupNumbers, Group, GroupNumbers}
-use Rattle.std.proofs.lemmas.Slice.Zip.{AllZip-long}
-use Rattle.sweep.specs.declared.point_sums.PointSums.{PointSums}
+use Rattle.sweep.proofs.Words.{rules, ◌≡◌, ◌<◌, ◌≤◌, length, min, arith, AreSums, AreGroupNumbers, Group, GroupNumbers, AllZip-long, PointSums}
 use Rattle.sweep.proofs.Grouped.{added_more, all_added}
 use Rattle.sweep.proofs.unit_sums.UnitSums.add.Goals as goal
 

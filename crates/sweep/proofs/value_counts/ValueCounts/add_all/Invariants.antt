@@ -1,5 +1,4 @@
-use Rattle.sweep.proofs.Words.{take}
-use Rattle.sweep.specs.Counted.{CountsMore}
+use Rattle.sweep.proofs.Words.{take, CountsMore}
 use Rattle.sweep.proofs.value_counts.ValueCounts.add_all.Given as goal
 
 abbrev pub invariant-loop-value : goal.invariant-loop-value
