@@ -1,7 +1,9 @@
 //! What a watcher hears of a sweep.
+ghost use Rattle.std.specs.Prelude.{◌<◌, ◌-◌, ◌^◌};
+
 use super::studies::{Study, seven_points, shard, study_of};
 use crate::comparisons::same;
-use reporting::{FuseOutlet, MemoryOutlet};
+use reporting::{FuseOutlet, MemoryOutlet, Outlet};
 use std::alloc::Global;
 use std::marker::Sync;
 use std::thread::Threads;
@@ -84,13 +86,15 @@ impl Keeper {
 }
 
 /// What a sweep of a shard by two threads answers, and what its watcher heard.
-fn heard_of<R: Threads + Sync + Clock>(
+fn heard_of<R: Threads + Sync + Clock, O: Outlet>(
     rt: &R,
     alloc: Global,
     study: &Study,
     shard: Shard,
-) -> (Result<(), SweepError>, Keeper) {
-    let mut outlet = MemoryOutlet::new(alloc);
+    outlet: &mut O,
+) -> (Result<(), SweepError>, Keeper)
+    requires { O.failed outlet.old < 2 ^ 64 - 1 }
+{
     let mut keeper = Keeper::new();
     let answer = sweep(
         rt,
@@ -100,7 +104,7 @@ fn heard_of<R: Threads + Sync + Clock>(
         shard,
         &study.layout,
         2,
-        &mut outlet,
+        outlet,
         &mut keeper,
     );
     (answer, keeper)
@@ -115,7 +119,8 @@ fn hears_of_all_runs(rt: HostRuntime) {
     let seven = seven_points(&rt, alloc);
     for (number, of, points, done, batches) in [(1, 1, 7, 1_120, 10), (3, 3, 3, 480, 8)] {
         let shard = shard(&rt, number, of);
-        let (answer, keeper) = heard_of(&rt, alloc, &seven, shard);
+        let mut outlet = MemoryOutlet::new(alloc);
+        let (answer, keeper) = heard_of(&rt, alloc, &seven, shard, &mut outlet);
         assert!(rt; answer.is_ok());
         let last = Standing {
             pass: Pass::Running,
@@ -136,36 +141,38 @@ fn hears_of_all_runs(rt: HostRuntime) {
 fn hears_of_limits(rt: HostRuntime) {
     let alloc = rt.alloc();
     let limits = study_of(&rt, alloc, "limit=15,11,12", "crash[1].at=3,5", 1);
-    let (answer, keeper) = heard_of(&rt, alloc, &limits, Shard::whole());
+    let mut outlet = MemoryOutlet::new(alloc);
+    let (answer, keeper) = heard_of(&rt, alloc, &limits, Shard::whole(), &mut outlet);
     assert!(rt; answer.is_ok());
     same(&rt, &keeper.limited, &Some((2, 3)));
 }
 
-/// Where the second point is refused, nothing is heard of the first, of which each run would pass its limit. Where the
-/// third put fails, after the header and the first row, no more is heard, and nothing is shown any more.
+/// Where the second point is refused, nothing is heard of the first, of which each run would pass its limit.
 #[test]
-fn breaks_off(rt: HostRuntime) {
+fn refused_before_any_limit(rt: HostRuntime) {
     let alloc = rt.alloc();
     let links = study_of(&rt, alloc, "limit=5\nlink.max=5,1", "", 3);
-    let (answer, keeper) = heard_of(&rt, alloc, &links, Shard::whole());
+    let mut outlet = MemoryOutlet::new(alloc);
+    let (answer, keeper) = heard_of(&rt, alloc, &links, Shard::whole(), &mut outlet);
     assert!(rt; matches!(answer, Err(SweepError::Refused { .. })));
     same(&rt, &keeper.limited, &None);
     assert!(rt; keeper.all_rise && !keeper.shows && keeper.times == 0);
+}
+
+/// Where the third put fails, after the header and the first row, no more is heard, and nothing is shown any more. By
+/// then the watcher was asked to make way for the rows, and told of the second of three points that its runs pass their
+/// limit.
+#[test]
+fn breaks_off(rt: HostRuntime) {
+    let alloc = rt.alloc();
     let seven = seven_points(&rt, alloc);
-    let mut outlet = FuseOutlet::new(alloc, usize::MAX, 2);
-    let mut keeper = Keeper::new();
-    let answer = sweep(
-        &rt,
-        alloc,
-        &seven.sources,
-        &seven.grid,
-        Shard::whole(),
-        &seven.layout,
-        2,
-        &mut outlet,
-        &mut keeper,
-    );
-    assert!(rt; matches!(answer, Err(SweepError::Write)));
-    let done = keeper.last.map(|last| last.done).unwrap_or(1_120);
-    assert!(rt; keeper.all_rise && !keeper.shows && done < 1_120);
+    let limits = study_of(&rt, alloc, "limit=15,11,12", "crash[1].at=3,5", 1);
+    for (study, are_limited) in [(&seven, false), (&limits, true)] {
+        let mut outlet = FuseOutlet::new(alloc, usize::MAX, 2);
+        let (answer, keeper) = heard_of(&rt, alloc, study, Shard::whole(), &mut outlet);
+        assert!(rt; matches!(answer, Err(SweepError::Write)));
+        let done = keeper.last.map(|last| last.done).unwrap_or(1_120);
+        assert!(rt; keeper.all_rise && !keeper.shows && done < 1_120);
+        assert!(rt; keeper.ways == keeper.times && keeper.limited.is_some() == are_limited);
+    }
 }
