@@ -1,3 +1,4 @@
+pub mod Words
 pub mod Totals
 pub mod Ledgers
 pub mod Lists

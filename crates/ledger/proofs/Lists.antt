@@ -1,9 +1,5 @@
 -- Lists that change at one place, and lists of lists.
-use Rattle.std.proofs.Common.{◌≡◌, ℕ, zero, suc, ◌+◌, ◌<◌, List, [], ◌∷◌, ◌++◌, length, map, take, drop, set, get_or, refl, sym, ap, ◌∙◌, subst, add-one, arith}
-use Rattle.std.proofs.lemmas.List.{length-map, map-append, map_more}
-use Rattle.std.proofs.lemmas.List.Sorted.{IsPermutation-refl, IsPermutation-trans}
-use Rattle.std.specs.List.{AllZip}
-use Rattle.std.specs.List.Sorted.{IsPermutation}
+use Rattle.ledger.proofs.Words.{◌≡◌, ℕ, zero, suc, ◌+◌, ◌<◌, List, [], ◌∷◌, ◌++◌, length, map, take, drop, set, get_or, refl, sym, ap, ◌∙◌, subst, add-one, arith, length-map, map-append, map_more, IsPermutation-refl, IsPermutation-trans, AllZip, IsPermutation}
 use Rattle.ledger.specs.Places.{each_with}
 
 module _ {A : Type 0} where

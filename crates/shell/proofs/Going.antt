@@ -1,8 +1,5 @@
 -- What went out is what was wanted, by another name.
-use Rattle.std.proofs.Common.{◌≡◌, sym, subst, inl, inr, ℕ, List, Option, Result, Ok, Err, IfErr, OnOk}
-use Rattle.reporting.specs.Writing.{Wrote, WrotePart}
-use Rattle.shell.specs.Ending.{End, Goes, LeftAt, MayHaveGone, Puts, Tells, Went, WentPart, begun, cut, untouched}
-use Rattle.shell.specs.Serving.{GoesForWords}
+use Rattle.shell.proofs.Basics.{◌≡◌, sym, subst, inl, inr, ℕ, List, Option, Result, Ok, Err, IfErr, OnOk, Wrote, WrotePart, End, Goes, LeftAt, MayHaveGone, Puts, Tells, Went, WentPart, begun, cut, untouched, GoesForWords}
 
 -- what follows for each failure follows for the one that is answered
 pub if_failure : {A F : Type 0} (P Q : F → Type 0) → ((failure : F) → P failure → Q failure) → (r : Result A F) → IfErr r P → IfErr r Q

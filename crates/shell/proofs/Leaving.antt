@@ -1,7 +1,5 @@
 -- What a run leaves of its outlets and which line it tells, status by status, where it ended as `ended` says.
-use Rattle.std.proofs.Common.{◌≡◌, ◌≢◌, ◌⊎◌, ◌≤◌, sym, subst, inl, ℕ, List, Option, Result, Ok, Err, IfErr, OnOk, arith}
-use Rattle.reporting.specs.Writing.{WroteNothing}
-use Rattle.shell.specs.Ending.{End, Goes, HasStatus, IsWhy, LeftAt, MayHaveGone, Tells, Went, WentPart, begun, cut, untouched}
+use Rattle.shell.proofs.Basics.{◌≡◌, ◌≢◌, ◌⊎◌, ◌≤◌, sym, subst, inl, ℕ, List, Option, Result, Ok, Err, IfErr, OnOk, arith, WroteNothing, End, Goes, HasStatus, IsWhy, LeftAt, MayHaveGone, Tells, Went, WentPart, begun, cut, untouched}
 use Rattle.shell.proofs.Going.{tells_as}
 
 -- ---- what a status says of the end

@@ -1,3 +1,4 @@
+pub mod Basics
 pub mod Going
 pub mod Leaving
 pub mod Serving

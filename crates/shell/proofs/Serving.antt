@@ -1,8 +1,5 @@
 -- How a run for words that state an order or are refused ends, where it ended as `ended` says.
-use Rattle.std.proofs.Common.{◌≡◌, ◌⊎◌, sym, subst, inl, inr, ℕ, List, Option, Result, Ok, Err, IfErr, OnOk, arith}
-use Rattle.reporting.specs.Writing.{WroteNothing}
-use Rattle.shell.specs.Ending.{End, HasStatus, IsWhy, Tells}
-use Rattle.shell.specs.Serving.{Ends, GoesForWords, IsAsked, IsOfOrder, IsReason, Serves}
+use Rattle.shell.proofs.Basics.{◌≡◌, ◌⊎◌, sym, subst, inl, inr, ℕ, List, Option, Result, Ok, Err, IfErr, OnOk, arith, WroteNothing, End, HasStatus, IsWhy, Tells, Ends, GoesForWords, IsAsked, IsOfOrder, IsReason, Serves}
 use Rattle.shell.proofs.Going.{tells_as}
 use Rattle.shell.proofs.Leaving.{left_four, left_low, left_three, one_to_four}
 

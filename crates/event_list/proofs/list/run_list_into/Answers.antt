@@ -1,18 +1,9 @@
-use Rattle.event_list.proofs.Words.{◌≡◌, ◌+◌, ◌*◌, List, length, map, sym, subst, ◌∙◌, refl, arith, vec_len, Some, slice_get, ◌-◌, ◌++◌, ◌∷◌, [], append-nil, All, length-map, length_push, MatchOption-at_none, MatchOption-at_some, most_step_actions, Mind, HaveJoined, posted_in, setting_of, process_of, IsSeated, IsProcess, IsStepped, Process, step, trace_rises, setting_sound}
+use Rattle.event_list.proofs.Words.{◌≡◌, ◌+◌, ◌*◌, List, length, map, sym, subst, ◌∙◌, arith, Some, slice_get, ◌-◌, ◌++◌, ◌∷◌, [], All, length-map, length_push, MatchOption-at_none, MatchOption-at_some, most_step_actions, Mind, HaveJoined, posted_in, setting_of, process_of, IsSeated, IsProcess, IsStepped, Process, step, trace_rises, setting_sound}
 use Rattle.trace_laws.proofs.Effects.{trace_has_causes, trace_takes_once}
-use Rattle.trace_laws.proofs.Joining.{none_joined, joined_then}
+use Rattle.trace_laws.proofs.Joining.{joined_then}
 use Rattle.event_list.proofs.Recording.{Going, taken_next, cut_short}
 use Rattle.event_list.proofs.Standing.{first_longer, first_receiver, first_process, first_own, stands_next, stands_end}
 use Rattle.event_list.proofs.list.run_list_into.Goals as goal
-
-pub loop-list-init : goal.loop-list-init
-loop-list-init g c =
-    record {
-      going = record { trace = []; letters = []; stands = c.in_ok-list.ensures.opening; long = refl; taken = λ before had. subst (g.F.Follower.followed c.args.follower.now c.args.follower.now) (sym (append-nil before)) had; heard = none_joined g.L.Listener.heard c.args.listener.now };
-      seated = c.in_ok-list.ensures.seated;
-      count = c.in_ok-list.ensures.count;
-      within = omega arith;
-    }
 
 pub returns-then-taken-limit-clause-limit : goal.returns-then-taken-limit-clause-limit
 returns-then-taken-limit-clause-limit g c =
@@ -30,10 +21,6 @@ pub take-requires-clause-seated : goal.take-requires-clause-seated
 take-requires-clause-seated g c κs within =
     let all = subst (λ s. All (IsSeated g.M.Process.mind s (most_step_actions * c.loop-list.taken)) c.loop-list.list.seats.items) (sym c.new-streams.ensures) c.loop-list.invariant.seated in
     (most_step_actions * c.loop-list.taken, all, omega (arith, c.loop-list.invariant.within, c.limit-limit.ensures.ranges.limit_high))
-
-pub take-requires-clause-count : goal.take-requires-clause-count
-take-requires-clause-count g c κs within =
-    subst (λ s. vec_len c.loop-list.list.seats ≡ s.processes) (sym c.new-streams.ensures) c.loop-list.invariant.count
 
 pub take-requires-clause-receiver : goal.take-requires-clause-receiver
 take-requires-clause-receiver g c κs within =

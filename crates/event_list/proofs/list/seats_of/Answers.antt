@@ -1,4 +1,4 @@
-use Rattle.event_list.proofs.Words.{◌≡◌, ◌∷◌, [], ◌++◌, List, map, ap, sym, subst, ◌∙◌, append_assoc, append-nil, All, into_iter_items, map-append, nil_from_length, All-nil, All-push, All-rest, All-same, Mind, process_of, IsMindIn, IsSeated, Process, opened}
+use Rattle.event_list.proofs.Words.{◌≡◌, ◌∷◌, [], ◌++◌, List, map, ap, sym, subst, ◌∙◌, append_assoc, All, into_iter_items, map-append, All-push, All-rest, Mind, process_of, IsMindIn, IsSeated, Process, opened}
 use Rattle.event_list.proofs.list.seats_of.Goals as goal
 
 pub loop-machine-preserved : goal.loop-machine-preserved
@@ -22,27 +22,4 @@ loop-machine-preserved g c =
           ∙ c.loop-machine.invariant.made))));
       seated = subst (All (IsSeated mind s 0)) (sym more) (All-push (IsSeated mind s 0) old seat c.loop-machine.invariant.seated c.in_ok-new.ensures.seated);
       left = All-rest (λ m. IsMindIn s (mind m)) c.in-Some.machine left rest e c.loop-machine.invariant.left;
-    }
-
-pub loop-machine-init : goal.loop-machine-init
-loop-machine-init g c =
-    let mind = g.M.Process.mind in
-    let s = c.args.scenario.now in
-    let none : c.new-seats.result.items ≡ [] = c.new-seats.ensures.items in
-    let all : into_iter_items c.into_iter-machine-iterator.result ≡ c.args.machines.items = c.into_iter-machine-iterator.ensures.into_iter_gives.0 in
-    record {
-      made = λ i. map (process_of mind) (none i) ++ map opened (map mind (all i));
-      seated = All-same (IsSeated mind s 0) c.new-seats.result.items [] none (All-nil (IsSeated mind s 0));
-      left = subst (All (λ m. IsMindIn s (mind m))) (sym all) c.requires;
-    }
-
-pub returns : goal.returns
-returns g c =
-    let mind = g.M.Process.mind in
-    let made = map (process_of mind) c.loop-machine.seats.items in
-    let rest = into_iter_items c.loop-machine.machine-iterator in
-    let none : rest ≡ [] = nil_from_length rest (sym c.loop-machine.machine-iterator.rest.ok.0 ∙ c.in-None.ensures.steps.0) in
-    record {
-      processes = sym (append-nil made) ∙ ap (λ xs. made ++ map opened (map mind xs)) (sym none) ∙ c.loop-machine.invariant.made;
-      seated = c.loop-machine.invariant.seated;
     }

@@ -4,11 +4,6 @@ use Rattle.pending_events.proofs.Parted.{filled, filled_same, filled_some, lost}
 use Rattle.pending_events.proofs.Rows.{none_in}
 use Rattle.pending_events.proofs.pending.fill.Goals as goal
 
-pub returns-in_err-bucket-clause-parted : goal.returns-in_err-bucket-clause-parted
-returns-in_err-bucket-clause-parted c =
-    subst (λ t. IsParted (t + 1) c.args.row.now c.take_first.new.self) (sym c.from.ensures)
-    (lost c.requires.parted c.requires.none c.in-Some.ensures.calendar c.in-Some.ensures.taken c.args.row.now c.requires.none)
-
 pub returns-in_err-fill-clause-parted : goal.returns-in_err-fill-clause-parted
 returns-in_err-fill-clause-parted c =
     let row = c.replace-full.new.dest in

@@ -1,9 +1,5 @@
-use Rattle.std.proofs.Common.{◌≡◌, ◌+◌, ◌≤◌, ◌<◌, ℕ, List, ◌++◌, Option, Some, None, IfSome, length, take, arith, sym, append-nil, length-append}
-use Rattle.std.specs.Io.KnownBytes.{Consumes}
+use Rattle.shell.proofs.Basics.{◌≡◌, ◌+◌, ◌≤◌, ◌<◌, ℕ, List, ◌++◌, Option, Some, None, IfSome, length, take, arith, sym, append-nil, length-append, Consumes, common_steps, length-take, TakesAtMost}
 use Rattle.std.proofs.KnownBytes.{Consumes-kept, Consumes-trans, Consumes-whole}
-use Rattle.std.proofs.lemmas.Grind.{common_steps}
-use Rattle.std.proofs.lemmas.List.{length-take}
-use Rattle.shell.specs.Input.{TakesAtMost}
 use Rattle.shell.proofs.input.read_all.Goals as goal
 
 taken : (a b c : Option (List ℕ)) (xs ys : List ℕ) (k n : ℕ) → Consumes a b xs → Consumes b c (take k ys) → length xs + k ≤ n → TakesAtMost n a c

@@ -1,6 +1,4 @@
-use Rattle.std.proofs.Common.{◌≤◌, length}
-use Rattle.std.specs.Io.KnownBytes.{Consumes}
-use Rattle.shell.specs.Input.{most_bytes}
+use Rattle.shell.proofs.Basics.{◌≤◌, length, Consumes, most_bytes}
 use Rattle.shell.proofs.input.read_all.Given as goal
 
 -- the bytes so far are what is gone of the input, and are not too many

@@ -1,5 +1,4 @@
-use Rattle.std.proofs.Common.{flat_map, take}
-use Rattle.reporting.specs.Writing.{Wrote}
+use Rattle.shell.proofs.Basics.{flat_map, take, Wrote}
 use Rattle.shell.proofs.writing.tell_pieces.Given as goal
 
 -- the pieces so far went out

@@ -5,9 +5,6 @@ use Rattle.process_api.specs.declared.action.Action.TheVariants.{Note}
 use Rattle.freshness_detector.proofs.Points.{same_suspects}
 use Rattle.freshness_detector.proofs.detector.FreshnessDetector.check.Goals as goal
 
-pub invariant_of-self-clause-current : goal.invariant_of-self-clause-current
-invariant_of-self-clause-current c = λ q. ap (λ m. set.contains m q) c.suspects_at-suspects.ensures
-
 pub returns-clause-actions : goal.returns-clause-actions
 returns-clause-actions c =
     let d = c.args.self.now in

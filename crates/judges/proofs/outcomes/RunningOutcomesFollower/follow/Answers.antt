@@ -7,6 +7,3 @@ returns-then-is_empty c =
     let empty : vec_len c.entry.inside.notes ≡ 0 = eqb-true _ _ (sym c.is_empty.ensures ∙ c.if-is_empty.true) in
     let none : c.args.entry.now.notes ≡ [] = sym (ap (λ (e : EntryRecord). e.notes) c.entry.view_is) ∙ nil_from_length c.entry.inside.notes.items (omega (arith, empty, c.entry.inside.notes.ok.0)) in
     λ first told was n opened. was n opened ∙ outcomes_quiet told c.args.entry.now n none
-
-pub returns : goal.returns
-returns c = λ first told was n opened. c.feed.ensures n told (was n opened)

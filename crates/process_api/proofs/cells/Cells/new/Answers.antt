@@ -1,13 +1,6 @@
-use Rattle.process_api.proofs.Basics.{◌≡◌, ◌<◌, ◌-◌, ◌∷◌, [], ◌++◌, length, replicate, sym, ap, ◌∙◌, append-nil, Some, None, option_to_list, slice_get, arith, get_or_from_slice_get, slice_get_within}
+use Rattle.process_api.proofs.Basics.{◌≡◌, ◌<◌, ◌-◌, ◌∷◌, [], ◌++◌, length, sym, ap, ◌∙◌, Some, None, option_to_list, slice_get, arith, get_or_from_slice_get, slice_get_within}
 use Rattle.process_api.proofs.Vectors.{one_fewer, trimmed}
 use Rattle.process_api.proofs.cells.Cells.new.Goals as goal
-
-pub loop-cells-init : goal.loop-cells-init
-loop-cells-init c =
-    let items = c.args.cells.items in
-    let whole : c.len-count.result ≡ length items = c.len-count.ensures ∙ c.args.cells.ok.0 in
-    let none : c.len-count.result - length items ≡ 0 = omega (arith, whole) in
-    record { few = omega (arith, whole); same = ap (λ k. items ++ replicate k None) none ∙ append-nil items }
 
 pub loop-cells-preserved : goal.loop-cells-preserved
 loop-cells-preserved c =
@@ -26,6 +19,3 @@ loop-cells-preserved c =
       few = omega (arith, one_fewer before.items after gone, c.loop-cells.invariant.few);
       same = trimmed before.items after c.len-count.result gone c.loop-cells.invariant.few ∙ c.loop-cells.invariant.same;
     }
-
-pub returns : goal.returns
-returns c = c.loop-cells.invariant.same

@@ -1,5 +1,5 @@
-use Rattle.process_api.proofs.Basics.{◌≡◌, ◌==◌, sym, ap, ◌∙◌, length, get_or, true, None, arith, option_eq}
-use Rattle.process_api.proofs.Vectors.{alike, granted, one_more, refuted, unlike, wide}
+use Rattle.process_api.proofs.Basics.{◌≡◌, ◌==◌, sym, ap, ◌∙◌, length, None, arith, option_eq}
+use Rattle.process_api.proofs.Vectors.{alike, refuted, unlike, wide}
 use Rattle.process_api.proofs.cells.CellsPartialEq.eq.Goals as goal
 
 pub returns-then-ne : goal.returns-then-ne
@@ -9,11 +9,6 @@ returns-then-ne c =
     let long : length mine ≡ c.self.inside.count = ap length (sym c.self.view_is) ∙ wide c.self.inside.cells.items c.self.inside.count c.self.invariant.0 in
     sym (unlike (option_eq ◌==◌) None mine other c.loop-place.place (omega (arith, long, c.loop-place-test.true))
     ((λ i. option_eq ◌==◌ (sym c.at.ensures i) (sym c.at-in-loop-place.ensures i)) ∙ refuted _ (sym c.if-ne.true ∙ c.ne.ensures)))
-
-pub loop-place-preserved : goal.loop-place-preserved
-loop-place-preserved c =
-    one_more (λ j. option_eq ◌==◌ (get_or c.args.self.now j None) (get_or c.args.other.now j None) ≡ true) c.loop-place.place c.loop-place.invariant
-    ((λ i. option_eq ◌==◌ (sym c.at.ensures i) (sym c.at-in-loop-place.ensures i)) ∙ granted _ (sym c.if-ne.false ∙ c.ne.ensures))
 
 pub returns : goal.returns
 returns c =

@@ -9,15 +9,6 @@ returns-in_default-clause-steps c =
     let none : c.args.self.now ≡ [] = sym c.self.view_is ∙ in_order-none (is_set words) (λ i low. none_set words i (c.in_default.ensures.none refl (i / 64) (omega (arith, low)))) in
     (none, none)
 
-pub clear-requires : goal.clear-requires
-clear-requires c =
-    let words = c.self.inside.words in
-    let k = c.in-Some.k in
-    let first = c.in-Some.ensures.some in
-    let fits : get_or words k 0 < 2 ^ 64 = search rules in
-    let low = lowest_place words k first.1 fits first.2 in
-    omega (arith, low, first.0)
-
 pub returns : goal.returns
 returns c =
     let words = c.self.inside.words in

@@ -18,9 +18,3 @@ returns-then-len-processes c = λ n trace are.
     let its : Noted n entry = subst (λ m. Noted m entry) processes (subst (Noted c.from-processes.result) c.entry.view_is whole) in
     let items : (with_items t.counts new).items ≡ new = with_items_is t.counts new (omega (arith, its.square, are.counts.square)) in
     record { processes = are.processes; counts = subst (AreCounts n (trusts (trace ++ entry ∷ []))) (sym items) (entry_counted n trace entry new its) }
-
-pub returns-else-len-processes : goal.returns-else-len-processes
-returns-else-len-processes c = λ n trace are.
-    let t = c.args.self.now in
-    let square : c.from-processes.result * c.from-processes.result ≡ n * n = ap (λ m. m * m) (c.from-processes.ensures ∙ are.processes) in
-    absurd (c.if-len-processes.false (omega (arith, square, are.counts.square, c.len.ensures, t.counts.ok.0)))

@@ -1,5 +1,5 @@
-use Rattle.steps.proofs.Words.{◌≡◌, ◌+◌, ◌∷◌, ◌++◌, ◌∙◌, [], ap, refl, sym, arith, slice_set, drop, Action, IsAllowed, setting_of, posted_by, posting, count_of, added, joining, lost, noted, sent, joined_init, all_joined, drop_all, length-set}
-use Rattle.steps.proofs.Performing.{one_counted, one_joined, one_lost, one_sent, one_noted, one_sent_few, one_lost_few, one_room, one_allowed, drop_at, sent_all, noted_all, counted_all, lost_all}
+use Rattle.steps.proofs.Words.{◌≡◌, ◌+◌, ◌∷◌, ◌∙◌, ap, refl, arith, slice_set, drop, Action, IsAllowed, setting_of, posted_by, posting, count_of, added, joining, length-set}
+use Rattle.steps.proofs.Performing.{one_counted, one_joined, one_lost, one_sent, one_noted, one_sent_few, one_lost_few, one_room, one_allowed, drop_at}
 use Rattle.steps.proofs.links.Links.perform.Goals as goal
 
 pub loop-place-preserved : goal.loop-place-preserved
@@ -40,57 +40,4 @@ loop-place-preserved h c =
       allowed = one_allowed all rest left a e (IsAllowed c.args.streams.now.processes) i.allowed;
       sent_few = one_sent_few all rest left a e was.sent is.sent (ap (λ x. x.sent) entry) i.sent_few;
       lost_few = one_lost_few all rest left a e p before f g done.counts S now was.lost is.lost (ap (λ x. x.lost) entry) i.lost_few;
-    }
-
-pub loop-place-init : goal.loop-place-init
-loop-place-init h c =
-    let none = c.empty_entry-entry.ensures in
-    let S = setting_of c.args.streams.now in
-    let p = c.args.key.receiver in
-    let now = c.args.key.tick in
-    let all = c.args.actions.now.items in
-    let before = count_of c.args.self.now.counts.items in
-    record {
-      many = refl;
-      counts = refl;
-      places = c.requires.places;
-      horizon = c.requires.horizon;
-      room = λ q. omega arith;
-      serves = λ first own n h. h;
-      added = joined_init h.J.Joins.grown c.args.added.now (added S p now before all);
-      heard = joined_init h.L.Listener.heard c.args.listener.now (posted_by S p now before all);
-      key = ap (λ x. x.key) none;
-      kind = ap (λ x. x.kind) none;
-      sent = omega (arith, ap (λ x. x.sent) none);
-      lost = omega (arith, ap (λ x. x.lost) none);
-      notes = ap (λ x. x.notes ++ noted all) none;
-      allowed = c.requires.allowed;
-      sent_few = omega (arith, ap (λ x. x.sent) none);
-      lost_few = omega (arith, ap (λ x. x.lost) none);
-    }
-
-pub returns : goal.returns
-returns h c =
-    let S = setting_of c.args.streams.now in
-    let p = c.args.key.receiver in
-    let now = c.args.key.tick in
-    let all = c.args.actions.now.items in
-    let before = count_of c.args.self.now.counts.items in
-    let rest = drop c.loop-place.place c.loop-place.actions.items in
-    let f = count_of c.loop-place.self.counts.items in
-    let i = c.loop-place.invariant in
-    let none : rest ≡ [] = drop_all c.loop-place.place c.loop-place.actions.items (omega (arith, c.loop-place-test.false, c.len-place-end.ensures, i.many)) in
-    let entry = c.loop-place.entry in
-    let sent_is : entry.sent ≡ sent all = sent_all all rest none entry.sent i.sent in
-    let lost_is : entry.lost ≡ lost S p now before all = lost_all all rest none p before f S now entry.lost i.lost in
-    let notes_are : entry.notes ≡ noted all = noted_all all rest none entry.notes i.notes in
-    record {
-      counts = counted_all all rest none p before f i.counts;
-      places = i.places ∙ sym c.requires.places;
-      horizon = i.horizon ∙ sym c.requires.horizon;
-      room = λ q. omega (arith, i.room q, c.requires.few);
-      added = all_joined h.J.Joins.grown c.args.added.now c.loop-place.added (added S p now f rest) (added S p now before all) (ap (λ xs. added S p now f xs) none) i.added;
-      heard = all_joined h.L.Listener.heard c.args.listener.now c.loop-place.listener (posted_by S p now f rest) (posted_by S p now before all) (ap (λ xs. posted_by S p now f xs) none) i.heard;
-      serves = i.serves;
-      entry = λ j. record { key = i.key j; kind = i.kind j; sent = sent_is j; lost = lost_is j; notes = notes_are j };
     }
