@@ -1,15 +1,6 @@
 use Rattle.std.proofs.Common.{rules}
-use Rattle.diagnosis.specs.Text.{found, nothing}
+use Rattle.diagnosis.specs.Text.{found}
 use Rattle.diagnosis.proofs.answer.refused_table.Goals as goal
-
-pub returns-in_default : goal.returns-in_default
-returns-in_default c = record {
-  other = search rules;
-  applies = c.requires.applies (search rules);
-  its = nothing;
-  is_reason = tt;
-  told = search rules;
-}
 
 pub returns : goal.returns
 returns c = record {
