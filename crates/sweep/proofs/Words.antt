@@ -1,11 +1,11 @@
 -- Words and lemmas of the libraries and of this crate that several proofs use.
-pub use Rattle.std.proofs.Common.{Bool, Bor, Err, IfErr, IfOk, List, None, Ok, OnOk, Option, Result, Some, String, [], add-one, ap, append-nil, append_assoc, arith, below_more, cond, decimal, drop, false, get_or, inl, inr, is_some, le-leb, le_trans, length, length-append, lit<, map, max, min, nat_le, nat_lt, not, refl, rules, set, string_bytes, subst, suc, sum, sym, take, tests, true, true≢false, unwrap_or, vec_len, zero, zero-add, ℕ, ⊎_elim, ◌%◌, ◌&&◌, ◌*◌, ◌++◌, ◌+◌, ◌-◌, ◌/◌, ◌<◌, ◌==◌, ◌^◌, ◌||◌, ◌∙◌, ◌∷◌, ◌≡◌, ◌≢◌, ◌≤◌, ◌⊎◌}
+pub use Rattle.std.proofs.Common.{Bool, Bor, Err, IfErr, IfOk, List, None, Ok, OnOk, Option, Result, Some, String, [], add-one, ap, append-nil, append_assoc, arith, below_more, cond, drop, false, get_or, inl, inr, is_some, le-leb, le_trans, length, length-append, lit<, map, max, min, nat_le, nat_lt, not, refl, rules, set, string_bytes, subst, suc, sum, sym, take, tests, true, true≢false, unwrap_or, vec_len, zero, zero-add, ℕ, ⊎_elim, ◌%◌, ◌&&◌, ◌*◌, ◌++◌, ◌+◌, ◌-◌, ◌/◌, ◌<◌, ◌==◌, ◌^◌, ◌||◌, ◌∙◌, ◌∷◌, ◌≡◌, ◌≢◌, ◌≤◌, ◌⊎◌}
 pub use Rattle.std.proofs.Math.Nat.{lt_of_mul-lt-mul_right, mul-le-mul_left, mul-le-mul_right, mul-sub, mul_comm}
 pub use Rattle.std.proofs.Math.Seq.{drop-append_seam, get_or-append_seam, take-append_seam, take-length}
 pub use Rattle.std.proofs.lemmas.Bool.{cases_eq, cases_lt, eq-eqb, eqb-true, le-ltb, leb-false, leb-true, lt-leb, lt-ltb, ltb-false, ltb-true, ne_eqb}
 pub use Rattle.std.proofs.lemmas.Grind.{flat_map-append}
 pub use Rattle.std.proofs.lemmas.Iterator.{YieldsList-from_range, YieldsList-from_slice, items_from_collect}
-pub use Rattle.std.proofs.lemmas.List.{drop_more, get_or-map, get_or-set_other, get_or-set_same, get_or_append_left, get_or_default, length-map, length-set, length-take, length_push, map-append, map_more, map_push, nil_from_length, take-append-drop, take_more}
+pub use Rattle.std.proofs.lemmas.List.{drop_more, get_or-map, get_or-set_other, get_or-set_same, get_or_append_left, get_or_default, length-map, length-set, length-take, length_push, map-append, map_more, map_push, take-append-drop, take_more}
 pub use Rattle.std.proofs.lemmas.List.Elements.{All-append, All-cons, All-filter, All-from_recursion, All-head, All-nil, All-rest, All-tail, All-take, filter-append, filter_map-append}
 pub use Rattle.std.proofs.lemmas.List.Folds.{list_any-append, list_any_at, list_any_none}
 pub use Rattle.std.proofs.lemmas.List.FromFn.{get_or-range_with_len, length-range_with_len}
@@ -74,8 +74,8 @@ pub use Rattle.sweep.specs.Inside.Limits.{AreUnderWay, TellsOn, next_counted, nu
 pub use Rattle.sweep.specs.Inside.Numbering.{AreNumbersAt, AreNumbersFrom, IsAnswerAt, IsFirstRefusal, IsReadyAt, IsRefusalAt, runs_each, unit_count}
 pub use Rattle.sweep.specs.Inside.OwnSums.{AreOwnSums, IsPair}
 pub use Rattle.sweep.specs.Inside.Progress.{AreAdded, GoesOn, HeaderFails, IsUnderWay, StopsBelow, StopsInPoints, WroteFrontUpTo, WroteUpTo, next_run}
-pub use Rattle.sweep.specs.Layout.{IsNearest, IsNoLayout, IsRefusal, IsUnknown, LayoutRecord, TellsOf, place_of}
-pub use Rattle.sweep.specs.OneRun.{Finished, bound_after, bounds, bounds_of, bounds_on, counted_of, counted_pairs, counts_on, decided_value, deciding, deciding_of, decision_tick, detection_ticks, detection_time, detections, do_all_decide, do_differ, do_disagree, durations, has_decided, has_mistake, is_at_once, is_to_decide, is_to_detect, is_undecided, is_undetected, last_decision, mistakes, noted_round, pair_ticks, run_outcomes, times_of, top_round}
+pub use Rattle.sweep.specs.Layout.{IsNearest, IsRefusal, IsUnknown, LayoutRecord, TellsOf, place_of}
+pub use Rattle.sweep.specs.OneRun.{Finished, bound_after, bounds, bounds_of, bounds_on, counted_of, counted_pairs, counts_on, decided_value, deciding, deciding_of, decision_tick, detection_time, detections, do_all_decide, do_differ, do_disagree, durations, has_decided, has_mistake, is_to_decide, is_to_detect, is_undecided, is_undetected, last_decision, mistakes, noted_round, pair_ticks, run_outcomes, times_of, top_round}
 pub use Rattle.sweep.specs.Parallel.{AreAnswers, ArePlaces, IsPlaced, with_answers, with_columns}
 pub use Rattle.sweep.specs.Percentile.{IsPercentile, IsRanked, at_most, greater, greatest}
 pub use Rattle.sweep.specs.Results.{IsResult, RunResult, Trial, done_run, finished, limited, limited_run}
