@@ -1,10 +1,6 @@
 use Rattle.qos_report.proofs.Words.{◌≡◌, ◌∙◌, ◌++◌, ◌∷◌, [], suc, sym, ap, subst, true, take, drop, arith, take_all, take_more, on_err, AreUnderWay, WroteFront, written, rows_text, Wrote, WrotePart, err_part, on_ok, split_at}
-use Rattle.qos_report.proofs.Streamed.{all_out, first_out, front_more, front_none, part_out, under_way_first}
+use Rattle.qos_report.proofs.Streamed.{all_out, front_more, part_out, under_way_first}
 use Rattle.qos_report.proofs.streaming.write_rows.Goals as goal
-
-pub returns-in_err-rows-clause-front : goal.returns-in_err-rows-clause-front
-returns-in_err-rows-clause-front g c =
-    on_err c.from_residual.result _ (front_none g.O.Outlet.told g.O.Outlet.failed true c.args.outlet.now c.args.entries.now)
 
 pub returns-in_err-write_row-clause-front : goal.returns-in_err-write_row-clause-front
 returns-in_err-write_row-clause-front g c =
@@ -29,16 +25,6 @@ loop-entry-preserved g c =
     subst (λ xs. AreUnderWay g.O.Outlet.told g.O.Outlet.failed c.args.outlet.now c.write_row.new.outlet xs c.write_row.new.rows)
     (sym (take_more es i entry c.loop-entry-test.true ∙ ap (λ e. take i es ++ e ∷ []) (sym c.entry-item.is)))
     (c.in_ok-write_row.ensures.whole c.args.outlet.now (take i es) c.loop-entry.invariant)
-
-pub returns-in_err-text-clause-front : goal.returns-in_err-text-clause-front
-returns-in_err-text-clause-front g c =
-    let told = g.O.Outlet.told in
-    let failed = g.O.Outlet.failed in
-    let es = c.args.entries.now in
-    let i = c.loop-entry.entry-index in
-    on_err c.from_residual-in_err-text.result _
-    (subst (WroteFront told failed c.args.outlet.now c.loop-entry.outlet true) (take_all i es (omega (arith, c.loop-entry-test.false)))
-    (first_out told failed c.args.outlet.now c.loop-entry.outlet (take i es) c.loop-entry.rows c.loop-entry.invariant))
 
 pub returns-clause-whole : goal.returns-clause-whole
 returns-clause-whole g c =

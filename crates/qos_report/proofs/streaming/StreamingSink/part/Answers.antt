@@ -1,15 +1,5 @@
-use Rattle.qos_report.proofs.Words.{◌++◌, [], inl, refl, sym, subst, on_err, RunningFollowed, rows_text, Wrote, on_ok, WroteWhere}
-use Rattle.qos_report.proofs.Streamed.{where_nothing}
+use Rattle.qos_report.proofs.Words.{◌++◌, refl, sym, subst, RunningFollowed, rows_text, Wrote, on_ok, WroteWhere}
 use Rattle.qos_report.proofs.streaming.StreamingSink.part.Goals as goal
-
--- nothing of a part went out that couldn't be measured
-pub returns-in_err-follow_all-clause-front : goal.returns-in_err-follow_all-clause-front
-returns-in_err-follow_all-clause-front g c =
-    on_err c.from_residual.result _
-    (record {
-      outlet = refl;
-      written = inl (record { first = []; others = c.args.entries.items; all = refl; out = where_nothing g.O.Outlet.told g.O.Outlet.failed c.args.self.now.is_traced c.args.self.now.outlet.now });
-    })
 
 pub returns-then-self-clause-whole : goal.returns-then-self-clause-whole
 returns-then-self-clause-whole g c =
