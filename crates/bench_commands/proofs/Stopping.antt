@@ -1,5 +1,5 @@
 -- What went out, and what stands where a run stops.
-use Rattle.bench_commands.proofs.Words.{◌≡◌, ◌≢◌, ◌⊎◌, ◌<◌, ap, subst, refl, inl, inr, ℕ, List, length, Option, arith, has_trace, one_trace, setting_of, AsksHelp, Explains, States, IsListAnswer, IsRunFront, LeavesBy, WritesBy, path_of, end_of, status_of, IsHelp, IsReason, IsRunAsked, TellsOf, StopsBefore, StopsBy, StopsFor, StopsWindows, Different, Plan, Run, printed, prints_trace, Record}
+use Rattle.bench_commands.proofs.Words.{◌≡◌, ◌≢◌, ◌⊎◌, ◌<◌, ap, subst, refl, inl, inr, ℕ, List, length, Option, arith, has_trace, one_trace, setting_of, AsksHelp, Explains, States, IsListAnswer, IsRunFront, LeavesBy, WritesBy, path_of, end_of, status_of, IsHelp, IsReason, IsRunAsked, TellsOf, StopsBefore, StopsBy, StopsFor, Different, Plan, Run, printed, prints_trace, Record}
 use Rattle.std.specs.Prelude.{IsTrue}
 use Rattle.trace_laws.specs.Setting.{IsSound}
 use Rattle.trace_laws.specs.World.{IsTrace}
@@ -81,17 +81,6 @@ module _ (s : Record) (print : PrintChoice) {O : Type 0} (told : O → Option (L
     why_by mode.List run.Spawn refused other = absurd (other refl refl)
     why_by by run.Limit refused other = refused_long old new by run.Limit refused refl
     why_by _ _ refused other = tt
-
--- a comparison is refused
-pub compare_why : (s : Record) (reason : RunError) → (reason ≡ run.Limit → IsTooLong s) → StopsWindows s (Run reason)
-compare_why s run.Limit long = long refl
-compare_why s _ long = tt
-
--- and leaves nothing
-pub stops_unwritten : {O : Type 0} (told : O → Option (List ℕ)) (failed : O → ℕ) (old new : O) (IsWritten IsLeft : List ℕ → Type 0) (reason : RunError)
-    → reason ≢ run.Write → WroteNothing told failed old new → LeftAt told failed old new IsWritten IsLeft (end_of (Run reason))
-stops_unwritten told failed old new IsWritten IsLeft run.Write other nothing = absurd (other refl)
-stops_unwritten told failed old new IsWritten IsLeft _ other nothing = inl nothing
 
 -- ---- statuses
 

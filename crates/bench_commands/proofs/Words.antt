@@ -12,5 +12,5 @@ pub use Rattle.trace_laws.specs.ScenarioSetting.{setting_of}
 pub use Rattle.bench_commands.specs.Answer.{Answers, AnswersOver, IsListAnswer, IsRunFront, Leaves, LeavesBy, LeavesOver, Writes, WritesBy, WritesOver, path_of}
 pub use Rattle.bench_commands.specs.Fault.{after_name, end_of, line_of, status_of}
 pub use Rattle.bench_commands.specs.Serve.{IsHelp, IsReason, IsRunAsked, TellsOf}
-pub use Rattle.bench_commands.specs.Why.{StopsBefore, StopsBy, StopsFor, StopsWindows}
+pub use Rattle.bench_commands.specs.Why.{StopsBefore, StopsBy, StopsFor}
 pub use Rattle.bench_commands.specs.declared.fault.Fault.TheVariants.{Different, Plan, Run}

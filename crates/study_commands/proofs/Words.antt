@@ -1,5 +1,5 @@
 -- Words and lemmas of the libraries and of this crate that several proofs use.
-pub use Rattle.std.proofs.Common.{All, Bool, Bor, Err, IfErr, IfOk, List, MatchOption, None, Ok, OnOk, Option, Result, Some, String, [], add-one, ap, append_assoc, arith, codes, cond, decimal, drop, drop-cons, eqb, false, filter, fold, get_or, if◌then◌else◌, inl, inr, is_some, length, length-append, map, max, not, option_to_list, refl, rules, slice_index_or, string_bytes, subst, suc, sym, take, true, zero, zip, ℕ, ◌%◌, ◌&&◌, ◌++◌, ◌+◌, ◌-◌, ◌<◌, ◌==◌, ◌||◌, ◌∙◌, ◌∷◌, ◌≡◌, ◌≢◌, ◌≤◌, ◌⊎◌}
+pub use Rattle.std.proofs.Common.{All, Bool, Bor, Err, IfErr, IfOk, List, None, Ok, OnOk, Option, Result, Some, String, [], add-one, ap, append_assoc, arith, codes, cond, decimal, drop, drop-cons, eqb, false, filter, fold, get_or, if◌then◌else◌, inl, inr, is_some, length, length-append, map, max, not, option_to_list, refl, rules, slice_index_or, string_bytes, subst, suc, sym, take, true, zero, zip, ℕ, ◌%◌, ◌&&◌, ◌++◌, ◌+◌, ◌-◌, ◌<◌, ◌==◌, ◌||◌, ◌∙◌, ◌∷◌, ◌≡◌, ◌≢◌, ◌≤◌, ◌⊎◌}
 pub use Rattle.std.proofs.lemmas.Bool.{eq-eqb, ne_eqb}
 pub use Rattle.std.proofs.lemmas.List.{drop_all, get_or-append-add, get_or-map, get_or_append_left, get_or_default, length-map, map-append, take_all, take_more}
 pub use Rattle.std.proofs.lemmas.List.Elements.{All-contains, All-drop, All-filter, All-take, filter_map-append}
