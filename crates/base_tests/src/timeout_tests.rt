@@ -1,6 +1,6 @@
 //! The time-out detector, input by input.
 ghost use Rattle.std.specs.Prelude.{◌≤◌};
-ghost use Rattle.scenario_record.specs.Numbers.{AreTimeoutInRange};
+ghost use Rattle.scenario_record.specs.Ranges.{AreTimeoutInRange};
 
 use crate::comparisons::NO_MEMORY;
 use crate::driving::{Row, drive_detector, opening_of};

@@ -9,8 +9,7 @@ use Rattle.command_line.specs.declared.order.Order.{Order}
 use Rattle.command_line.specs.declared.order.Order.TheVariants as order
 use Rattle.command_line.specs.declared.order.WordsError.{WordsError}
 use Rattle.command_line.specs.declared.order.WordsError.TheVariants as refusal
-use Rattle.bench_commands.specs.Scenario.{IsTooLong}
-use Rattle.bench_commands.specs.Mode.{RefusesBy}
+use Rattle.bench_commands.specs.Answer.{IsTooLong, RefusesBy}
 use Rattle.bench_commands.specs.declared.bench.Mode.{Mode}
 use Rattle.bench_commands.specs.declared.bench.Mode.TheVariants as mode
 use Rattle.bench_commands.specs.declared.fault.Fault.{Fault}
@@ -19,8 +18,8 @@ use Rattle.runs.specs.Finishing.{Finishes, WroteRows}
 use Rattle.reporting.specs.TraceText.{trace_text}
 use Rattle.reporting.specs.declared.summary.Summary.{Summary}
 use Rattle.qos_report.proofs.Breaking.{breaks_at_opening}
-use Rattle.reporting.specs.Writing.{WroteNothing}
-use Rattle.process_api.specs.EntryRecord.{EntryRecord}
+use Rattle.reporting.specs.Outlet.{WroteNothing}
+use Rattle.process_api.specs.Order.{EntryRecord}
 use Rattle.shell.specs.Ending.{LeftAt, MayHaveGone, Went}
 
 -- ---- runs

@@ -1,22 +1,35 @@
--- What an order is answered with.
-use Rattle.std.specs.Prelude.{◌≡◌, ℕ, List, ◌++◌, codes, Option, IsTrue, Result}
+-- What an order is answered with. The scenario that a path names.
+use Rattle.std.specs.Prelude.{◌≡◌, ℕ, List, ◌++◌, codes, Option, IsTrue, Result, ◌<◌, ◌≤◌, length, IfSome}
 use Rattle.command_line.specs.declared.order.Order.{Order}
 use Rattle.command_line.specs.declared.order.Order.TheVariants as order
-use Rattle.trace_laws.specs.ScenarioSetting.{setting_of}
+use Rattle.trace_laws.specs.Setting.{setting_of}
 use Rattle.trace_laws.specs.World.{IsTrace}
 use Rattle.bench_commands.specs.Fault.{end_of}
-use Rattle.bench_commands.specs.Scenario.{IsScenarioAt}
 use Rattle.bench_commands.specs.declared.bench.Mode.{Mode}
 use Rattle.bench_commands.specs.declared.bench.Mode.TheVariants as mode
 use Rattle.bench_commands.specs.declared.fault.Fault.{Fault}
 use Rattle.process_api.specs.declared.print_choice.PrintChoice.{PrintChoice}
-use Rattle.process_api.specs.EntryRecord.{EntryRecord}
-use Rattle.reporting.specs.Printed.{printed, prints_trace}
-use Rattle.runs.specs.Finishing.{IsTraceWithin}
+use Rattle.process_api.specs.Order.{EntryRecord}
+use Rattle.process_api.specs.declared.print_choice.PrintChoice.TheVariants.{Both}
+use Rattle.process_api.specs.declared.run_error.RunError.{RunError}
+use Rattle.reporting.specs.ReportText.{printed, prints_trace}
+use Rattle.runs.specs.Finishing.{IsTraceWithin, BreaksOff, Refuses}
 use Rattle.reporting.specs.TraceText.{trace_text}
 use Rattle.scenario_record.specs.Record.{Record}
-use Rattle.shell.specs.Ending.{Goes}
-use Rattle.windows.specs.Plan.{NoneApplies}
+use Rattle.scenario.specs.Refusals.{Accepts}
+use Rattle.shell.specs.Ending.{Goes, input_path, most_bytes}
+use Rattle.windows.specs.Plan.{NoneApplies, IsPlanFor}
+
+-- the scenario is that of the file's bytes, which are not too many. Of a path other than `-` they aren't known
+pub record IsScenarioAt (input : Option (List ℕ)) (path : List ℕ) (s : Record) : Type 0 where
+  pub bytes : List ℕ
+  pub is_short : length bytes ≤ most_bytes
+  pub is_input : path ≡ input_path → IfSome input (λ all. bytes ≡ all)
+  pub accepted : Accepts bytes s
+
+-- the scenario's trace has more entries than its limit
+abbrev pub IsTooLong : Record → Type 0
+IsTooLong s = (trace : List EntryRecord) → IsTrace (setting_of s) trace → s.limit < length trace
 
 -- what `compare` writes
 abbrev pub IsSameLine : List ℕ → Type 0
@@ -121,3 +134,24 @@ GoesFor told failed old new input asked outcome =
 abbrev pub AsksRun : Order → Type 0
 AsksRun (order.Check path) = ⊥
 AsksRun _ = Unit {0}
+
+-- ---- what is compared
+
+-- the bytes are both texts of the scenario's trace, which is within its limit
+pub record IsWritten (S : Record) (bytes : List ℕ) : Type 0 where
+  pub trace : List EntryRecord
+  pub is_within : IsTraceWithin S trace
+  pub text : bytes ≡ printed Both S trace
+
+-- ---- how a run takes its events
+
+-- windows are no longer than the scenario's lookahead
+abbrev pub IsModeFor : Record → Mode → Type 0
+IsModeFor s mode.List = Unit {0}
+IsModeFor s (mode.Windows plan) = IsPlanFor s plan
+
+-- what a refused run leaves: by windows a front part of its texts may have gone out
+abbrev pub RefusesBy : Mode → (s : Record) (print : PrintChoice) {O : Type 0} (told : O → Option (List ℕ))
+    (failed : O → ℕ) (old new : O) → RunError → Type 0
+RefusesBy mode.List s print told failed old new reason = Refuses s print told failed old new reason
+RefusesBy (mode.Windows plan) s print told failed old new reason = BreaksOff s print told failed old new reason

@@ -1,7 +1,4 @@
-pub mod Compare
-pub mod Mode
 pub mod Fault
-pub mod Scenario
 pub mod Answer
 pub mod Why
 pub mod Serve

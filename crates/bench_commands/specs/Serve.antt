@@ -5,14 +5,13 @@ use Rattle.command_line.specs.declared.order.Order.{Order}
 use Rattle.command_line.specs.declared.order.WordsError.{WordsError}
 use Rattle.command_line.specs.declared.order.WordsError.TheVariants as refusal
 use Rattle.process_api.specs.declared.run_error.RunError.TheVariants.{Write}
-use Rattle.bench_commands.specs.Answer.{Answers, AsksRun, Leaves, Writes, path_of}
+use Rattle.bench_commands.specs.Answer.{Answers, AsksRun, Leaves, Writes, path_of, IsScenarioAt}
 use Rattle.bench_commands.specs.Fault.{end_of, line_of, status_of}
-use Rattle.bench_commands.specs.Scenario.{IsScenarioAt}
 use Rattle.bench_commands.specs.Why.{StopsFor}
 use Rattle.bench_commands.specs.declared.fault.Fault.{Fault}
 use Rattle.bench_commands.specs.declared.fault.Fault.TheVariants.{Form, Run, Words, WordsMemory}
 use Rattle.scenario_record.specs.Record.{Record}
-use Rattle.shell.specs.Input.{input_path}
+use Rattle.shell.specs.Ending.{input_path}
 use Rattle.shell.specs.Serving.{Ends, GoesForWords as Goes, IsReason as IsReasonOf}
 
 -- what went out for the words: what they ask for, or what is left where that stops. Of help its text isn't said

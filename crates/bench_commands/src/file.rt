@@ -1,8 +1,8 @@
 //! The scenario that a path names.
 ghost use Rattle.std.specs.Prelude.{◌≡◌, ◌≢◌, ◌+◌, IfOk, IfErr};
-ghost use Rattle.bench_commands.specs.Scenario.{IsScenarioAt};
+ghost use Rattle.bench_commands.specs.Answer.{IsScenarioAt};
 ghost use Rattle.bench_commands.specs.Why.{StopsBefore};
-ghost use Rattle.shell.specs.Input.{TakesAtMost, input_path, most_bytes};
+ghost use Rattle.shell.specs.Ending.{TakesAtMost, input_path, most_bytes};
 
 use crate::fault::Fault;
 use scenario::{Scenario, ScenarioError, read_scenario};

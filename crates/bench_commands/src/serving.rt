@@ -4,8 +4,7 @@ ghost use Rattle.bench_commands.specs.Answer.{GoesFor, path_of};
 ghost use Rattle.bench_commands.specs.Fault.{end_of};
 ghost use Rattle.bench_commands.specs.Serve.{EndsFor, GoesForWords, IsHelp, IsReason, IsRunAsked, NamesNoInput, TellsOf};
 ghost use Rattle.bench_commands.specs.Why.{StopsFor};
-ghost use Rattle.shell.specs.Ending.{Puts};
-ghost use Rattle.shell.specs.Input.{TakesAtMost, input_path, most_bytes};
+ghost use Rattle.shell.specs.Ending.{Puts, TakesAtMost, input_path, most_bytes};
 
 use crate::commands::answer;
 use crate::fault::Fault;

@@ -4,7 +4,7 @@ use Rattle.process_api.specs.Answer.{Answer, after, still}
 use Rattle.process_api.specs.Coordinator.{Coordinator, best_to, end_wait, settle, step_coordinator, opening_coordinator}
 use Rattle.process_api.specs.declared.consensus.Estimate.{Estimate}
 use Rattle.process_api.specs.declared.message.StepInput.{StepInput}
-use Rattle.consensus_es.specs.Orderly.{IsOrderly}
+use Rattle.consensus_es.specs.State.{IsOrderly}
 
 -- after an input no wait is over
 abbrev pub SettlesAlways : Type 0

@@ -1,7 +1,6 @@
 //! Consensus by rotating coordinators.
 ghost use Rattle.std.specs.Prelude.{◌≡◌, Bool, false, IsSome, IfOk};
-ghost use Rattle.consensus_es.specs.Orderly.{IsOrderly};
-ghost use Rattle.consensus_es.specs.State.{state_of, opening_algorithm};
+ghost use Rattle.consensus_es.specs.State.{IsOrderly, state_of, opening_algorithm};
 
 use crate::progress::Progress;
 use process_api::{Action, Algorithm, Membership, ProcSet, StepInput};
@@ -48,7 +47,7 @@ impl EsConsensus {
 }
 
 impl Algorithm for EsConsensus {
-    ghost use Rattle.consensus_es.specs.Inside.Whole.{algorithm_of, answered_err};
+    ghost use Rattle.consensus_es.specs.Inside.Steps.{algorithm_of, answered_err};
 
     ghost state = { algorithm_of };
 

@@ -1,6 +1,6 @@
 //! Diffusion of decisions.
 ghost use Rattle.std.specs.Prelude.{◌≡◌, ◌++◌, OnOk, OnErr, IfOk, not, if◌then◌else◌};
-ghost use Rattle.process_api.specs.Diffusion.{none_seen, also_seen, broadcast as broadcast_of, relay as relay_of};
+ghost use Rattle.process_api.specs.Coordinator.{none_seen, also_seen, broadcast as broadcast_of, relay as relay_of};
 
 use process_api::{Action, Membership, Payload, send_to_all};
 use std::alloc::{AllocError, Global};
@@ -17,7 +17,7 @@ pub struct Diffusion {
 }
 
 impl Diffusion {
-    ghost use Rattle.consensus_es.specs.Rounds.{seen_of, passed_on};
+    ghost use Rattle.consensus_es.specs.State.{seen_of, passed_on};
 
     /// No round was seen.
     pub fn new(alloc: Global) -> Diffusion

@@ -3,8 +3,8 @@
 //!
 //! [`EsConsensus`] is one process's part in it: the state of a machine that is told its inputs one by one, and with
 //! each the processes that its detector suspects by then. It answers with letters and notes. Its one contract is that
-//! of `process_api`'s `Algorithm`: on `Ok`, a call of `take` is the definition (`specs/Coordinator.antt` and
-//! `specs/Diffusion.antt` of `process_api`), and nothing else. This crate's own `specs/` only say how tables and sets
+//! of `process_api`'s `Algorithm`: on `Ok`, a call of `take` is the definition (`specs/Coordinator.antt` of
+//! `process_api`), and nothing else. This crate's own `specs/` only say how tables and sets
 //! in memory stand for that definition's state, and what is true of every state that a process comes to.
 //!
 //! For example, process 1 of three opens with the proposal 10. At its start it notes round 1 and sends its estimate, 10

@@ -4,8 +4,7 @@ ghost use Rattle.process_api.specs.Coordinator.{best_to, better as better_of, op
 ghost use Rattle.process_api.specs.declared.action.Action.TheVariants as Action;
 ghost use Rattle.process_api.specs.declared.action.Note.TheVariants as Note;
 ghost use Rattle.process_api.specs.declared.consensus.Phase.TheVariants as Phase;
-ghost use Rattle.consensus_es.specs.Kept.{by_sender};
-ghost use Rattle.consensus_es.specs.State.{state_of, stepped, Does, Ends, is_collecting, acks_of};
+ghost use Rattle.consensus_es.specs.State.{by_sender, state_of, stepped, Does, Ends, is_collecting, acks_of};
 ghost use Rattle.consensus_es.specs.Inside.Steps.{begun, entered, left, replied, settled, wait_ended, collected, awaited, tallied, received, delivered, is_timely as is_timely_of, is_for_coordinator as is_for_coordinator_of, is_by_coordinator as is_by_coordinator_of};
 
 use crate::diffusion::Diffusion;

@@ -1,4 +1,2 @@
-pub mod Kept
 pub mod State
 pub mod Machine
-pub mod Laws

@@ -1,13 +1,27 @@
--- The state of the exchange that the code holds.
-use Rattle.std.specs.Prelude.{◌≡◌, ℕ, ◌<◌, Bool, None, Some}
+-- The state of the exchange that the code holds. Kept letters as a function of round and sender.
+use Rattle.std.specs.Prelude.{◌≡◌, ℕ, ◌<◌, Bool, None, Some, false, not, is_some, Option}
 use Rattle.std.specs.FinSet as set
 use Rattle.process_api.specs.Answer.{Answer, still}
-use Rattle.process_api.specs.ConsensusS.{Exchange, end_wait, step_exchange}
+use Rattle.process_api.specs.ConsensusS.{Exchange, end_wait, step_exchange, Kept, any_to, first_to, settle}
 use Rattle.process_api.specs.Sets.{Processes}
+use Rattle.process_api.specs.Rows.{Vector, cell}
+use Rattle.process_api.specs.Letters.{by_sender}
 use Rattle.process_api.specs.declared.message.StepInput.{StepInput}
+use Rattle.process_api.specs.declared.letters.Letters.{Letters}
 use Rattle.scenario_record.specs.declared.opening.Opening.{Opening}
 use Rattle.consensus_s.specs.declared.exchange.Exchange.{Exchange as Held}
-use Rattle.consensus_s.specs.Kept.{kept_of}
+
+abbrev pub kept_of : Letters Vector → Kept
+kept_of letters = by_sender letters
+
+-- what the letters of a round tell of cell k
+abbrev pub told_in : ℕ → Kept → ℕ → ℕ → Option ℕ
+told_in n kept round k = first_to n (λ q. elim (kept round q) [ None ↦ None | Some cells ↦ cell cells k ])
+
+-- cell k is empty in some letter of a round
+abbrev pub missed_in : ℕ → Kept → ℕ → ℕ → Bool
+missed_in n kept round k =
+    any_to n (λ q. elim (kept round q) [ None ↦ false | Some cells ↦ not (is_some (cell cells k)) ])
 
 abbrev pub exchange_of : Held → Exchange
 exchange_of e = record { round = e.round; known = e.known; news = e.news; kept = kept_of e.letters }
@@ -26,3 +40,15 @@ stepped o suspects input e = step_exchange o.processes o.own (set.contains suspe
 -- an own letter is kept of no later round
 abbrev pub IsOrderly : ℕ → Exchange → Type 0
 IsOrderly own s = (r : ℕ) → s.round < r → s.kept r own ≡ None
+
+-- ---- waits end as long as one can
+
+-- after an input no wait is over
+abbrev pub SettlesAlways : Type 0
+SettlesAlways = (n own : ℕ) (is_suspected : ℕ → Bool) (input : StepInput) (s : Exchange)
+    → end_wait n own is_suspected (step_exchange n own is_suspected input s).state ≡ None
+
+-- where no wait is over, nothing is done
+abbrev pub RestsSettled : Type 0
+RestsSettled = (n own : ℕ) (is_suspected : ℕ → Bool) (s : Exchange)
+    → end_wait n own is_suspected s ≡ None → settle n own is_suspected (still s) ≡ still s

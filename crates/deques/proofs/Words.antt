@@ -14,7 +14,6 @@ pub use Rattle.std.specs.List.Sorted.{IsPermutation}
 pub use Rattle.std.specs.Vec.Iter.{into_iter_items}
 pub use Rattle.ledger.proofs.Ledgers.{among, learns, puts, takes}
 pub use Rattle.ledger.proofs.Lists.{below_parts, length_more, mixed_at, parts_agree, turn_at, turn_more, with-length, with-map, with-nil}
-pub use Rattle.ledger.specs.Ledger.{AreTold, EachOnce, IsBalanced, has_put, has_taken, new_pass, told_in}
-pub use Rattle.ledger.specs.Places.{each_with}
+pub use Rattle.ledger.specs.Ledger.{AreTold, EachOnce, IsBalanced, has_put, has_taken, new_pass, told_in, each_with}
 pub use Rattle.ledger.specs.declared.account.Account.{Account}
 pub use Rattle.deques.specs.Deques.{AreBlank, AreShares, CameBack, CanHold, Dealt, DequeId, HandView, HasTold, IsDealt, MayTell, OwnerView, PermitView, Popped, RestView, Stole, TookLast, TookOne, all_put, blank, dealt_of, deques_of, hand_at, hand_of, many_out, one_back, one_out, owner_of, permit_of, rest_of, share_from, with_item}

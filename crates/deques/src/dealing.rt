@@ -3,7 +3,7 @@
 ghost use Rattle.std.specs.Prelude.{◌≡◌, ◌⊎◌, ◌<◌, ◌++◌, [], length, map, IfOk, OnOk, vec_len, MatchOption, Some, None};
 ghost use Rattle.std.specs.List.{All, flat_map};
 ghost use Rattle.std.specs.List.Sorted.{IsPermutation};
-ghost use Rattle.ledger.specs.Places.{each_with};
+ghost use Rattle.ledger.specs.Ledger.{each_with};
 ghost use Rattle.deques.specs.Deques.{deques_of, dealt_of, all_put, one_out, many_out, blank, one_back, MayTell, HasTold, AreBlank, with_item, stolen_by, taken_by, AreShares, IsDealt, CameBack, TookLast};
 
 use crate::deque::{Front, Owner, Permit};

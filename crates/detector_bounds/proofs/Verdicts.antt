@@ -3,8 +3,7 @@
 use Rattle.std.proofs.Common.{◌≡◌, ◌≢◌, ℕ, suc, ◌+◌, ◌<◌, ◌≤◌, refl, ap, ◌∙◌, true, not, nat_eq, nat_le, Option, None, Some, List, arith, unwrap_or, le-leb, ne_eqb}
 use Rattle.detector_bounds.proofs.Words.{EntryRecord, is_process, is_watched, is_other, and_true, Record, crash, link, crash_tick, detected_at, HasNoMistake, CrashesAt, KeepsBounds, trusts, longest, Watches, IsReliable, watch_of}
 use Rattle.process_api.specs.declared.numbers.Watch.TheVariants.{All}
-use Rattle.judges.specs.Meaning.{IsLeastTick, IsProcess, IsCorrect, IsCrashed, From, Suspects}
-use Rattle.judges.specs.Verdicts.{strong_accuracy, strong_completeness}
+use Rattle.judges.specs.Verdicts.{IsLeastTick, IsProcess, IsCorrect, IsCrashed, From, Suspects, strong_accuracy, strong_completeness}
 use Rattle.judges.proofs.Meaning.{verdicts_mean}
 
 module _ (s : Record) (trace : List EntryRecord) where

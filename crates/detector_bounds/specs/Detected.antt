@@ -1,14 +1,25 @@
--- By when the crash of a process is detected.
-use Rattle.std.specs.Prelude.{ℕ, zero, suc, ◌+◌, ◌-◌, ◌*◌, Bool, false, ◌&&◌, ◌==◌, List, length, filter}
-use Rattle.process_api.specs.EntryRecord.{EntryRecord}
+-- By when the crash of a process is detected. Multiples of a period, among ticks.
+use Rattle.std.specs.Prelude.{ℕ, zero, suc, ◌+◌, ◌-◌, ◌*◌, Bool, false, ◌&&◌, ◌==◌, List, length, filter, ◌/◌, ◌≡◌, ◌≤◌, true, []}
+use Rattle.process_api.specs.Order.{EntryRecord}
+use Rattle.process_api.specs.Place.{is_watched}
 use Rattle.process_api.specs.declared.action.Note.{Note}
 use Rattle.process_api.specs.declared.action.Note.TheVariants.{Suspect, Trust, Round, Decided, NoValue}
 use Rattle.process_api.specs.declared.numbers.DetectorNumbers.{DetectorNumbers}
 use Rattle.process_api.specs.declared.numbers.DetectorNumbers.TheVariants.{Timeout, Freshness}
 use Rattle.process_api.specs.declared.numbers.TimeoutNumbers.{TimeoutNumbers}
+use Rattle.process_api.specs.declared.numbers.Watch.{Watch}
+use Rattle.scenario_record.specs.Record.{Record, link, outages_on}
 use Rattle.scenario_record.specs.declared.link.Link.{Link}
 use Rattle.judges.specs.Outcomes.{notes_of}
-use Rattle.detector_bounds.specs.Multiples.{last_before, multiple_from}
+use Rattle.judges.specs.Verdicts.{IsProcess}
+
+-- the greatest number whose multiple of the period lies before a tick; 0 where there is none
+abbrev pub last_before : (period tick : ℕ) → ℕ
+last_before period tick = (tick - 1) / period
+
+-- the least multiple of the period that isn't before a tick
+abbrev pub multiple_from : (period tick : ℕ) → ℕ
+multiple_from period tick = (tick + (period - 1)) / period * period
 
 -- a note trusts p again, on layer 1
 abbrev pub is_trust : (p : ℕ) → Note → Bool
@@ -43,3 +54,25 @@ longest (Timeout its) link trusts zero = grown its trusts + its.check - 1
 longest (Timeout its) link trusts (suc before) = link.max + grown its trusts + its.check - 2
 longest (Freshness its) link trusts zero = its.eta + its.delta
 longest (Freshness its) link trusts (suc before) = its.eta + its.delta - 1
+
+-- ---- who watches whom, and over which links
+
+abbrev pub watch_of : DetectorNumbers → Watch
+watch_of (Timeout its) = its.watch
+watch_of (Freshness its) = its.watch
+
+-- the delays of a link are such that the detector takes no process for crashed whose letters all come
+abbrev pub IsTimely : DetectorNumbers → Link → Type 0
+IsTimely (Timeout its) link = (link.max ≤ its.timeout) × (link.max - link.min + its.period ≤ its.timeout)
+IsTimely (Freshness its) link = link.max ≤ its.delta
+
+module _ (S : Record) where
+  -- process q watches p
+  abbrev pub Watches : (q p : ℕ) → Type 0
+  Watches q p = IsProcess S q × (is_watched q S.processes (watch_of S.detector) p ≡ true)
+
+  -- the link from p to q loses nothing, has no outage, and is timely
+  pub record IsReliable (p q : ℕ) : Type 0 where
+    pub no_loss : (link S p q).loss ≡ 0
+    pub no_outage : outages_on S p q ≡ []
+    pub timely : IsTimely S.detector (link S p q)

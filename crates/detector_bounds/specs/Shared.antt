@@ -1,12 +1,11 @@
 -- From when a shared suspicion stands, on layer 2.
 use Rattle.std.specs.Prelude.{◌≡◌, ◌≢◌, ℕ, zero, suc, ◌+◌, ◌-◌, ◌*◌, max, ◌==◌, if◌then◌else◌, List, [], Some}
-use Rattle.process_api.specs.EntryRecord.{EntryRecord}
+use Rattle.process_api.specs.Order.{EntryRecord}
 use Rattle.scenario_record.specs.Record.{Record, link, outages_on}
 use Rattle.scenario_record.specs.declared.link.Link.{Link}
-use Rattle.judges.specs.Meaning.{IsCorrect, From, Suspects}
+use Rattle.judges.specs.Verdicts.{IsCorrect, From, Suspects}
 use Rattle.detector_bounds.specs.Bounds.{CrashesAt, detected_at}
-use Rattle.detector_bounds.specs.Multiples.{last_before, multiple_from}
-use Rattle.detector_bounds.specs.Watched.{Watches}
+use Rattle.detector_bounds.specs.Detected.{last_before, multiple_from, Watches}
 
 -- the tick from which, at the latest, no set comes over a link whose sender's last share had this number; 0 where it
 -- shared none

@@ -1,7 +1,7 @@
 //! Bounds that no run breaks.
 ghost use Rattle.std.specs.Prelude.{List};
-ghost use Rattle.process_api.specs.EntryRecord.{EntryRecord};
-ghost use Rattle.trace_laws.specs.ScenarioSetting.{setting_of};
+ghost use Rattle.process_api.specs.Order.{EntryRecord};
+ghost use Rattle.trace_laws.specs.Setting.{setting_of};
 ghost use Rattle.trace_laws.specs.World.{IsTrace};
 ghost use Rattle.detector_bounds.specs.Bounds.{KeepsBounds};
 ghost use Rattle.detector_bounds.specs.Shared.{SharesDetection};

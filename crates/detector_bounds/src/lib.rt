@@ -6,7 +6,7 @@
 //!
 //! - `specs/Bounds.antt`, layer 1: whoever watches a process that crashes, and doesn't crash itself, suspects it from a
 //!   tick on, up to the horizon (`specs/Detected.antt`), which is soon after the crash; over a reliable link
-//!   (`specs/Watched.antt`) there is no mistake; and what this makes of strong accuracy and strong completeness.
+//!   (`specs/Detected.antt`) there is no mistake; and what this makes of strong accuracy and strong completeness.
 //! - `specs/Shared.antt`, layer 2: from when each correct process suspects whom a correct one detected.
 //!
 //! For example, let `eta` be 10 and `delta` 3. A process that crashes at tick 21 sent its last heartbeat, the second,

@@ -10,7 +10,7 @@ use Rattle.scenario.specs.Table.{Field, same_text}
 use Rattle.scenario.specs.Parts.{field_of, fields_of}
 use Rattle.scenario.specs.declared.field.Field as code
 use Rattle.scenario.specs.declared.field.Kind.TheVariants.{Number}
-use Rattle.diagnosis.specs.Likeness.{edits, edits_of, most_edits, IsMeant}
+use Rattle.diagnosis.specs.Diagnosis.{edits, edits_of, most_edits, IsMeant}
 use Rattle.scenario.proofs.Elements.{contains_image}
 
 ok_value : {E : Type 0} (d e : ℕ) → ◌≡◌ {A = Result ℕ E} (Ok d) (Ok e) → d ≡ e

@@ -3,7 +3,7 @@ use Rattle.std.proofs.Common.{◌≡◌, ◌≤◌, ◌<◌, ℕ, ◌+◌, List,
 use Rattle.std.specs.List.{filter, list_any}
 use Rattle.std.proofs.lemmas.List.{drop_all}
 use Rattle.std.specs.Fmt.{char_count, is_char_start}
-use Rattle.diagnosis.specs.Position.{is_line_feed, last_line, line_after, column_after}
+use Rattle.diagnosis.specs.Diagnosis.{is_line_feed, last_line, line_after, column_after}
 
 -- how many characters start at a byte
 abbrev pub width : ℕ → ℕ

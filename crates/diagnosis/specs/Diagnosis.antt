@@ -1,25 +1,72 @@
--- What a diagnosis says of a file.
-use Rattle.std.specs.Prelude.{◌≡◌, ℕ, ◌≤◌, ◌*◌, ◌/◌, min, List, length, take, false, Option, Some, None, string_bytes}
+-- What a diagnosis says of a file. Places in a text, by the bytes before them. Which key is perhaps meant by one that
+-- isn't a table's.
+use Rattle.std.specs.Prelude.{◌≡◌, ℕ, ◌≤◌, ◌*◌, ◌/◌, min, List, length, take, false, Option, Some, None, string_bytes, ◌+◌, [], ◌∷◌, Bool, if◌then◌else◌, ◌==◌, ◌<◌, max, nat_eq, true}
 use Rattle.std.specs.Borrow.{Bor}
 use Rattle.toml.specs.Data.{Members}
+use Rattle.std.specs.List.{filter, list_any, Contains}
+use Rattle.std.specs.Fmt.{char_count}
+use Rattle.std.specs.Str.{chars}
+use Rattle.strsim.specs.Edits.{damerau}
 use Rattle.scenario_record.specs.Record.{Record}
 use Rattle.scenario.specs.Text.{record_of}
 use Rattle.scenario.specs.Refusals.{Accepts, Refuses, IsDocumentOf, is_memory, refusal_of}
 use Rattle.scenario.specs.Parts.{fields_of}
 use Rattle.scenario.specs.Faults.{Breaks}
+use Rattle.scenario.specs.Table.{Field, same_text}
 use Rattle.scenario.specs.declared.fault.Fault.TheVariants as fault
 use Rattle.scenario.specs.declared.finding.Finding.{Finding}
 use Rattle.scenario.specs.declared.finding.Finding.TheVariants as finding
 use Rattle.scenario.specs.declared.error.ScenarioError.{ScenarioError}
 use Rattle.scenario.specs.declared.error.ScenarioError.TheVariants as error
-use Rattle.diagnosis.specs.Position.{line_after, column_after}
-use Rattle.diagnosis.specs.Likeness.{IsMeant}
 use Rattle.diagnosis.specs.Text.{Reason, no_toml, found, nothing, told_text}
 use Rattle.diagnosis.specs.declared.told.NotToml.{NotToml}
 use Rattle.diagnosis.specs.declared.answer.Accepted.{Accepted}
 use Rattle.diagnosis.specs.declared.answer.Refused.{Refused}
 use Rattle.diagnosis.specs.declared.answer.Diagnosis.{Diagnosis}
 use Rattle.diagnosis.specs.declared.answer.Diagnosis.TheVariants as diagnosis
+
+-- how many edits lead from one text to the other: characters put in, taken out, changed, or two of them swapped
+abbrev pub edits_of : Bool → List ℕ → List ℕ → ℕ
+edits_of true xs ys = 0
+edits_of false [] ys = length ys
+edits_of false (x ∷ xs) [] = length (x ∷ xs)
+edits_of false (x ∷ xs) (y ∷ ys) = damerau nat_eq (x ∷ xs) (y ∷ ys)
+
+abbrev pub edits : List ℕ → List ℕ → ℕ
+edits a b = edits_of (same_text a b) (chars a) (chars b)
+
+-- how many edits away a key may be that is perhaps meant: one for each three bytes, and one at least
+abbrev pub most_edits : List ℕ → ℕ
+most_edits key = max 3 (length key) / 3
+
+-- the key is one of the table's, so near, and none of the table's is nearer
+pub record IsNearest (fields : List Field) (key near : List ℕ) : Type 0 where
+  pub field : Field
+  pub listed : Contains fields field
+  pub named : field.key ≡ near
+  pub near_enough : edits key near ≤ most_edits key
+  pub nearest : (other : Field) → Contains fields other → edits key near ≤ edits key other.key
+
+-- one of the nearest keys, or none where none is near enough
+abbrev pub IsMeant : List Field → List ℕ → Option (Bor (List ℕ)) → Type 0
+IsMeant fields key (Some near) = IsNearest fields key near.now
+IsMeant fields key None = (other : Field) → Contains fields other → most_edits key < edits key other.key
+
+abbrev pub is_line_feed : ℕ → Bool
+is_line_feed byte = byte == 10
+
+-- what stands after the last line feed, if there is one, and else all
+unfoldable pub last_line : List ℕ → List ℕ
+last_line [] = []
+last_line (b ∷ text) = if list_any is_line_feed (b ∷ text) then last_line text else b ∷ text
+
+-- the line of the place, from 1
+abbrev pub line_after : List ℕ → ℕ
+line_after before = 1 + length (filter is_line_feed before)
+
+-- its column, from 1: a column is a character
+abbrev pub column_after : List ℕ → ℕ
+column_after before = 1 + char_count (last_line before)
 
 -- a key is meant only by one that isn't its table's, and then it is one of the nearest
 abbrev pub IsMeantIn : Finding → (meant : Option (Bor (List ℕ))) → Type 0

@@ -1,4 +1,2 @@
-pub mod Position
-pub mod Likeness
 pub mod Diagnosis
 pub mod Text

@@ -5,11 +5,11 @@ use Rattle.std.specs.Borrow.{Bor}
 use Rattle.std.specs.List.{flat_map}
 use Rattle.std.specs.Fmt.{signed_decimal}
 use Rattle.printable.specs.Printable.{printable}
-use Rattle.scenario.specs.Names.{name_of}
+use Rattle.scenario.specs.Refusals.{name_of}
 use Rattle.scenario.specs.Rules.{is_within, most_in}
 use Rattle.scenario.specs.Table.{is_listed, same_text}
 use Rattle.scenario.specs.Parts.{fields_of}
-use Rattle.scenario.specs.Place.{place_text}
+use Rattle.scenario.specs.Keys.{place_text}
 use Rattle.scenario.specs.declared.error.ScenarioError.{ScenarioError}
 use Rattle.scenario.specs.declared.field.Kind.{Kind}
 use Rattle.scenario.specs.declared.field.Kind.TheVariants as kind

@@ -1,8 +1,7 @@
 //! Keys that are perhaps meant.
 ghost use Rattle.std.specs.Prelude.{◌≡◌, IfOk};
 ghost use Rattle.scenario.specs.Parts.{fields_of};
-ghost use Rattle.diagnosis.specs.Likeness.{IsMeant, edits, most_edits as most_edits_of};
-ghost use Rattle.diagnosis.specs.Diagnosis.{IsMeantIn};
+ghost use Rattle.diagnosis.specs.Diagnosis.{IsMeant, edits, most_edits as most_edits_of, IsMeantIn};
 
 use scenario::{Fault, Field, Finding};
 use std::alloc::{AllocError, Global};

@@ -7,7 +7,7 @@
 //!
 //! The fault that the line names is in the file, and breaks the rule of the refusal: `scenario` found it where it
 //! refused the file (`scenario/specs/Faults.antt`). A suggested key is the table's, and none of its keys is nearer
-//! (`specs/Likeness.antt`). Line and column are those of a place of the file (`specs/Position.antt`), and the words are
+//! (`specs/Diagnosis.antt`). Line and column are those of a place of the file, and the words are
 //! those of `specs/Text.antt`, with these numbers. Only tests, and no proof, show that a fault is found in each refused
 //! file that is TOML; where none is found, the line has the refusal alone. The estimate is tested only too, but for a
 //! window's share.

@@ -1,7 +1,7 @@
 //! Places in a text.
 ghost use Rattle.std.specs.Prelude.{◌≡◌};
 ghost use Rattle.std.specs.Fmt.{is_char_start};
-ghost use Rattle.diagnosis.specs.Position.{line_after, column_after};
+ghost use Rattle.diagnosis.specs.Diagnosis.{line_after, column_after};
 
 /// Whether a character starts at the byte.
 fn starts_character(byte: u8) -> bool

@@ -2,7 +2,7 @@
 use Rattle.drawing.proofs.Words.{◌≡◌, ℕ, zero, suc, ◌+◌, ◌-◌, ◌<◌, ◌≤◌, Bool, true, false, cond, inl, inr, refl, sym, ap, ◌∙◌, subst, arith, ltb, Option, None, Some, List, [], ◌∷◌, ◌++◌, Contains, get_or, cases_lt, lt-ltb, le-ltb, true≢false, get_or_default, Contains-append_left, Contains-push, Contains-push_cases, Found, passed_by, passed, found, stretches, Bar}
 use Rattle.std.specs.List.{AllPairs}
 use Rattle.std.proofs.lemmas.List.Quantifiers.{all_pairs_push}
-use Rattle.drawing.specs.Bars.{IsMaximal, AreBars}
+use Rattle.drawing.specs.Suspicions.{IsMaximal, AreBars}
 
 module _ (test : ℕ → Bool) (from : ℕ) where
   -- a stretch that goes on up to a tick

@@ -1,5 +1,5 @@
 -- The picture of letters: what went from whom to whom.
-use Rattle.std.specs.Prelude.{ℕ, ◌+◌, ◌-◌, ◌==◌, nat_lt, Bool, not, ◌&&◌, ◌||◌, if◌then◌else◌, Option, None, Some, List, [], ◌∷◌, ◌++◌, map, flat_map, filter, length, codes, decimal}
+use Rattle.std.specs.Prelude.{ℕ, ◌+◌, ◌-◌, ◌==◌, nat_lt, Bool, not, ◌&&◌, ◌||◌, if◌then◌else◌, Option, None, Some, List, [], ◌∷◌, ◌++◌, map, flat_map, filter, length, codes, decimal, nat_le}
 use Rattle.std.specs.List.{list_any}
 use Rattle.judges.specs.Out.{suspects}
 use Rattle.judges.specs.Outcomes.{outcome}
@@ -8,8 +8,8 @@ use Rattle.judges.specs.declared.outcomes.Answer.TheVariants as answer
 use Rattle.reporting.specs.declared.letter.Letter.{Letter}
 use Rattle.reporting.specs.declared.letter.LetterFate.{LetterFate}
 use Rattle.reporting.specs.declared.letter.LetterFate.TheVariants as fate
-use Rattle.process_api.specs.EntryRecord.{EntryRecord}
-use Rattle.process_api.specs.Numbers.{numbers_to, others}
+use Rattle.process_api.specs.Order.{EntryRecord}
+use Rattle.process_api.specs.Place.{numbers_to, others}
 use Rattle.process_api.specs.declared.entry.Kind.{Kind}
 use Rattle.process_api.specs.declared.entry.Kind.TheVariants as kind
 use Rattle.scenario_record.specs.Record.{Record, outages_on}
@@ -18,11 +18,11 @@ use Rattle.svg.specs.declared.class.Class.TheVariants as class
 use Rattle.svg.specs.declared.shape.Point.{Point}
 use Rattle.svg.specs.declared.shape.Shape.{Shape}
 use Rattle.svg.specs.declared.shape.Shape.TheVariants as shape
-use Rattle.drawing.specs.Bars.{AreBars}
-use Rattle.drawing.specs.Frame.{IsPicture, said}
-use Rattle.drawing.specs.Layout.{point, left_room, axis_width, x_of, is_among, shown, lanes_bottom, line_of, own_top, on_way}
-use Rattle.drawing.specs.Suspicions.{bands, own_at, row_end}
+use Rattle.drawing.specs.Suspicions.{AreBars, bands, own_at, row_end}
+use Rattle.drawing.specs.Frame.{IsPicture, said, point, left_room, axis_width, x_of, is_among, shown, lanes_bottom, line_of, own_top, on_way}
 use Rattle.drawing.specs.declared.bars.Bar.{Bar}
+use Rattle.drawing.specs.declared.error.DrawError.{DrawError}
+use Rattle.drawing.specs.declared.error.DrawError.TheVariants.{TooManyProcesses, Ticks, TooManyLetters, Memory}
 
 -- ---- letters
 
@@ -145,3 +145,33 @@ module _ (S : Record) (trace : List EntryRecord) (letters : List Letter) (of : L
         IsPicture (lanes_bottom S.processes) (count_others of from until letters)
         (flat_map (line_bands S trace from until) (numbers_to S.processes))
         (letters_shapes S trace from until bars of letters) text
+
+-- ---- why nothing is drawn
+
+-- the most processes and letters that are drawn
+abbrev pub most_drawn : ℕ
+most_drawn = 16
+
+abbrev pub most_letters : ℕ
+most_letters = 2000
+
+-- of the processes and the ticks asked for the first refusal, if there is one
+abbrev pub refusal : Record → (from until : ℕ) → Option DrawError
+refusal S from until =
+    if nat_lt most_drawn S.processes then Some TooManyProcesses
+    else if nat_lt from until && nat_le until S.horizon then None
+    else Some Ticks
+
+-- where there is none of these, there is one where too many letters of these processes are sent at these ticks
+abbrev pub letters_refusal : Record → List Letter → (of : List ℕ) (from until : ℕ) → Option DrawError
+letters_refusal S letters of from until =
+    elim (refusal S from until) [
+      | Some first ↦ Some first
+      | None ↦ if nat_lt most_letters (length (sent_among of from until letters)) then Some TooManyLetters else None
+    ]
+
+abbrev pub IsMemory : DrawError → Type 0
+IsMemory TooManyProcesses = ⊥
+IsMemory Ticks = ⊥
+IsMemory TooManyLetters = ⊥
+IsMemory (Memory e) = Unit {0}

@@ -1,22 +1,38 @@
--- The marks that both pictures have, and the picture of who suspects whom.
-use Rattle.std.specs.Prelude.{ℕ, ◌+◌, ◌-◌, ◌==◌, max, min, nat_lt, Bool, not, ◌&&◌, ◌||◌, Option, None, Some, List, [], ◌∷◌, ◌++◌, filter, map, flat_map, length, codes, decimal}
-use Rattle.judges.specs.Ends.{end_tick}
+-- The marks that both pictures have, and the picture of who suspects whom. The stretches of ticks at which a test
+-- holds.
+use Rattle.std.specs.Prelude.{ℕ, ◌+◌, ◌-◌, ◌==◌, max, min, nat_lt, Bool, not, ◌&&◌, ◌||◌, Option, None, Some, List, [], ◌∷◌, ◌++◌, filter, map, flat_map, length, codes, decimal, ◌≡◌, suc, ◌<◌, ◌≤◌, ◌↔◌, true, false, Contains}
+use Rattle.std.specs.List.{AllPairs}
+use Rattle.judges.specs.Pairs.{end_tick}
 use Rattle.judges.specs.Out.{suspects}
 use Rattle.judges.specs.Outcomes.{outcome}
 use Rattle.judges.specs.declared.outcomes.Answer.{Answer}
 use Rattle.judges.specs.declared.outcomes.Answer.TheVariants as answer
-use Rattle.process_api.specs.EntryRecord.{EntryRecord}
-use Rattle.process_api.specs.Numbers.{numbers_to}
+use Rattle.process_api.specs.Order.{EntryRecord}
+use Rattle.process_api.specs.Place.{numbers_to}
 use Rattle.scenario_record.specs.Record.{Record, crash, outages_on}
 use Rattle.scenario_record.specs.declared.outage.Outage.{Outage}
 use Rattle.svg.specs.declared.class.Class.{Class}
 use Rattle.svg.specs.declared.class.Class.TheVariants as class
 use Rattle.svg.specs.declared.shape.Shape.{Shape}
 use Rattle.svg.specs.declared.shape.Shape.TheVariants as shape
-use Rattle.drawing.specs.Bars.{AreBars}
-use Rattle.drawing.specs.Frame.{IsPicture, said}
-use Rattle.drawing.specs.Layout.{point, left_room, row_height, x_of, shown, subjects, groups_bottom, row_top, left_out}
+use Rattle.drawing.specs.Frame.{IsPicture, said, point, left_room, row_height, x_of, shown, subjects, groups_bottom, row_top, left_out}
 use Rattle.drawing.specs.declared.bars.Bar.{Bar}
+
+module _ (test : ℕ → Bool) (from until : ℕ) where
+  -- the test holds at all ticks from b.begin to b.end - 1, and among the ticks from `from` to until - 1 the stretch
+  -- can't be longer on either side
+  pub record IsMaximal (b : Bar) : Type 0 where
+    pub low : from ≤ b.begin
+    pub some : b.begin < b.end
+    pub high : b.end ≤ until
+    pub holds : (t : ℕ) → b.begin ≤ t → t < b.end → test t ≡ true
+    pub not_before : (t : ℕ) → from ≤ t → suc t ≡ b.begin → test t ≡ false
+    pub not_after : b.end < until → test b.end ≡ false
+
+  -- all of them, each once, in the order of their ticks
+  pub record AreBars (bars : List Bar) : Type 0 where
+    pub all : (b : Bar) → Contains bars b ↔ IsMaximal b
+    pub in_order : AllPairs (λ b c. b.end < c.begin) bars
 
 -- the tick at which a process decides a value, if it does
 abbrev pub decided : Answer → Option ℕ → Option ℕ

@@ -1,7 +1,6 @@
 //! The arrows of letters.
 ghost use Rattle.std.specs.Prelude.{◌≡◌, ◌++◌, ◌≤◌, ◌<◌, ◌*◌, ◌/◌, length, OnOk};
-ghost use Rattle.drawing.specs.Frame.{placeless, without_place};
-ghost use Rattle.drawing.specs.Layout.{on_way};
+ghost use Rattle.drawing.specs.Frame.{placeless, without_place, on_way};
 ghost use Rattle.drawing.specs.LettersPicture.{class_of, count_others, is_of, sent_among};
 
 use crate::frame::push_mark;
@@ -70,7 +69,7 @@ fn part_of(way: u32, part: u64, whole: u64) -> u32
 }
 
 /// The height after so many of all parts of the way from one height to another.
-#[tactic(auto, unfolding(crate::specs::Layout::on_way))]
+#[tactic(auto, unfolding(crate::specs::Frame::on_way))]
 fn on_way(from: u32, to: u32, part: u64, whole: u64) -> u32
     requires some { 0 < whole }
     requires inside { part ≤ whole }
@@ -85,9 +84,9 @@ fn on_way(from: u32, to: u32, part: u64, whole: u64) -> u32
 }
 
 impl Run<'_> {
-    ghost use Rattle.drawing.specs.Layout.{line_of};
+    ghost use Rattle.drawing.specs.Frame.{line_of};
     ghost use Rattle.drawing.specs.LettersPicture.{arriving, ending, leaving, lost, place};
-    ghost use Rattle.drawing.specs.Inside.LettersDrawn.{arrows_in};
+    ghost use Rattle.drawing.specs.Inside.Drawn.{arrows_in};
 
     /// Where the line of a process is, from the top.
     fn line_of(&self, process: Pid) -> u32

@@ -56,10 +56,10 @@ pub(crate) fn outage_legend(
 }
 
 impl Run<'_> {
-    ghost use Rattle.drawing.specs.Inside.LettersDrawn.{all_line_bands_in, line_bands_in};
+    ghost use Rattle.drawing.specs.Inside.Drawn.{all_line_bands_in, line_bands_in};
 
     /// Appends the bands of a process: those of the links from it.
-    #[tactic(auto, using(crate::proofs::Counting::one_more), unfolding(crate::specs::Inside::LettersDrawn::link_bands))]
+    #[tactic(auto, using(crate::proofs::Counting::one_more), unfolding(crate::specs::Inside::Drawn::link_bands))]
     fn push_line_bands(&self, shapes: &mut Vec<Shape>, sender: Pid) -> Result<(), AllocError>
         requires { sender ≤ self.now.scenario.now.processes }
         ensures { OnOk result (shapes.new.items ≡ shapes.old.items ++ line_bands_in self.now sender) }

@@ -1,7 +1,7 @@
 //! Stretches of ticks through which one process suspects another.
 ghost use Rattle.std.specs.Prelude.{◌≡◌, IfOk};
 ghost use Rattle.judges.specs.Out.{suspects};
-ghost use Rattle.drawing.specs.Bars.{AreBars};
+ghost use Rattle.drawing.specs.Suspicions.{AreBars};
 ghost use Rattle.drawing.specs.Inside.Sweeping.{stretches};
 
 use crate::sweep::Sweep;

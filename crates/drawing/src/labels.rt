@@ -1,7 +1,6 @@
 //! The texts of a picture.
 ghost use Rattle.std.specs.Prelude.{◌≡◌, ◌++◌, ◌∷◌, [], ◌≤◌, ◌<◌, true, IfOk, codes, decimal, string_bytes};
-ghost use Rattle.drawing.specs.Frame.{are_frame, said, without_place};
-ghost use Rattle.drawing.specs.Layout.{point};
+ghost use Rattle.drawing.specs.Frame.{are_frame, said, without_place, point};
 
 use crate::layout::{LEFT, Ticks};
 use process_api::Pid;

@@ -1,6 +1,6 @@
 //! Where things stand in a picture of letters.
 ghost use Rattle.std.specs.Prelude.{◌≡◌, ◌≤◌, ◌+◌, ◌-◌, ◌*◌};
-ghost use Rattle.drawing.specs.Layout.{head_room, lane_height, lanes_bottom, line_of, own_top};
+ghost use Rattle.drawing.specs.Frame.{head_room, lane_height, lanes_bottom, line_of, own_top};
 
 use crate::layout::{LANE, REMARK, TOP};
 use process_api::Pid;
@@ -15,7 +15,7 @@ fn lane_height(processes: u16) -> u32
 }
 
 /// Where the rooms end, from the top.
-#[tactic(auto, unfolding(crate::specs::Layout::lanes_bottom))]
+#[tactic(auto, unfolding(crate::specs::Frame::lanes_bottom))]
 pub(crate) fn lanes_bottom(processes: u16) -> u32
     requires { processes ≤ 256 }
     ensures value { result ≡ lanes_bottom processes }
@@ -34,7 +34,7 @@ fn lane_top(processes: u16, process: Pid) -> u32
 }
 
 /// Where the row of a process itself begins, from the top.
-#[tactic(auto, unfolding(crate::specs::Layout::own_top))]
+#[tactic(auto, unfolding(crate::specs::Frame::own_top))]
 pub(crate) fn own_top(processes: u16, process: Pid) -> u32
     requires { processes ≤ 256 }
     ensures value { result ≡ own_top processes process }

@@ -53,10 +53,10 @@ pub(crate) struct Ticks {
 }
 
 impl Ticks {
-    ghost use Rattle.drawing.specs.Layout.{is_among, shown, x_of};
+    ghost use Rattle.drawing.specs.Frame.{is_among, shown, x_of};
 
     /// Where a tick begins, from the left; at an edge where it isn't one of these.
-    #[tactic(auto, unfolding(crate::specs::Layout::x_of))]
+    #[tactic(auto, unfolding(crate::specs::Frame::x_of))]
     pub fn x(&self, tick: u32) -> u32
         ensures value { result ≡ x_of self.now.from self.now.until tick }
         ensures inside { result ≤ 888 }

@@ -2,8 +2,7 @@
 ghost use Rattle.std.specs.Prelude.{◌≡◌, ◌++◌, IfOk, IfErr, OnOk, MatchOption, Err};
 ghost use Rattle.judges.specs.Outcomes.{outcomes};
 ghost use Rattle.drawing.specs.Frame.{placeless};
-ghost use Rattle.drawing.specs.LettersPicture.{DrawsLetters};
-ghost use Rattle.drawing.specs.Refusals.{IsMemory, letters_refusal};
+ghost use Rattle.drawing.specs.LettersPicture.{DrawsLetters, IsMemory, letters_refusal};
 
 use crate::arrows::{count_others, count_sent};
 use crate::bands::outage_legend;
@@ -22,7 +21,7 @@ use std::alloc::{AllocError, Global};
 use svg::Shape;
 
 impl Run<'_> {
-    ghost use Rattle.drawing.specs.Inside.LettersDrawn.{all_marks_in, lines_in};
+    ghost use Rattle.drawing.specs.Inside.Drawn.{all_marks_in, lines_in};
 
     /// Appends the lines of all processes.
     fn push_lines(

@@ -2,9 +2,9 @@
 //!
 //! [`draw_suspicions`] draws who suspects whom. Each process has a group of rows: one line for itself, with its crash
 //! and its decision, and one for each other process that it suspects, with a bar for each stretch of ticks through
-//! which it does. A stretch is as long as can be within the ticks asked for (`specs/Bars.antt`); the bars of a pair are
+//! which it does. A stretch is as long as can be within the ticks asked for (`IsMaximal`); the bars of a pair are
 //! all its stretches, each once, in the order of their ticks. The place of each mark is defined in
-//! `specs/Suspicions.antt` and `specs/Layout.antt`. The text is that of a picture with just these marks
+//! `specs/Suspicions.antt` and `specs/Frame.antt`. The text is that of a picture with just these marks
 //! (`specs/Frame.antt`). No contract says where texts stand, or what legends and the labels of ticks say.
 //!
 //! A picture is small: it has at most [`MOST_DRAWN`] processes, and only ticks that the run has. Anything else is

@@ -1,8 +1,7 @@
 //! The marks on the lines of processes: what they decide, and whom they begin to suspect or to trust again.
 ghost use Rattle.std.specs.Prelude.{◌≡◌, ◌++◌, ◌≤◌, OnOk};
 ghost use Rattle.judges.specs.Outcomes.{outcome};
-ghost use Rattle.drawing.specs.Frame.{placeless};
-ghost use Rattle.drawing.specs.Layout.{line_of, shown};
+ghost use Rattle.drawing.specs.Frame.{placeless, line_of, shown};
 ghost use Rattle.drawing.specs.LettersPicture.{turn_class, upper_layer, value_shapes};
 ghost use Rattle.drawing.specs.Suspicions.{row_end};
 
@@ -52,7 +51,7 @@ struct Spot {
 }
 
 impl Ticks {
-    ghost use Rattle.drawing.specs.Inside.LettersDrawn.{bar_turns_at, turn_at};
+    ghost use Rattle.drawing.specs.Inside.Drawn.{bar_turns_at, turn_at};
 
     /// Appends a mark at a tick, if there is one to show.
     fn push_turn(
@@ -123,7 +122,7 @@ impl Ticks {
 }
 
 impl Run<'_> {
-    ghost use Rattle.drawing.specs.Inside.LettersDrawn.{marks_in, turns_in, turns_of_others};
+    ghost use Rattle.drawing.specs.Inside.Drawn.{marks_in, turns_in, turns_of_others};
 
     /// Where the marks of an observer and a subject stand.
     fn spot(&self, observer: Pid, subject: Pid) -> Spot

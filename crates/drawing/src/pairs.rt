@@ -1,6 +1,6 @@
 //! The row of a pair of processes: when one suspects the other.
 ghost use Rattle.std.specs.Prelude.{◌≡◌, ◌+◌, ◌++◌, ◌||◌, ◌≤◌, ◌<◌, IfOk, OnOk};
-ghost use Rattle.process_api.specs.Numbers.{others};
+ghost use Rattle.process_api.specs.Place.{others};
 ghost use Rattle.drawing.specs.Frame.{placeless};
 ghost use Rattle.drawing.specs.Suspicions.{first_top, has_bar};
 

@@ -5,7 +5,7 @@ use Rattle.process_api.specs.declared.key.Key.{Key}
 use Rattle.process_api.specs.declared.message.StepInput.{StepInput}
 use Rattle.process_api.proofs.Minds.{mind_place, same_own}
 use Rattle.pending_events.specs.Pending.{IsEmpty}
-use Rattle.trace_laws.specs.Reached.{IsReached}
+use Rattle.trace_laws.specs.World.{IsReached}
 use Rattle.trace_laws.proofs.Runs.{again}
 use Rattle.trace_laws.proofs.Steps.{step_key}
 use Rattle.trace_laws.proofs.Sets.{same_Some}

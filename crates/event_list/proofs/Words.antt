@@ -6,10 +6,9 @@ pub use Rattle.std.proofs.lemmas.Option.{MatchOption-at_none, MatchOption-at_som
 pub use Rattle.std.specs.List.{All}
 pub use Rattle.std.specs.Prelude.{IsTrue, take}
 pub use Rattle.std.specs.Vec.Iter.{into_iter_items}
-pub use Rattle.process_api.specs.Bounds.{most_step_actions}
-pub use Rattle.process_api.specs.EntryRecord.{EntryRecord}
+pub use Rattle.process_api.specs.Place.{most_step_actions, numbers_to}
+pub use Rattle.process_api.specs.Order.{EntryRecord}
 pub use Rattle.process_api.specs.Mind.{Mind}
-pub use Rattle.process_api.specs.Numbers.{numbers_to}
 pub use Rattle.scenario_record.specs.Record.{Record, opening_mind, place_in}
 pub use Rattle.steps.proofs.Openings.{length-numbers_to, machines_open, number_at}
 pub use Rattle.steps.specs.Posting.{ArePosted, Posted, posted_along, posted_in}
@@ -18,9 +17,8 @@ pub use Rattle.trace_laws.proofs.Closed.{has_one_trace, only_history, opening_wo
 pub use Rattle.trace_laws.proofs.Reaching.{opening_reached, reached_end, reached_front, reached_longer, reached_next}
 pub use Rattle.trace_laws.proofs.Sound.{setting_sound}
 pub use Rattle.trace_laws.proofs.Worlds.{by_receiver, taken_world}
-pub use Rattle.trace_laws.specs.Joins.{HaveJoined}
-pub use Rattle.trace_laws.specs.ScenarioSetting.{setting_of}
-pub use Rattle.trace_laws.specs.Setting.{IsProcess, IsSound, Setting}
+pub use Rattle.trace_laws.specs.Taken.{HaveJoined}
+pub use Rattle.trace_laws.specs.Setting.{setting_of, IsProcess, IsSound, Setting}
 pub use Rattle.trace_laws.specs.Step.{Events, Process, step}
 pub use Rattle.trace_laws.specs.World.{Has, IsLeast, IsTrace, NoneBelow, World, joined, made, opened, opening, start_of, starts, taken}
 pub use Rattle.event_list.specs.Inside.Standing.{HasPosted, IsStepped, Stands}

@@ -1,13 +1,12 @@
 -- What a run leaves with whoever took its entries, and when it is refused.
 use Rattle.std.specs.Prelude.{◌≡◌, ◌⊎◌, ℕ, ◌≤◌, ◌<◌, List, ◌++◌, length, take, IsTrue}
-use Rattle.process_api.specs.EntryRecord.{EntryRecord}
+use Rattle.process_api.specs.Order.{EntryRecord, is_rising}
 use Rattle.process_api.specs.Mind.{Mind}
-use Rattle.process_api.specs.Order.{is_rising}
 use Rattle.process_api.specs.declared.run_error.RunError.{RunError}
 use Rattle.process_api.specs.declared.run_error.RunError.TheVariants.{Limit, Memory}
 use Rattle.trace_laws.specs.Setting.{Setting}
 use Rattle.trace_laws.specs.World.{IsTrace}
-use Rattle.trace_laws.specs.Effects.{HasCauses, TakesOnce}
+use Rattle.trace_laws.specs.History.{HasCauses, TakesOnce}
 
 -- whatever was taken before, these entries were taken after it, in this order and nothing else
 abbrev pub WereTaken : (old new : List EntryRecord → Type 0) → List EntryRecord → Type 0

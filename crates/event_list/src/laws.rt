@@ -1,5 +1,5 @@
 //! The laws of cause and effect.
-ghost use Rattle.trace_laws.specs.ScenarioSetting.{setting_of};
+ghost use Rattle.trace_laws.specs.Setting.{setting_of};
 ghost use Rattle.trace_laws.specs.Theorems.{
   HasOneCause,
   HasOneTrace,

@@ -1,15 +1,13 @@
 //! The single event list.
 ghost use Rattle.std.specs.Prelude.{◌≡◌, ◌≤◌, ◌<◌, ◌+◌, ◌^◌, [], ℕ, length, IfErr, IfOk, OnOk, IsErrOf, All, map, vec_len};
-ghost use Rattle.process_api.specs.Bounds.{most_processes, most_step_actions};
-ghost use Rattle.process_api.specs.Numbers.{numbers_to};
+ghost use Rattle.process_api.specs.Place.{most_processes, most_step_actions, numbers_to};
 ghost use Rattle.scenario_record.specs.Record.{opening_mind};
-ghost use Rattle.trace_laws.specs.Effects.{HasCauses, TakesOnce};
-ghost use Rattle.trace_laws.specs.Joins.{HaveJoined};
+ghost use Rattle.trace_laws.specs.History.{HasCauses, TakesOnce};
+ghost use Rattle.trace_laws.specs.Taken.{HaveJoined};
 ghost use Rattle.steps.specs.Posting.{WereHeard};
 ghost use Rattle.event_list.specs.Following.{IsCutShort, IsRecorded, IsRefusal, IsTooLong, WasTold};
-ghost use Rattle.trace_laws.specs.ScenarioSetting.{setting_of};
+ghost use Rattle.trace_laws.specs.Setting.{setting_of, IsProcess};
 ghost use Rattle.steps.specs.Seat.{process_of, IsMindIn, IsSeated};
-ghost use Rattle.trace_laws.specs.Setting.{IsProcess};
 ghost use Rattle.event_list.specs.Inside.Standing.{posted_at, processes_of, AreSeated, ForReceiver, Stands, TookStep};
 ghost use Rattle.trace_laws.specs.World.{starts, opened, IsTrace};
 

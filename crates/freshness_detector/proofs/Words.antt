@@ -5,8 +5,7 @@ pub use Rattle.std.proofs.lemmas.List.{get_or-set_other, get_or-set_same, get_or
 pub use Rattle.std.specs.Option.{option_map_or}
 pub use Rattle.process_api.proofs.Contains.{contains-remove_is, insert_all-next, same_members}
 pub use Rattle.process_api.specs.Freshness.{FreshnessState, heard, noted, suspected, watches}
-pub use Rattle.process_api.specs.Numbers.{change, is_process, numbers_to}
-pub use Rattle.process_api.specs.Place.{Place}
+pub use Rattle.process_api.specs.Place.{change, is_process, numbers_to, Place}
 pub use Rattle.process_api.specs.Sets.{Processes, changes, insert_all}
 pub use Rattle.process_api.specs.declared.numbers.FreshnessNumbers.{FreshnessNumbers}
 pub use Rattle.scenario_record.specs.Opening.{place_of}

@@ -3,7 +3,7 @@ ghost use Rattle.std.specs.Prelude.{◌≡◌, ◌≤◌, ◌+◌, ◌++◌, ◌
 ghost use Rattle.std.specs.FinSet as set;
 ghost use Rattle.process_api.specs.Detector.{is_freshness};
 ghost use Rattle.process_api.specs.declared.numbers.DetectorNumbers.TheVariants.{Freshness};
-ghost use Rattle.scenario_record.specs.Numbers.{AreFreshnessInRange};
+ghost use Rattle.scenario_record.specs.Ranges.{AreFreshnessInRange};
 ghost use Rattle.scenario_record.specs.Opening.{base_of};
 ghost use Rattle.freshness_detector.specs.Inside.Tables.{state_by, AreSuspects};
 

@@ -13,7 +13,7 @@ use Rattle.trace_laws.specs.World.{World, Pair, Has, IsWorld, Run, made, taken, 
 use Rattle.judges.proofs.Letters.{added_letter, no_letter_first}
 use Rattle.judges.proofs.PartsActions.{IsSharing, IsShared, RunsReduction}
 use Rattle.judges.proofs.Members.{each_of}
-use Rattle.judges.specs.Blame.{IsBlamedBy, SharesSuspicions}
+use Rattle.judges.specs.Out.{IsBlamedBy, SharesSuspicions}
 use Rattle.judges.proofs.Instances.{runs_reduction}
 use Rattle.judges.proofs.Order.{less_from}
 

@@ -13,8 +13,8 @@ use Rattle.std.specs.FinMap.{nat_cmp-IsAntisymmetric}
 use Rattle.process_api.specs.declared.action.Note.{Note}
 use Rattle.process_api.specs.declared.message.Tag.TheVariants as tag
 use Rattle.judges.proofs.Algorithms.{all_sent, IsOfAlgorithm}
-use Rattle.process_api.specs.Actions.{of_layer, notes_of_layer}
-use Rattle.process_api.specs.Watching.{is_other}
+use Rattle.process_api.specs.Answer.{of_layer, notes_of_layer}
+use Rattle.process_api.specs.Place.{is_other}
 use Rattle.judges.proofs.Members.{in_image, in_filter}
 use Rattle.judges.proofs.Agreement.Joined.{IsOfLower}
 

@@ -15,16 +15,12 @@ pub use Rattle.process_api.proofs.KeyOrder.{keys_total, ticks_rise}
 pub use Rattle.process_api.proofs.Lists.{always, both, images, numbers_are, weaker}
 pub use Rattle.process_api.specs.Answer.{Answer, after, still, to_all}
 pub use Rattle.process_api.specs.BaseDetector.{IsDetectorStep, IsOfDetector}
-pub use Rattle.process_api.specs.Coordinator.{Coordinator, Kept, adopt, await, begin, best_to, better, collect, deliver, end_wait, end_waits, enter, from_round, is_decided, is_early, is_opening, is_timely, keep, leave, opening_coordinator, propose, receive, reply, settle, step_coordinator, tally, waits_left}
-pub use Rattle.process_api.specs.Diffusion.{broadcast, relay}
-pub use Rattle.process_api.specs.EntryRecord.{EntryRecord}
+pub use Rattle.process_api.specs.Coordinator.{Coordinator, Kept, adopt, await, begin, best_to, better, collect, deliver, end_wait, end_waits, enter, from_round, is_decided, is_early, is_opening, is_timely, keep, leave, opening_coordinator, propose, receive, reply, settle, step_coordinator, tally, waits_left, broadcast, relay, coordinator, count_to, majority}
+pub use Rattle.process_api.specs.Order.{EntryRecord, is_before, is_less, is_rising, key_cmp}
 pub use Rattle.process_api.specs.Mind.{AlgorithmState, Coordinating, Exchanging, Idle, Lower, Mind, is_mind_at, stands_at, suspects_of}
-pub use Rattle.process_api.specs.Numbers.{change, is_process, numbers_to}
-pub use Rattle.process_api.specs.Order.{is_before, is_less, is_rising, key_cmp}
-pub use Rattle.process_api.specs.Place.{Place}
+pub use Rattle.process_api.specs.Place.{change, is_process, numbers_to, Place}
 unfoldable pub use Rattle.process_api.specs.React.{react, react_algorithm, react_lower}
 pub use Rattle.process_api.specs.Reduction.{ReductionState, gathered, next_share, step_reduction}
-pub use Rattle.process_api.specs.Rounds.{coordinator, count_to, majority}
 pub use Rattle.process_api.specs.Sets.{Processes}
 pub use Rattle.process_api.specs.declared.action.Action.{Action}
 pub use Rattle.process_api.specs.declared.action.Note.TheVariants.{Decided, NoValue, Round, Suspect, Trust}
@@ -41,25 +37,17 @@ pub use Rattle.trace_laws.proofs.Sound.{setting_sound}
 pub use Rattle.trace_laws.proofs.Steps.{change_at, change_other, in_append, in_left, in_right}
 pub use Rattle.trace_laws.proofs.Worlds.{process_at, process_other, taken_cases, taken_world}
 pub use Rattle.trace_laws.specs.History.{IsIn}
-pub use Rattle.trace_laws.specs.ScenarioSetting.{setting_of}
-pub use Rattle.trace_laws.specs.Setting.{Setting}
+pub use Rattle.trace_laws.specs.Setting.{setting_of, Setting}
 pub use Rattle.trace_laws.specs.Step.{Event, Made, added, by_fate, counted, dead, in_time, joining, made_by}
 pub use Rattle.trace_laws.specs.World.{Has, IsTrace, start_of, starts}
 pub use Rattle.judges.specs.Agreement.{Agree, Agrees, DecidesOnce, answers_of}
-pub use Rattle.judges.specs.Crashes.{crash_tick, end_of, is_correct, is_crashed, is_up}
-pub use Rattle.judges.specs.Ends.{AreEnds, end_tick, opened_at}
+pub use Rattle.judges.specs.Out.{crash_tick, end_of, is_correct, is_crashed, is_up, Set, after_note, nobody, notes_until, out, suspects, with, without}
+pub use Rattle.judges.specs.Pairs.{AreEnds, end_tick, opened_at, AreTurned, all_turned, kept_at, opened, turned, AreFrom, ArePairs, fed, Turn, entry_turns, noted_turns, turn_of, turns, turns_at, IsJudging}
 pub use Rattle.judges.specs.Grid.{column_right, column_suspected, column_trusted, counts_as_correct, grid_verdicts, pair, place, row_right, row_suspected, row_trusted}
 pub use Rattle.judges.specs.Inside.Noting.{all_noted}
-pub use Rattle.judges.specs.Judging.{IsJudging}
-pub use Rattle.judges.specs.Meaning.{AreVerdicts}
-pub use Rattle.judges.specs.Out.{Set, after_note, nobody, notes_until, out, suspects, with, without}
+pub use Rattle.judges.specs.Verdicts.{AreVerdicts, each, eventual_strong_accuracy, eventual_weak_accuracy, some, strong_accuracy, strong_completeness, verdicts, weak_accuracy, weak_completeness}
 pub use Rattle.judges.specs.Outcomes.{is_answer, notes_of, outcome, outcomes, timed, value_of}
-pub use Rattle.judges.specs.Pair.{AreTurned, all_turned, kept_at, opened, turned}
-pub use Rattle.judges.specs.Pairs.{AreFrom, ArePairs, fed}
-pub use Rattle.judges.specs.Ticks.{all_below, all_from, any_below, before, first_of, least_below}
-pub use Rattle.judges.specs.Track.{IsReached, Knows, earliest, earliest_below, latest, latest_below, new_track, passed, reached, suspected_from, trusted_from}
-pub use Rattle.judges.specs.Turns.{Turn, entry_turns, noted_turns, turn_of, turns, turns_at}
-pub use Rattle.judges.specs.Verdicts.{each, eventual_strong_accuracy, eventual_weak_accuracy, some, strong_accuracy, strong_completeness, verdicts, weak_accuracy, weak_completeness}
+pub use Rattle.judges.specs.Track.{all_below, all_from, any_below, before, first_of, least_below, IsReached, Knows, earliest, earliest_below, latest, latest_below, new_track, passed, reached, suspected_from, trusted_from}
 pub use Rattle.judges.specs.declared.outcomes.Outcome.{Outcome}
 pub use Rattle.judges.specs.declared.pairs.Pairs.{Pairs}
 pub use Rattle.judges.specs.declared.track.Track.{Track}

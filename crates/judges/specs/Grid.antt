@@ -1,8 +1,7 @@
 -- What the tracks of a judge at the horizon tell.
 use Rattle.std.specs.Prelude.{ℕ, ◌+◌, ◌*◌, Bool, not, ◌&&◌, ◌==◌, if◌then◌else◌, Option, None, Some, get_or}
-use Rattle.judges.specs.Ticks.{all_below, any_below}
-use Rattle.judges.specs.Pair.{opened, kept_at}
-use Rattle.judges.specs.Track.{suspected_from, trusted_from, latest_below, earliest_below}
+use Rattle.judges.specs.Track.{all_below, any_below, suspected_from, trusted_from, latest_below, earliest_below}
+use Rattle.judges.specs.Pairs.{opened, kept_at}
 use Rattle.judges.specs.declared.pair.Pair.{Pair}
 use Rattle.judges.specs.declared.pairs.Pairs.{Pairs}
 use Rattle.judges.specs.declared.verdicts.Verdicts.{Verdicts}

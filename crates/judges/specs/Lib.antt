@@ -1,16 +1,8 @@
-pub mod Ticks
-pub mod Crashes
 pub mod Out
 pub mod Verdicts
-pub mod Meaning
 pub mod Outcomes
-pub mod Turns
-pub mod Pair
-pub mod Ends
 pub mod Pairs
 pub mod Track
 pub mod Grid
-pub mod Judging
 pub mod Agreement
-pub mod Blame
 pub mod Inside

@@ -1,9 +1,11 @@
 -- Whom a process suspects, read from the notes of a trace. Chen, Toueg and Aguilera (IEEE Transactions on Computers,
 -- 2002) call this the output of a detector.
-use Rattle.std.specs.Prelude.{ℕ, Bool, true, false, ◌&&◌, ◌==◌, nat_le, if◌then◌else◌, List, [], ◌∷◌, ◌++◌, fold}
-use Rattle.process_api.specs.EntryRecord.{EntryRecord}
+use Rattle.std.specs.Prelude.{ℕ, Bool, true, false, ◌&&◌, ◌==◌, nat_le, if◌then◌else◌, List, [], ◌∷◌, ◌++◌, fold, ◌≡◌, ◌≤◌, suc, min, nat_lt, not, unwrap_or}
+use Rattle.process_api.specs.Order.{EntryRecord, is_before}
 use Rattle.process_api.specs.declared.action.Note.{Note}
 use Rattle.process_api.specs.declared.action.Note.TheVariants.{Suspect, Trust, Round, Decided, NoValue}
+use Rattle.scenario_record.specs.Record.{Record, crash}
+use Rattle.trace_laws.specs.History.{IsIn}
 
 -- a set of processes, as the test of its members
 abbrev pub Set : Type 0
@@ -42,3 +44,38 @@ module _ (layer : ℕ) where
   -- whether q suspects p, tick by tick
   abbrev pub suspects : List EntryRecord → (q p : ℕ) → (t : ℕ) → Bool
   suspects trace q p t = out trace q t p
+
+-- ---- what a suspicion of layer 2 rests on: somebody's base detector had suspected before
+
+-- some entry notes that its process suspects p on layer 1, at tick t or before
+abbrev pub IsBlamedBy : List EntryRecord → (p t : ℕ) → Type 0
+IsBlamedBy trace p t = (e : EntryRecord) × IsIn e trace × (e.key.tick ≤ t) × IsIn (Suspect 1 p) e.notes
+
+-- each entry that notes a suspicion of layer 2 has an earlier one, in the order of keys, that notes a suspicion of the
+-- same process on layer 1
+abbrev pub SharesSuspicions : List EntryRecord → Type 0
+SharesSuspicions trace = (e : EntryRecord) → IsIn e trace → (p : ℕ) → IsIn (Suspect 2 p) e.notes
+    → (earlier : EntryRecord) × IsIn earlier trace × (is_before earlier.key e.key ≡ true)
+    × IsIn (Suspect 1 p) earlier.notes
+
+-- ---- who has crashed, and when a suspicion is a mistake
+
+module _ (s : Record) where
+  -- a process that never crashes counts as one that crashes after the horizon
+  abbrev pub crash_tick : ℕ → ℕ
+  crash_tick p = unwrap_or (crash s p) (suc s.horizon)
+
+  -- whether a process hasn't crashed yet at a tick
+  abbrev pub is_up : (p t : ℕ) → Bool
+  is_up p t = nat_lt t (crash_tick p)
+
+  -- whether a process crashes below the horizon, or doesn't
+  abbrev pub is_crashed : ℕ → Bool
+  is_crashed p = nat_lt (crash_tick p) s.horizon
+
+  abbrev pub is_correct : ℕ → Bool
+  is_correct p = not (is_crashed p)
+
+  -- a suspicion of p by q is a mistake at ticks below this one
+  abbrev pub end_of : (q p : ℕ) → ℕ
+  end_of q p = min (min (crash_tick p) (crash_tick q)) s.horizon

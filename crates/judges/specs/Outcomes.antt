@@ -1,9 +1,9 @@
 -- Outcomes: what each process decided, when, and how far its rounds went.
 use Rattle.std.specs.Prelude.{ℕ, max, Bool, true, false, ◌==◌, if◌then◌else◌, Option, None, Some, List, [], ◌∷◌, ◌++◌, map, find, fold}
-use Rattle.process_api.specs.Numbers.{numbers_to}
+use Rattle.process_api.specs.Place.{numbers_to}
 use Rattle.process_api.specs.declared.action.Note.{Note}
 use Rattle.process_api.specs.declared.action.Note.TheVariants.{Suspect, Trust, Round, Decided, NoValue}
-use Rattle.process_api.specs.EntryRecord.{EntryRecord}
+use Rattle.process_api.specs.Order.{EntryRecord}
 use Rattle.judges.specs.declared.outcomes.Answer.{Answer}
 use Rattle.judges.specs.declared.outcomes.Answer.TheVariants as answer
 use Rattle.judges.specs.declared.outcomes.Outcome.{Outcome}

@@ -6,7 +6,7 @@
 //! horizon. [`decisions`] gives one [`Outcome`] for each process. For every scenario and every trace, whoever made it,
 //! their contracts say of an `Ok`:
 //!
-//! - the verdicts are those that `specs/Verdicts.antt` counts out, and what `specs/Meaning.antt` states by quantifiers
+//! - the verdicts are those that `specs/Verdicts.antt` counts out, and what is stated there by quantifiers
 //!   over processes and ticks;
 //! - the outcomes are those of `specs/Outcomes.antt`.
 //!
@@ -14,17 +14,17 @@
 //! promises more (`specs/Agreement.antt`): no two outcomes have different values, each value was proposed, no process
 //! ends with no value, and each notes at most one decision, under any detector settings, delays, losses and crashes.
 //! The proof uses no more of the base detector than the laws in `specs/BaseDetector.antt` of `process_api`. Its
-//! argument stands at the head of `proofs/Agreement.antt`. The crate above also promises `specs/Blame.antt`, which is
+//! argument stands at the head of `proofs/Agreement.antt`. The crate above also promises `specs/Out.antt`, which is
 //! proved here: each suspicion of layer 2 has an earlier entry that notes one of the same process on layer 1.
 //!
 //! [`RunningJudge`] and [`RunningOutcomes`] answer the same without a trace. They are fed with its entries as these
 //! come, and hold none of them. Both follow a run as a `Follower` does, and the two calls have them follow the trace
-//! (`specs/Judging.antt` defines what they were fed).
+//! (`specs/Pairs.antt` defines what they were fed).
 //!
 //! [`Pairs`] is the machinery of the judge, and of other crates that count what detectors do. It keeps a [`Gauge`] of
 //! each pair of processes on a layer, which its owner chooses. It moves the gauge where a note of the observer begins
 //! or ends the suspicion of the subject. Whatever the gauge, [`grid_verdicts`] sees a [`Track`] in it. The gauge that
-//! is kept is the opened one, moved by the turns of the pair in the trace (`specs/Turns.antt`, `specs/Pairs.antt`);
+//! is kept is the opened one, moved by the turns of the pair in the trace (`specs/Pairs.antt`);
 //! `proofs/Standing.antt` says what it then knows of the ticks.
 //!
 //! No contract speaks of work and memory. The code goes over the entries once. For each pair of processes it keeps the

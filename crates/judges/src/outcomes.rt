@@ -1,6 +1,6 @@
 //! The decisions of a run's processes.
 ghost use Rattle.std.specs.Prelude.{◌≡◌, ◌≤◌, ◌++◌, ◌∷◌, ℕ, List, [], IfOk};
-ghost use Rattle.process_api.specs.EntryRecord.{EntryRecord};
+ghost use Rattle.process_api.specs.Order.{EntryRecord};
 ghost use Rattle.scenario_record.specs.Ranges.{IsInRange};
 ghost use Rattle.judges.specs.Agreement.{Agree, DecidesOnce, IsCoordinated};
 ghost use Rattle.judges.specs.Outcomes.{outcome, outcomes};
@@ -90,7 +90,7 @@ pub struct RunningOutcomes {
 }
 
 impl RunningOutcomes {
-    ghost use Rattle.judges.specs.Judging.{IsDeciding};
+    ghost use Rattle.judges.specs.Pairs.{IsDeciding};
 
     /// Nothing is noted.
     ///
@@ -129,7 +129,7 @@ impl RunningOutcomes {
 }
 
 impl Follower for RunningOutcomes {
-    ghost use Rattle.judges.specs.Judging.{IsDeciding};
+    ghost use Rattle.judges.specs.Pairs.{IsDeciding};
 
     ghost followed = { λ first now told. (n : ℕ) → IsDeciding n [] first → IsDeciding n told now };
 

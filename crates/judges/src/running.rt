@@ -19,10 +19,10 @@ pub struct RunningJudge {
 }
 
 impl RunningJudge {
-    ghost use Rattle.process_api.specs.EntryRecord.{EntryRecord};
+    ghost use Rattle.process_api.specs.Order.{EntryRecord};
     ghost use Rattle.scenario_record.specs.Record.{Record};
     ghost use Rattle.judges.specs.Pairs.{WasFed};
-    ghost use Rattle.judges.specs.Judging.{IsJudging};
+    ghost use Rattle.judges.specs.Pairs.{IsJudging};
     ghost use Rattle.judges.specs.Verdicts.{verdicts};
 
     /// A judge that was fed with nothing: of layer 1, the base detector, or layer 2, the reduction's output.
@@ -55,7 +55,7 @@ impl RunningJudge {
 }
 
 impl Follower for RunningJudge {
-    ghost use Rattle.judges.specs.Judging.{HasFollowed, IsJudging};
+    ghost use Rattle.judges.specs.Pairs.{HasFollowed, IsJudging};
 
     ghost followed = { HasFollowed IsJudging };
 

@@ -1,7 +1,6 @@
 //! Verdicts on the detectors of a run.
 ghost use Rattle.std.specs.Prelude.{◌≡◌, ◌≤◌, IfOk};
-ghost use Rattle.judges.specs.Verdicts.{verdicts};
-ghost use Rattle.judges.specs.Meaning.{AreVerdicts};
+ghost use Rattle.judges.specs.Verdicts.{verdicts, AreVerdicts};
 
 use crate::running::RunningJudge;
 use process_api::{Trace, follow_all};

@@ -1,6 +1,6 @@
 -- Lists that change at one place, and lists of lists.
 use Rattle.ledger.proofs.Words.{◌≡◌, ℕ, zero, suc, ◌+◌, ◌<◌, List, [], ◌∷◌, ◌++◌, length, map, take, drop, set, get_or, refl, sym, ap, ◌∙◌, subst, add-one, arith, length-map, map-append, map_more, IsPermutation-refl, IsPermutation-trans, AllZip, IsPermutation}
-use Rattle.ledger.specs.Places.{each_with}
+use Rattle.ledger.specs.Ledger.{each_with}
 
 module _ {A : Type 0} where
   pub length_more : (xs : List A) (x : A) (n : ℕ) → n ≡ length xs → n + 1 ≡ length (xs ++ x ∷ [])

@@ -1,5 +1,5 @@
 -- The rule of a queue or a deque: what was put into it is what was taken and what it holds.
-use Rattle.std.specs.Prelude.{◌≡◌, ◌≢◌, ◌⊎◌, ℕ, ◌+◌, List, [], ◌++◌, Option, Some, None}
+use Rattle.std.specs.Prelude.{◌≡◌, ◌≢◌, ◌⊎◌, ℕ, ◌+◌, List, [], ◌++◌, Option, Some, None, ◌∷◌}
 use Rattle.std.specs.List.{All, Contains, flat_map, sum_by}
 use Rattle.std.specs.List.Sorted.{IsPermutation}
 use mathlib.Core.Option.{some}
@@ -98,3 +98,11 @@ module _ {T : Type 0} where
     pub alike : AreToldAlike passes
     pub told : IsToldRight passes
     pub same : IsPermutation (put_by_all passes) (taken_by_all passes ++ items)
+
+-- ---- lists that are changed place by place
+
+-- each element is changed by the row at its place, as far as there are rows
+abbrev pub each_with : {H R : Type 0} → (H → R → H) → List H → List R → List H
+each_with change [] rows = []
+each_with change (h ∷ hs) [] = h ∷ hs
+each_with change (h ∷ hs) (row ∷ rows) = change h row ∷ each_with change hs rows

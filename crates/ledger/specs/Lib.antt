@@ -1,2 +1,1 @@
 pub mod Ledger
-pub mod Places

@@ -1,7 +1,7 @@
 -- Machines that are made one by one.
 use Rattle.std.proofs.Common.{◌≡◌, ◌+◌, ◌++◌, ◌∷◌, [], ℕ, List, map, arith}
 use Rattle.std.proofs.lemmas.Grind.{common_steps}
-use Rattle.process_api.specs.Numbers.{numbers_to}
+use Rattle.process_api.specs.Place.{numbers_to}
 
 -- one more is what it should be, so all are
 pub one_more : {A B : Type 0} (f : A → B) (g : ℕ → B) (xs ys : List A) (x : A) (n : ℕ)

@@ -1,6 +1,6 @@
 //! The machine of a process.
 ghost use Rattle.std.specs.Prelude.{◌≡◌, IfOk, map};
-ghost use Rattle.process_api.specs.Numbers.{numbers_to};
+ghost use Rattle.process_api.specs.Place.{numbers_to};
 ghost use Rattle.scenario_record.specs.Opening.{mind_of};
 ghost use Rattle.scenario_record.specs.Record.{opening_mind};
 

@@ -13,10 +13,8 @@ pub use Rattle.crossbeam_queue.specs.SegBatches.{Holds}
 pub use Rattle.crossbeam_queue.specs.SegTies.{IsSegPassOf}
 pub use Rattle.ledger.proofs.Ledgers.{admits, learns, merges, opens, puts, settles, splits, takes}
 pub use Rattle.ledger.proofs.Lists.{Shuffled, Shuffled-next, Shuffled-refl, below_parts, length_more, map_take_more, mixed_at, mixed_more, parts_agree, turn_at, turn_more, with-length, with-map, with-nil}
-pub use Rattle.ledger.specs.Ledger.{account, has_put, has_taken}
-pub use Rattle.ledger.specs.Places.{each_with}
+pub use Rattle.ledger.specs.Ledger.{account, has_put, has_taken, each_with}
 pub use Rattle.ledger.specs.declared.account.Account.{Account}
 pub use Rattle.process_api.specs.declared.key.Key.{Key}
 pub use Rattle.process_api.specs.declared.message.Letter.{Letter}
-pub use Rattle.mailboxes.specs.Mailbox.{HomeView, MailboxId, TicketView, all_back, earlier_of, home_of, homes_of, one_back, one_out, soonest_in, ticket_of}
-pub use Rattle.mailboxes.specs.Mailboxes.{IsSlipOf, MailboxesView, SlipView, letters_in, slip_of, unused}
+pub use Rattle.mailboxes.specs.Mailboxes.{HomeView, MailboxId, TicketView, all_back, earlier_of, home_of, homes_of, one_back, one_out, soonest_in, ticket_of, IsSlipOf, MailboxesView, SlipView, letters_in, slip_of, unused}

@@ -1,3 +1,1 @@
-pub mod Collected
-pub mod Mailbox
 pub mod Mailboxes

@@ -1,7 +1,6 @@
 //! What a receiver gets when a window is closed: its mailbox, with its letters.
 ghost use Rattle.std.specs.Prelude.{◌≡◌, [], IfOk, OnOk};
-ghost use Rattle.mailboxes.specs.Collected.{HasCollected};
-ghost use Rattle.mailboxes.specs.Mailbox.{soonest_in};
+ghost use Rattle.mailboxes.specs.Mailboxes.{HasCollected, soonest_in};
 
 use crate::collects::Collects;
 use crate::mailbox::{Home, Mailbox};

@@ -5,8 +5,7 @@ ghost use Rattle.crossbeam_queue.specs.SegBatches.{Holds};
 ghost use Rattle.crossbeam_queue.specs.SegTies.{IsSegPassOf};
 ghost use Rattle.ledger.specs.Ledger.{account, has_taken};
 ghost use Rattle.process_api.specs.declared.message.Letter.{Letter};
-ghost use Rattle.mailboxes.specs.Collected.{HasCollected, WasGiven};
-ghost use Rattle.mailboxes.specs.Mailbox.{ticket_of, home_of, one_out, one_back, soonest_in};
+ghost use Rattle.mailboxes.specs.Mailboxes.{HasCollected, WasGiven, ticket_of, home_of, one_out, one_back, soonest_in};
 
 use crate::collects::Collects;
 use crate::rule::{EachOnce, Pop, Push};
@@ -33,7 +32,7 @@ pub(crate) struct Mailbox {
 }
 
 impl Model for Mailbox {
-    ghost use Rattle.mailboxes.specs.Mailbox.{MailboxId};
+    ghost use Rattle.mailboxes.specs.Mailboxes.{MailboxId};
 
     ghost Value = { MailboxId };
 
@@ -59,7 +58,7 @@ impl Model for Ticket {
     ghost use Rattle.std.specs.Prelude.{◌≡◌, None};
     ghost use Rattle.trace_laws.specs.contracts.parcel.Parcel as letter;
     ghost use Rattle.mailboxes.specs.contracts.mailbox.Mailbox as mailbox;
-    ghost use Rattle.mailboxes.specs.Mailbox.{TicketView, soonest_in, ticket_code, ticket_of};
+    ghost use Rattle.mailboxes.specs.Mailboxes.{TicketView, soonest_in, ticket_code, ticket_of};
     ghost use Rattle.ledger.specs.Ledger.{new_pass, has_put};
 
     ghost Value = { TicketView };
@@ -88,7 +87,7 @@ impl Model for Home {
     ghost use Rattle.std.specs.Prelude.{◌≡◌, None, [], ◌-◌, ◌≢◌, ◌≤◌};
     ghost use Rattle.trace_laws.specs.contracts.parcel.Parcel as letter;
     ghost use Rattle.mailboxes.specs.contracts.mailbox.Mailbox as mailbox;
-    ghost use Rattle.mailboxes.specs.Mailbox.{HomeView, home_code, home_of, soonest_in};
+    ghost use Rattle.mailboxes.specs.Mailboxes.{HomeView, home_code, home_of, soonest_in};
 
     ghost Value = { HomeView };
 

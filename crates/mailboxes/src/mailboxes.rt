@@ -3,8 +3,7 @@ ghost use Rattle.std.specs.Prelude.{◌≡◌, ◌≤◌, ◌<◌, ◌+◌, ℕ,
 ghost use Rattle.std.specs.List.{All, AllZip};
 ghost use Rattle.std.specs.List.Sorted.{IsPermutation};
 ghost use Rattle.process_api.specs.declared.run_error.RunError.TheVariants.{Memory};
-ghost use Rattle.mailboxes.specs.Mailbox.{all_back};
-ghost use Rattle.mailboxes.specs.Mailboxes.{IsSlipOf, unused, with_letter, posted_to, list_of, letters_in, letters_of, mailboxes_of};
+ghost use Rattle.mailboxes.specs.Mailboxes.{all_back, IsSlipOf, unused, with_letter, posted_to, list_of, letters_in, letters_of, mailboxes_of};
 
 use crate::inbox::Inbox;
 use crate::mailbox::{Home, Mailbox};
@@ -26,7 +25,7 @@ pub struct Mailboxes {
 
 impl Model for Mailboxes {
     ghost use Rattle.std.specs.Prelude.{◌≡◌};
-    ghost use Rattle.mailboxes.specs.Mailbox.{homes_of};
+    ghost use Rattle.mailboxes.specs.Mailboxes.{homes_of};
     ghost use Rattle.mailboxes.specs.Mailboxes.{MailboxesView, mailboxes_of};
 
     ghost Value = { MailboxesView };

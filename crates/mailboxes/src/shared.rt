@@ -1,6 +1,6 @@
 //! The part of the mailboxes that threads share: the queues.
 ghost use Rattle.std.specs.Prelude.{◌≡◌, ◌≤◌, ◌<◌, ◌+◌, ◌++◌, [], length, replicate, IfErr, OnOk, OnErr};
-ghost use Rattle.ledger.specs.Places.{each_with};
+ghost use Rattle.ledger.specs.Ledger.{each_with};
 ghost use Rattle.mailboxes.specs.Mailboxes.{IsSlipOf, with_letter, with_lists};
 
 use crate::mailbox::Mailbox;
@@ -19,7 +19,7 @@ pub struct SharedMailboxes {
 
 impl Model for SharedMailboxes {
     ghost use Rattle.std.specs.Prelude.{List};
-    ghost use Rattle.mailboxes.specs.Mailbox.{MailboxId};
+    ghost use Rattle.mailboxes.specs.Mailboxes.{MailboxId};
 
     ghost Value = { List MailboxId };
 

@@ -1,6 +1,6 @@
 //! The least tick of letters.
 ghost use Rattle.std.specs.Prelude.{◌≡◌};
-ghost use Rattle.mailboxes.specs.Mailbox.{earlier_of};
+ghost use Rattle.mailboxes.specs.Mailboxes.{earlier_of};
 
 /// The lesser of two ticks, as far as they are there.
 #[inline(always)]

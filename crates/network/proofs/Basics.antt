@@ -11,7 +11,7 @@ pub use Rattle.std.specs.List.{All, AllZip, Contains, enumerate_from, filter_map
 pub use Rattle.std.specs.Option.{option_map_or, option_or, option_to_list}
 pub use Rattle.scenario.proofs.Among.{none_there, one_there, tables_of}
 pub use Rattle.scenario.specs.Faults.{count}
-pub use Rattle.scenario.specs.Place.{numbered}
+pub use Rattle.scenario.specs.Keys.{numbered}
 pub use Rattle.scenario.specs.Table.{all_items, is_number, keys_of, same_text}
 unfoldable pub use Rattle.scenario.specs.Table.{tables_at}
 pub use Rattle.scenario.specs.declared.drawn.LinkOutage.{LinkOutage}
@@ -21,22 +21,17 @@ pub use Rattle.toml.specs.Data.{Data, Items, Members, array, as_array, as_table,
 pub use Rattle.toml.specs.View.{items_view, members_view, table_view, view}
 pub use Rattle.toml.specs.declared.value.Value.{Value}
 pub use Rattle.network.specs.Above.{AreAllWithin, AreWithin, HasKeyAbove, Named, member_above, named}
-pub use Rattle.network.specs.Drawn.{alone, most_outages, of_burst, of_each, outage_on, pause_of}
-unfoldable pub use Rattle.network.specs.Drawn.{drawn_of, of_pause, on_each}
+pub use Rattle.network.specs.Drawn.{alone, most_outages, of_burst, of_each, outage_on, pause_of, left_of, replayed_in, is_one, ticks_of}
+unfoldable pub use Rattle.network.specs.Drawn.{drawn_of, of_pause, on_each, replayed, digits, first_ticks_of, first_words_taken, geometric, odds, words_taken}
 pub use Rattle.network.specs.Fields.{Field, any_item, both_field, field_of, fields_in, fields_of, file_keys, first_of, first_outside, group_field, has_more, is_empty_array, is_numbers, is_pair, items_in, key_of, keys_in, lacks_member, needed, number_outside, outside, spell_field, takes}
 unfoldable pub use Rattle.network.specs.Fields.{burst_fields, cut_fields, fault_at, fault_of_value, has_fault, has_unlisted, is_listed, is_spell_table, pause_fields, replay_fields}
-pub use Rattle.network.specs.Groups.{holds, joins, links_from, links_of}
+pub use Rattle.network.specs.Laid.{holds, joins, links_from, links_of, laid_from, laid_on}
 unfoldable pub use Rattle.network.specs.Inside.Coming.{to_come}
-pub use Rattle.network.specs.Laid.{laid_from, laid_on}
 unfoldable pub use Rattle.network.specs.Laid.{laid_links}
 pub use Rattle.network.specs.Reading.{Said, SaysBurst, SaysCut, SaysNetwork, SaysPause, SaysReplay, SaysRhythm, each, lasts_in, mean, outage_of, outages_in, processes_in, said_at, said_in, said_of, ticks, values}
 unfoldable pub use Rattle.network.specs.Reading.{number_of}
 pub use Rattle.network.specs.Refusals.{AreTablesOf, HasFaultAt, HasOther, IsNetworkFile, IsTableOf, Refuses, lies_within}
 unfoldable pub use Rattle.network.specs.Refusals.{replay_fault}
-pub use Rattle.network.specs.Replays.{left_of, replayed_in}
-unfoldable pub use Rattle.network.specs.Replays.{replayed}
-pub use Rattle.network.specs.Spells.{is_one, ticks_of}
-unfoldable pub use Rattle.network.specs.Spells.{digits, first_ticks_of, first_words_taken, geometric, odds, words_taken}
 pub use Rattle.network.specs.Words.{Words, most_tables, stream_number, stream_of}
 unfoldable pub use Rattle.network.specs.Words.{after, words_of}
 pub use Rattle.network.specs.declared.field.TableKind.{TableKind}

@@ -3,7 +3,7 @@ use Rattle.network.proofs.Basics.{◌≡◌, ℕ, zero, suc, ◌+◌, ◌-◌, �
 use borrow.Author.Count.{below_more}
 use Rattle.std.proofs.lemmas.Bool.Decides.{nat_tests}
 use Rattle.std.proofs.lemmas.List.Sums.{take_while-cons}
-use Rattle.network.specs.Episodes.{Coming, coming, cut_at, episodes, first, next}
+use Rattle.network.specs.Drawn.{Coming, coming, cut_at, episodes, first, next}
 
 -- of a list by numbers, a front that passes stays
 passing : {X : Type 0} (p : X → Bool) (f : ℕ → X) (a m r : ℕ) → ((j : ℕ) → j < m → p (f (a + j)) ≡ true)

@@ -1,11 +1,10 @@
--- The outages of all sources of a network, in their order.
-use Rattle.std.specs.Prelude.{◌≡◌, ℕ, ◌<◌, Result, Err, List, [], ◌∷◌, ◌++◌, map, filter, length, true, false}
-use Rattle.std.specs.List.{range_with_len, flat_map, enumerate_from}
+-- The outages of all sources of a network, in their order. The outages of a record that is played again and again. The
+-- episodes of a source: gaps and lengths in turn, up to the horizon. How many ticks a draw of a gap or a length gives.
+use Rattle.std.specs.Prelude.{◌≡◌, ℕ, ◌<◌, Result, Err, List, [], ◌∷◌, ◌++◌, map, filter, length, true, false, ◌+◌, ◌-◌, ◌*◌, ◌/◌, ◌%◌, min, nat_lt, if◌then◌else◌, zero, suc, ◌^◌, Bool, slice_index}
+use Rattle.std.specs.List.{range_with_len, flat_map, enumerate_from, take_while}
 use Rattle.scenario_record.specs.declared.outage.Outage.{Outage}
-use Rattle.network.specs.Groups.{holds, links_between, links_of, only}
-use Rattle.network.specs.Words.{Words, place_of, stream_number, stream_of, words_of}
-use Rattle.network.specs.Episodes.{episodes}
-use Rattle.network.specs.Replays.{replayed}
+use Rattle.network.specs.Laid.{holds, links_between, links_of, only}
+use Rattle.network.specs.Words.{Words, place_of, stream_number, stream_of, words_of, after}
 use Rattle.network.specs.declared.outages.TheConstants.{MOST_OUTAGES}
 use Rattle.scenario.specs.declared.drawn.LinkOutage.{LinkOutage}
 use Rattle.network.specs.declared.error.DrawError.{DrawError}
@@ -20,6 +19,118 @@ use Rattle.network.specs.declared.network.Cut.{Cut}
 use Rattle.network.specs.declared.network.Pause.{Pause}
 use Rattle.network.specs.declared.network.Replay.{Replay}
 use Rattle.network.specs.declared.network.Network.{Network}
+use Rattle.network.specs.declared.rhythm.Rhythm.{Rhythm}
+use Rattle.network.specs.declared.spell.Spell.{Spell}
+use Rattle.network.specs.declared.spell.Spell.TheVariants.{Ticks, Values, Mean}
+
+-- ---- a geometric number of a mean: 1 plus its binary digits, which are independent. Digit i is 1 with the odds r_i to
+-- 2^32, where r_0 is (mean - 1) / mean and each next one the square of the one before, all in units of 2^-32
+
+unfoldable pub odds : (mean : ℕ) → ℕ → ℕ
+odds mean zero = 2 ^ 32 * (mean - 1) / mean
+odds mean (suc i) = odds mean i * odds mean i / 2 ^ 32
+
+-- the word says that the digit is 1: that is so of odds in 2^32 + odds of all words
+abbrev pub is_one : (odds word : ℕ) → Bool
+is_one its word = nat_lt (word * (2 ^ 32 + its)) (2 ^ 32 * its)
+
+-- what the first so many digits say, the least first
+unfoldable pub digits : (mean : ℕ) → Words → ℕ → ℕ
+digits mean words zero = 0
+digits mean words (suc i) = digits mean words i + (if is_one (odds mean i) (words i) then 2 ^ i else 0)
+
+-- it has 28 digits, and takes 28 words
+abbrev pub digits_drawn : ℕ
+digits_drawn = 28
+
+unfoldable pub geometric : (mean : ℕ) → Words → ℕ
+geometric mean words = 1 + digits mean words digits_drawn
+
+-- ---- a gap or a length
+
+-- how many ticks it is
+unfoldable pub ticks_of : Spell → Words → ℕ
+ticks_of (Ticks number) words = number
+ticks_of (Values values) words = slice_index values.items (words 0 % length values.items)
+ticks_of (Mean mean) words = geometric mean words
+
+-- how many words it takes
+unfoldable pub words_taken : Spell → ℕ
+words_taken (Ticks number) = 0
+words_taken (Values values) = 1
+words_taken (Mean mean) = digits_drawn
+
+-- ---- the first gap, cut so that sources don't begin together: a run begins at some tick of a gap. A geometric gap has
+-- no memory, so what is left of it is as long as a whole one
+
+unfoldable pub first_ticks_of : Spell → Words → ℕ
+first_ticks_of (Ticks number) words = words 0 % number
+first_ticks_of (Values values) words = words 1 % slice_index values.items (words 0 % length values.items)
+first_ticks_of (Mean mean) words = geometric mean words - 1
+
+unfoldable pub first_words_taken : Spell → ℕ
+first_words_taken (Ticks number) = 1
+first_words_taken (Values values) = 2
+first_words_taken (Mean mean) = digits_drawn
+
+-- an episode that comes: where it begins, and the words of its length and of all that comes after it
+pub record Coming : Type 0 where
+  pub begin : ℕ
+  pub words : Words
+
+module _ (its : Rhythm) where
+  -- the first tick after it
+  abbrev pub until : Coming → ℕ
+  until e = e.begin + ticks_of its.length e.words
+
+  -- the first episode comes after the cut first gap
+  abbrev pub first : Words → Coming
+  first words = record { begin = first_ticks_of its.gap words; words = after (first_words_taken its.gap) words }
+
+  -- the next one comes a gap after the end
+  abbrev pub next : Coming → Coming
+  next e =
+      let rest = after (words_taken its.length) e.words in
+      record { begin = until e + ticks_of its.gap rest; words = after (words_taken its.gap) rest }
+
+  -- the one with so many before it
+  unfoldable pub coming : Words → ℕ → Coming
+  coming words zero = first words
+  coming words (suc k) = next (coming words k)
+
+  -- what is of it below the horizon
+  abbrev pub cut_at : (horizon : ℕ) → Coming → Outage
+  cut_at horizon e = record { begin = e.begin; until = min (until e) horizon }
+
+  -- the episodes that begin below the horizon, each cut there. Each begins after the one before it, so there are no
+  -- more than the horizon has ticks
+  unfoldable pub episodes : Words → (horizon : ℕ) → List Outage
+  episodes words horizon =
+      map (cut_at horizon) (take_while (λ e. nat_lt e.begin horizon) (map (coming words) (range_with_len 0 horizon)))
+
+-- an outage of the record in a turn of it that began at `turn` ticks minus `place`: what is of it from tick 0 to the
+-- horizon
+abbrev pub in_turn : (turn place horizon : ℕ) → Outage → Outage
+in_turn turn place horizon o =
+    record { begin = o.begin + turn - place; until = min (o.until + turn - place) horizon }
+
+-- the same, where it isn't empty
+abbrev pub left_of : (turn place horizon : ℕ) → Outage → List Outage
+left_of turn place horizon o =
+    let its = in_turn turn place horizon o in
+    if nat_lt its.begin its.until then its ∷ [] else []
+
+-- those of such a turn
+abbrev pub replayed_in : List Outage → (turn place horizon : ℕ) → List Outage
+replayed_in its turn place horizon = flat_map (left_of turn place horizon) its
+
+-- at tick 0 the record stands at a place that a word says, and it begins anew whenever it has lasted. The last turn
+-- here is the last one that begins at the horizon or below
+unfoldable pub replayed : Replay → Words → (horizon : ℕ) → List Outage
+replayed r words horizon =
+    let place = words 0 % r.lasts in
+    flat_map (λ m. replayed_in r.outages.items (m * r.lasts) place horizon)
+    (range_with_len 0 ((horizon + place) / r.lasts + 1))
 
 -- the most outages that are drawn in a run
 abbrev pub most_outages : ℕ

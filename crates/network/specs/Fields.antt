@@ -6,7 +6,7 @@ use Rattle.std.specs.List.{list_any}
 use Rattle.std.specs.Option.{option_map_or, option_or}
 use Rattle.toml.specs.Data.{Data, Items, no_items, item, Members, get_member, as_integer, as_str, as_bool, as_array}
 use Rattle.toml.specs.Data.{as_table}
-use Rattle.process_api.specs.Bounds.{most_processes}
+use Rattle.process_api.specs.Place.{most_processes}
 use Rattle.scenario.specs.Table.{all_items, is_number, is_of, keys_of, same_text}
 use Rattle.scenario.specs.Rules.{is_within}
 use Rattle.scenario.specs.Faults.{count}

@@ -6,7 +6,7 @@ use Rattle.std.specs.List.Sorted.{IsSorted}
 use Rattle.std.specs.Option.{option_map_or, option_to_list}
 use Rattle.std.specs.FinSet as set
 use Rattle.toml.specs.Data.{Data, Items, Members, no_items, item, at, get_member, as_integer, as_bool}
-use Rattle.process_api.specs.Bounds.{most_processes}
+use Rattle.process_api.specs.Place.{most_processes}
 use Rattle.process_api.specs.Sets.{insert_all}
 use Rattle.scenario.specs.Table.{tables_at}
 use Rattle.scenario.specs.Text.{natural}

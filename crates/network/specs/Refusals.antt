@@ -4,12 +4,12 @@ use Rattle.std.specs.Prelude.{string_bytes, Option, Some, None, option_map, ifâ—
 use Rattle.std.specs.List.{All, Contains, find, range_with_len}
 use Rattle.std.specs.Option.{option_map_or}
 use Rattle.toml.specs.Data.{Members, get_member}
-use Rattle.process_api.specs.Bounds.{most_processes}
+use Rattle.process_api.specs.Place.{most_processes}
 use Rattle.scenario.specs.Table.{is_of, keys_of, tables_at}
-use Rattle.scenario.specs.Place.{numbered}
+use Rattle.scenario.specs.Keys.{numbered}
 use Rattle.scenario.specs.declared.field.Kind.TheVariants as kind
 use Rattle.scenario_record.specs.declared.outage.Outage.{Outage}
-use Rattle.network.specs.Groups.{holds}
+use Rattle.network.specs.Laid.{holds}
 use Rattle.network.specs.Words.{most_tables}
 use Rattle.network.specs.Ranges.{IsNetwork}
 use Rattle.network.specs.Fields.{Field, fault_at, fields_in, file_keys, has_fault, has_unlisted, key_of, keys_in}

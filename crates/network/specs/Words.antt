@@ -1,7 +1,7 @@
 -- The words that a source draws by: a stream of its own, which no other source has, nor any link.
 use Rattle.std.specs.Prelude.{ℕ, ◌≡◌, ◌<◌, ◌≤◌, ◌+◌, ◌-◌, ◌*◌, ◌%◌, ◌^◌}
 use Rattle.rand_chacha.specs.ChaCha.{word_at}
-use Rattle.process_api.specs.Bounds.{most_processes}
+use Rattle.process_api.specs.Place.{most_processes}
 use Rattle.streams.specs.Fate as fate
 use Rattle.network.specs.declared.kind.Kind.{Kind}
 use Rattle.network.specs.declared.kind.Kind.TheVariants.{Burst, Cut, Pause, Replay}

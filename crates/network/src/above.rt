@@ -2,7 +2,7 @@
 ghost use Rattle.std.specs.Prelude.{◌≡◌, ◌≤◌, ◌&&◌, nat_lt, List, Some, None, map, IfSome};
 ghost use Rattle.std.specs.FinSet as set;
 ghost use Rattle.std.specs.List.{All, find, range_with_len};
-ghost use Rattle.process_api.specs.Bounds.{most_processes};
+ghost use Rattle.process_api.specs.Place.{most_processes};
 ghost use Rattle.network.specs.Above as spec;
 ghost use Rattle.network.specs.Above.{AreAllWithin, AreWithin, HasAbove, HasKeyAbove, Named};
 ghost use Rattle.network.specs.Above.{earlier, groups_of, link_groups};

@@ -1,6 +1,6 @@
 //! Outages of several links at once, and the course of a run.
 ghost use Rattle.std.specs.Prelude.{◌≡◌, ◌≤◌, ◌++◌, map, OnOk};
-ghost use Rattle.process_api.specs.Bounds.{most_processes};
+ghost use Rattle.process_api.specs.Place.{most_processes};
 ghost use Rattle.network.specs.Drawn.{OnTooMany, outage_on};
 
 use crate::error::DrawError;

@@ -3,7 +3,7 @@ ghost use Rattle.std.specs.Prelude.{◌≡◌, Some, false, true, is_some, map, 
 ghost use Rattle.std.specs.List.{All, Contains};
 ghost use Rattle.toml.specs.Data.{Members};
 ghost use Rattle.toml.specs.View.{items_view, table_view};
-ghost use Rattle.scenario.specs.Place.{numbered};
+ghost use Rattle.scenario.specs.Keys.{numbered};
 ghost use Rattle.scenario.specs.Table as scenario_table;
 ghost use Rattle.scenario.specs.Table.{all_items, is_table, tables_at, the_tables};
 ghost use Rattle.network.specs.Fields.{fields_of, has_fault, has_unlisted, is_listed, key_of};

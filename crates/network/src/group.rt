@@ -1,8 +1,8 @@
 //! Groups of processes, and the links between them.
 ghost use Rattle.std.specs.Prelude.{◌≡◌, ◌≤◌, ◌++◌, ◌∷◌, [], filter, IfOk, OnOk, if◌then◌else◌};
 ghost use Rattle.std.specs.List.{range_with_len};
-ghost use Rattle.process_api.specs.Bounds.{most_processes};
-ghost use Rattle.network.specs.Groups.{holds, joins, links_between, links_from};
+ghost use Rattle.process_api.specs.Place.{most_processes};
+ghost use Rattle.network.specs.Laid.{holds, joins, links_between, links_from};
 
 use process_api::{Pid, ProcSet};
 use std::alloc::{AllocError, Global};
@@ -73,7 +73,7 @@ pub(crate) fn members_among(alloc: Global, group: &Group, n: u16) -> Result<Vec<
 }
 
 /// Whether the link from a process to another is one of those from a group to a group, or of both directions.
-#[tactic(auto, unfolding(crate::specs::Groups::joins))]
+#[tactic(auto, unfolding(crate::specs::Laid::joins))]
 pub(crate) fn joins(senders: &Group, receivers: &Group, both: bool, from: Pid, to: Pid) -> bool
     ensures { result ≡ joins senders.now receivers.now both from to }
 {

@@ -4,7 +4,7 @@
 //! of all links between two groups at once, a pause those of all links from one process, and a replay those of one link
 //! as they were recorded. Each source draws from a stream of words of its own, under the run's seed
 //! (`specs/Words.antt`), so no other table changes what it draws. Its gaps and lengths are [`Spell`]s
-//! (`specs/Spells.antt`), which follow one another in turn (`specs/Episodes.antt`).
+//! (`specs/Drawn.antt`), which follow one another in turn.
 //!
 //! [`read_network`] gives the network that the table of a TOML file stands for (`specs/Reading.antt`), or says what is
 //! wrong with the file (`specs/Refusals.antt`). The number of a run's processes isn't known then: [`process_above`]

@@ -1,7 +1,7 @@
 //! Outages beside values from outside. These were drawn by `bench/network.py`, which was written apart from this
 //! program, from `bench/one_of_each.toml`, which says the same as the network here.
 ghost use Rattle.std.specs.Prelude.{◌≡◌, ◌≤◌, ◌∷◌, [], IfOk};
-ghost use Rattle.process_api.specs.Bounds.{most_processes};
+ghost use Rattle.process_api.specs.Place.{most_processes};
 ghost use Rattle.network.specs.Ranges.{IsNetwork, IsReplay, IsRhythm, IsSpell, IsTicks};
 
 use crate::above::process_above;

@@ -1,9 +1,8 @@
 //! Records that are played again and again.
 ghost use Rattle.std.specs.Prelude.{◌≡◌, ◌<◌, ◌≤◌, ◌++◌, ◌+◌, ◌^◌, OnOk};
 ghost use Rattle.std.specs.Option.{option_to_list};
-ghost use Rattle.network.specs.Drawn.{OnTooMany, on_each};
+ghost use Rattle.network.specs.Drawn.{OnTooMany, on_each, left_of, replayed_in};
 ghost use Rattle.network.specs.Ranges.{IsReplay};
-ghost use Rattle.network.specs.Replays.{left_of, replayed_in};
 
 use crate::error::DrawError;
 use crate::group::Ends;
@@ -69,7 +68,7 @@ impl Replay {
 
 impl Source for Replay {
     ghost use Rattle.network.specs.Ranges.{IsReplay};
-    ghost use Rattle.network.specs.Replays.{replayed};
+    ghost use Rattle.network.specs.Drawn.{replayed};
 
     ghost is_in_range = { IsReplay };
 

@@ -18,7 +18,7 @@ pub struct Rhythm {
 }
 
 impl Source for Rhythm {
-    ghost use Rattle.network.specs.Episodes.{episodes};
+    ghost use Rattle.network.specs.Drawn.{episodes};
     ghost use Rattle.network.specs.Ranges.{IsRhythm};
 
     ghost is_in_range = { IsRhythm };

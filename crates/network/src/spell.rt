@@ -1,14 +1,13 @@
 //! How long a gap or an outage lasts.
 ghost use Rattle.std.specs.Prelude.{◌≡◌, ◌<◌, ◌≤◌, ◌*◌, ◌+◌, ◌%◌, ◌^◌, length, slice_index, if◌then◌else◌};
 ghost use Rattle.network.specs.Words.{after};
-ghost use Rattle.network.specs.Spells.{digits_drawn, first_ticks_of, first_words_taken, geometric};
-ghost use Rattle.network.specs.Spells.{is_one, ticks_of, words_taken};
+ghost use Rattle.network.specs.Drawn.{digits_drawn, first_ticks_of, first_words_taken, geometric, is_one, ticks_of, words_taken};
 ghost use Rattle.network.specs.Ranges.{AreValues, IsSpell, IsTicks};
 ghost use Rattle.network.specs.Inside.Coming.{to_come};
 
 use crate::words::SourceWords;
 
-/// How many ticks a gap or an outage lasts, as it is drawn. `ticks_of` (`specs/Spells.antt`) says what a draw gives.
+/// How many ticks a gap or an outage lasts, as it is drawn. `ticks_of` (`specs/Drawn.antt`) says what a draw gives.
 #[derive(Drop)]
 pub enum Spell {
     /// Always so many ticks, 1 to 10,000,000.
@@ -61,7 +60,7 @@ impl SourceWords {
     }
 
     /// The next gap or length, in ticks.
-    #[tactic(auto, unfolding(crate::specs::Spells::ticks_of, crate::specs::Spells::words_taken))]
+    #[tactic(auto, unfolding(crate::specs::Drawn::ticks_of, crate::specs::Drawn::words_taken))]
     pub(crate) fn ticks(&mut self, spell: &Spell) -> u32
         requires { IsSpell spell.now }
         ensures value { result ≡ ticks_of spell.now (to_come self.old) }
@@ -77,7 +76,7 @@ impl SourceWords {
     }
 
     /// What is left at tick 0 of the first gap, in ticks.
-    #[tactic(auto, unfolding(crate::specs::Spells::first_ticks_of, crate::specs::Spells::first_words_taken))]
+    #[tactic(auto, unfolding(crate::specs::Drawn::first_ticks_of, crate::specs::Drawn::first_words_taken))]
     pub(crate) fn first_ticks(&mut self, spell: &Spell) -> u32
         requires { IsSpell spell.now }
         ensures value { result ≡ first_ticks_of spell.now (to_come self.old) }

@@ -1,9 +1,9 @@
 //! Faults of several values of a table, each of which is right by itself.
 ghost use Rattle.std.specs.Prelude.{◌≡◌, ◌≤◌, ◌&&◌, not};
 ghost use Rattle.std.specs.List.{find, range_with_len};
-ghost use Rattle.process_api.specs.Bounds.{most_processes};
+ghost use Rattle.process_api.specs.Place.{most_processes};
 ghost use Rattle.toml.specs.View.{items_view, table_view};
-ghost use Rattle.network.specs.Groups.{holds};
+ghost use Rattle.network.specs.Laid.{holds};
 ghost use Rattle.network.specs.Reading as reading;
 ghost use Rattle.network.specs.Reading.{each};
 ghost use Rattle.network.specs.Refusals as refusals;

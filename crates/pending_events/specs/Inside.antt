@@ -1,4 +1,3 @@
 -- words that private functions and proofs of this crate use alone: no public contract rests on them
-pub mod Buckets
 pub mod Calendar
 pub mod Order

@@ -2,8 +2,7 @@
 ghost use Rattle.std.specs.Prelude.{◌≡◌, ◌++◌, ◌<◌, ◌≤◌, ◌%◌, ℕ, [], IfNone, IfOk, IfSome, MatchOption, false, length, true, vec_len};
 ghost use Rattle.std.specs.BTreeMap.{IsLowerBound};
 ghost use Rattle.std.specs.Ordering.{nat_cmp};
-ghost use Rattle.pending_events.specs.Inside.Buckets.{HasTick, IsCleared, IsFull, IsPut, bucket, came};
-ghost use Rattle.pending_events.specs.Inside.Calendar.{IsCalendar, IsFirst, IsTaken, IsVacant, NoneAhead, due, lane, year};
+ghost use Rattle.pending_events.specs.Inside.Calendar.{HasTick, IsCleared, IsFull, IsPut, bucket, came, IsCalendar, IsFirst, IsTaken, IsVacant, NoneAhead, due, lane, year};
 
 use std::alloc::{AllocError, Global};
 use std::collections::BTreeMap;

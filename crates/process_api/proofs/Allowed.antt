@@ -3,7 +3,7 @@ use Rattle.process_api.proofs.Basics.{ℕ, ◌+◌, ◌%◌, ◌<◌, ◌≤◌,
 use Rattle.std.specs.FinSet as set
 use Rattle.process_api.specs.ConsensusS as exchange
 use Rattle.process_api.specs.Coordinator as rotating
-use Rattle.process_api.specs.Diffusion.{also_seen}
+use Rattle.process_api.specs.Coordinator.{also_seen}
 use Rattle.process_api.specs.declared.action.Action.TheVariants as action
 use Rattle.process_api.specs.declared.action.Note.TheVariants as note
 use Rattle.process_api.specs.declared.consensus.Phase.{Phase}

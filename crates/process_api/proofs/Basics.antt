@@ -17,31 +17,24 @@ pub use Rattle.std.specs.List.{All, AllByRecursion, filter}
 pub use Rattle.std.specs.Option.{option_eq}
 pub use Rattle.std.specs.Ordering.{ordering_reverse, ordering_then}
 pub use Rattle.std.specs.Prelude.{IsTrue, count_ones}
-pub use Rattle.process_api.specs.Actions.{IsAllowed, notes_of_layer, of_layer}
-pub use Rattle.process_api.specs.Answer.{Answer, after, still, to_all, to_others}
+pub use Rattle.process_api.specs.Answer.{IsAllowed, notes_of_layer, of_layer, Answer, after, still, to_all, to_others}
 pub use Rattle.process_api.specs.BaseDetector.{IsDetectorStep, IsOfDetector, TrustsAll}
-pub use Rattle.process_api.specs.Bounds.{most_first_actions, most_processes}
+pub use Rattle.process_api.specs.Place.{most_first_actions, most_processes, is_process, numbers_to, others, Place, same_place, is_other}
 pub use Rattle.process_api.specs.ConsensusS.{Exchange, all_to}
-pub use Rattle.process_api.specs.Coordinator.{Coordinator, keep}
+pub use Rattle.process_api.specs.Coordinator.{Coordinator, keep, coordinator, count_to, greatest_round, is_own, majority}
 pub use Rattle.process_api.specs.Detector.{ByFreshness, ByTimeout, DetectorState, has_pauses, suspected_by}
 unfoldable pub use Rattle.process_api.specs.Detector.{step_detector}
-pub use Rattle.process_api.specs.EntryRecord.{EntryRecord}
-unfoldable pub use Rattle.process_api.specs.InOrder.{in_order}
+pub use Rattle.process_api.specs.Order.{EntryRecord, is_before, is_less, key_cmp}
+unfoldable pub use Rattle.process_api.specs.Sets.{in_order, of_word}
 pub use Rattle.process_api.specs.Inside.Bits.{is_set}
 unfoldable pub use Rattle.process_api.specs.Inside.Bits.{members}
 pub use Rattle.process_api.specs.Inside.Noting.{note_of}
 pub use Rattle.process_api.specs.Letters.{by_number, by_row, in_row, of_sender, since, since_round}
 pub use Rattle.process_api.specs.Mind.{AlgorithmState, Coordinating, Exchanging, Idle, Lower, Mind, is_mind_at, is_paced, most_actions, stands_at, suspects_of, trusts_itself}
-pub use Rattle.process_api.specs.Numbers.{is_process, numbers_to, others}
-pub use Rattle.process_api.specs.Order.{is_before, is_less, key_cmp}
-pub use Rattle.process_api.specs.Place.{Place, same_place}
 unfoldable pub use Rattle.process_api.specs.React.{react, react_algorithm, react_lower}
 pub use Rattle.process_api.specs.Reduction.{ReductionState, gathered, step_reduction}
-pub use Rattle.process_api.specs.Rounds.{coordinator, count_to, greatest_round, is_own, majority}
 pub use Rattle.process_api.specs.Rows.{AreSenders, cell_of, keep_one}
 pub use Rattle.process_api.specs.Sets.{HasAbove, Processes, changes, gone, insert_all, up_to}
-unfoldable pub use Rattle.process_api.specs.Sets.{of_word}
-pub use Rattle.process_api.specs.Watching.{is_other}
 pub use Rattle.process_api.specs.declared.action.Action.{Action}
 pub use Rattle.process_api.specs.declared.action.Action.TheVariants.{Send}
 pub use Rattle.process_api.specs.declared.key.Key.{Key}

@@ -1,6 +1,6 @@
 -- A follower that may be there.
 use Rattle.process_api.proofs.Basics.{◌≡◌, Bool, true, false, refl, Option, None, Some, List, EntryRecord}
-use Rattle.process_api.specs.Following.{HasFollowedWhere, IsWhere}
+use Rattle.process_api.specs.Answer.{HasFollowedWhere, IsWhere}
 
 module _ {F : Type 0} (followed : F → F → List EntryRecord → Type 0) (told : List EntryRecord) where
   pub same_where : ((f : F) → followed f f told) → (o : Option F) → HasFollowedWhere followed o o told

@@ -3,14 +3,16 @@
 use Rattle.std.specs.Prelude.{◌≡◌, ◌⊎◌, ℕ, ◌+◌, ◌≤◌, Bool, true, false, IsTrue, List, length}
 use Rattle.std.specs.List.{AllByRecursion}
 use Rattle.std.specs.FinSet as set
-use Rattle.process_api.specs.Actions.{IsAllowed, notes_of_layer}
-use Rattle.process_api.specs.Place.{Place}
+use Rattle.process_api.specs.Answer.{IsAllowed, notes_of_layer}
+use Rattle.process_api.specs.Place.{Place, is_other}
 use Rattle.process_api.specs.Sets.{Processes, changes}
-use Rattle.process_api.specs.Watching.{is_other}
+use Rattle.process_api.specs.Detector.{DetectorState, opening_detector, suspected_by, has_pauses, step_detector}
 use Rattle.process_api.specs.declared.action.Action.{Action}
 use Rattle.process_api.specs.declared.action.Action.TheVariants.{Send, Wake, Note}
 use Rattle.process_api.specs.declared.action.Note.TheVariants.{Suspect, Trust, Round, Decided, NoValue}
 use Rattle.process_api.specs.declared.message.Payload.TheVariants.{Alive, Heartbeat, Suspects, Vector, Last, Estimate, Proposal, Reply, Decide}
+use Rattle.process_api.specs.declared.message.StepInput.{StepInput}
+use Rattle.process_api.specs.declared.numbers.DetectorNumbers.{DetectorNumbers}
 
 -- a base detector sends no letter of another part, and notes suspicion and trust on layer 1 alone
 abbrev pub IsOfDetector : Action → Type 0
@@ -50,3 +52,16 @@ pub record IsDetectorStep (place : Place) (before after : Processes) (was_paced 
   pub paced : is_paced ≡ was_paced
   -- it does little: no more than a letter to each, or a note of each, and two wakes
   pub few : length actions ≤ place.processes + 2
+
+-- ---- what every base detector keeps to, whichever its kind and its numbers
+
+-- it opens with no suspects
+abbrev pub OpensTrusting : Type 0
+OpensTrusting = (place : Place) (numbers : DetectorNumbers) → TrustsAll (suspected_by place (opening_detector numbers))
+
+-- each of its steps has the laws of a base detector
+abbrev pub StepsByLaws : Type 0
+StepsByLaws = (place : Place) (s : DetectorState) (now : ℕ) (input : StepInput)
+    → let next = step_detector place s now input in
+    IsDetectorStep place (suspected_by place s) (suspected_by place next.state)
+    (has_pauses s) (has_pauses next.state) next.actions

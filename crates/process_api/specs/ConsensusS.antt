@@ -1,8 +1,8 @@
 -- Consensus with a detector of class S, by an exchange of vectors (Chandra and Toueg, Journal of the ACM 43(2), 1996):
 -- what one input makes of it, and what it does.
 use Rattle.std.specs.Prelude.{ℕ, zero, suc, ◌+◌, ◌-◌, Bool, true, false, not, ◌&&◌, ◌||◌, nat_eq, nat_le, nat_lt, if◌then◌else◌, [], ◌∷◌, map, length, Option, None, Some, is_some, unwrap_or}
-use Rattle.process_api.specs.Numbers.{numbers_to}
-use Rattle.process_api.specs.Cells.{Vector, cell}
+use Rattle.process_api.specs.Place.{numbers_to}
+use Rattle.process_api.specs.Rows.{Vector, cell}
 use Rattle.process_api.specs.Answer.{Answer, still, after, to_all}
 use Rattle.process_api.specs.declared.action.Action.TheVariants as action
 use Rattle.process_api.specs.declared.action.Note.TheVariants as note

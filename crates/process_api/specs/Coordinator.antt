@@ -1,10 +1,10 @@
 -- Consensus with a detector of class eventually-S, by rotating coordinators (Chandra and Toueg, Journal of the ACM
--- 43(2), 1996): what one input makes of it, and what it does.
-use Rattle.std.specs.Prelude.{ℕ, zero, suc, ◌+◌, ◌-◌, ◌*◌, Bool, true, false, not, ◌&&◌, nat_eq, nat_le, nat_lt, if◌then◌else◌, [], ◌∷◌, ◌++◌, Option, None, Some, is_some, unwrap_or}
+-- 43(2), 1996): what one input makes of it, and what it does. Decisions spread by diffusion, which is reliable
+-- broadcast (Chandra and Toueg, Journal of the ACM 43(2), 1996): who receives one for the first time passes it on.
+-- Rounds, each with its coordinator, and majorities.
+use Rattle.std.specs.Prelude.{ℕ, zero, suc, ◌+◌, ◌-◌, ◌*◌, Bool, true, false, not, ◌&&◌, nat_eq, nat_le, nat_lt, if◌then◌else◌, [], ◌∷◌, ◌++◌, Option, None, Some, is_some, unwrap_or, List, ◌/◌, ◌%◌}
 use Rattle.process_api.specs.Answer.{Answer, still, after, to_all}
-use Rattle.process_api.specs.Rounds.{greatest_round, coordinator, is_own, majority, count_to}
 use Rattle.process_api.specs.Rows.{keep_one}
-use Rattle.process_api.specs.Diffusion.{Seen, none_seen, also_seen, broadcast, relay}
 use Rattle.process_api.specs.declared.action.Action.TheVariants as action
 use Rattle.process_api.specs.declared.action.Note.TheVariants as note
 use Rattle.process_api.specs.declared.consensus.Estimate.{Estimate}
@@ -14,6 +14,46 @@ use Rattle.process_api.specs.declared.message.Payload.{Payload}
 use Rattle.process_api.specs.declared.message.Payload.TheVariants as payload
 use Rattle.process_api.specs.declared.message.StepInput.{StepInput}
 use Rattle.process_api.specs.declared.message.StepInput.TheVariants as input
+use Rattle.process_api.specs.declared.action.Action.{Action}
+
+abbrev pub greatest_round : ℕ
+greatest_round = 1_000_000_000_000
+
+-- the coordinator of a round, of n processes
+abbrev pub coordinator : ℕ → ℕ → ℕ
+coordinator n round = round % n + 1
+
+-- process own is the coordinator of a round
+abbrev pub is_own : ℕ → ℕ → ℕ → Bool
+is_own n own round = nat_eq (coordinator n round) own
+
+-- more than half of n processes: (n + 1) / 2, rounded up
+abbrev pub majority : ℕ → ℕ
+majority n = (n + 2) / 2
+
+-- how many of 1 to n are meant
+abbrev pub count_to : ℕ → (ℕ → Bool) → ℕ
+count_to zero which = 0
+count_to (suc n) which = count_to n which + (if which (suc n) then 1 else 0)
+
+-- the rounds whose decision was received: a decision is known by its round
+abbrev pub Seen : Type 0
+Seen = ℕ → Bool
+
+abbrev pub none_seen : Seen
+none_seen = λ r. false
+
+-- a round joins
+abbrev pub also_seen : Seen → ℕ → Seen
+also_seen seen round = λ r. if nat_eq r round then true else seen r
+
+-- to broadcast the decision of a round: a letter to all
+abbrev pub broadcast : ℕ → ℕ → ℕ → List Action
+broadcast n round value = to_all n (payload.Decide round value)
+
+-- process own of n passes a decision on, unless the decision is its own: a round's decision comes from its coordinator
+abbrev pub relay : (n own : ℕ) → ℕ → ℕ → List Action
+relay n own round value = if is_own n own round then [] else broadcast n round value
 
 -- of the estimates of 1 to n the one with the largest stamp, of these the least sender's: a later sender's is taken
 -- only where its stamp is larger

@@ -4,11 +4,9 @@
 -- asks for the tick, since both come by wakes.
 use Rattle.std.specs.Prelude.{ℕ, ◌+◌, min, Bool, false, not, ◌&&◌, ◌||◌, nat_le, if◌then◌else◌, List, [], ◌∷◌, ◌++◌, map, filter}
 use Rattle.std.specs.FinSet as set
-use Rattle.process_api.specs.Numbers.{numbers_to, change}
+use Rattle.process_api.specs.Place.{numbers_to, change, Place, is_watched}
 use Rattle.process_api.specs.Sets.{Processes, insert_all, changes}
-use Rattle.process_api.specs.Place.{Place}
 use Rattle.process_api.specs.Answer.{Answer, still, to_others}
-use Rattle.process_api.specs.Watching.{is_watched}
 use Rattle.process_api.specs.declared.action.Action.{Action}
 use Rattle.process_api.specs.declared.action.Action.TheVariants as action
 use Rattle.process_api.specs.declared.message.Payload.TheVariants as payload

@@ -1,9 +1,8 @@
 -- What a process is, as plain data: its parts, and where each stands.
 use Rattle.std.specs.Prelude.{ℕ, Bool, true, not, ◌&&◌, nat_le, Option, None, Some}
 use Rattle.std.specs.FinSet as set
-use Rattle.process_api.specs.Bounds.{most_first_actions, most_second_actions}
+use Rattle.process_api.specs.Place.{most_first_actions, most_second_actions, Place, same_place}
 use Rattle.process_api.specs.Sets.{Processes}
-use Rattle.process_api.specs.Place.{Place, same_place}
 use Rattle.process_api.specs.Detector.{DetectorState, suspected_by, has_pauses}
 use Rattle.process_api.specs.Reduction.{ReductionState}
 use Rattle.process_api.specs.ConsensusS.{Exchange}

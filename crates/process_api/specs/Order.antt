@@ -1,11 +1,20 @@
--- The order of keys, and of the entries of a trace.
-use Rattle.std.specs.Prelude.{Bool, true, false, ◌&&◌, List, [], ◌∷◌}
+-- The order of keys, and of the entries of a trace. What a step leaves in the trace.
+use Rattle.std.specs.Prelude.{Bool, true, false, ◌&&◌, List, [], ◌∷◌, ℕ}
 use Rattle.std.specs.List.{list_all}
 use Rattle.std.specs.Ordering.{ordering_then, nat_cmp}
 use Rattle.std.specs.declared.cmp.Ordering.{Ordering}
 use Rattle.std.specs.declared.cmp.Ordering.TheVariants.{Less, Equal, Greater}
-use Rattle.process_api.specs.EntryRecord.{EntryRecord}
 use Rattle.process_api.specs.declared.key.Key.{Key}
+use Rattle.process_api.specs.declared.action.Note.{Note}
+use Rattle.process_api.specs.declared.entry.Kind.{Kind}
+
+-- an entry, without where it lies in memory
+pub record EntryRecord : Type 0 where
+  pub key : Key
+  pub kind : Kind
+  pub sent : ℕ
+  pub lost : ℕ
+  pub notes : List Note
 
 -- by tick, then receiver, then sender, then number
 abbrev pub key_cmp : Key → Key → Ordering

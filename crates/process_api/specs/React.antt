@@ -2,8 +2,7 @@
 use Rattle.std.specs.Prelude.{◌≡◌, ℕ, List, ◌++◌, None, Some}
 use Rattle.std.specs.FinSet as set
 use Rattle.process_api.specs.Sets.{Processes, changes}
-use Rattle.process_api.specs.Actions.{notes_of_layer}
-use Rattle.process_api.specs.Answer.{Answer, still}
+use Rattle.process_api.specs.Answer.{notes_of_layer, Answer, still}
 use Rattle.process_api.specs.Detector.{suspected_by, step_detector}
 use Rattle.process_api.specs.Reduction.{step_reduction}
 use Rattle.process_api.specs.ConsensusS.{step_exchange}

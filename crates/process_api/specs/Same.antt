@@ -6,7 +6,7 @@ use Rattle.std.specs.Cmp.Lexicographic.{pointwise, lists_equiv}
 use Rattle.std.specs.Ordering.{on, eq_of_both}
 use Rattle.std.specs.FinMap.{nat_cmp-IsAntisymmetric}
 use Rattle.std.proofs.lemmas.Bool.Decides.{nat_tests}
-use Rattle.process_api.specs.EntryRecord.{EntryRecord}
+use Rattle.process_api.specs.Order.{EntryRecord}
 use Rattle.process_api.specs.Sets.{Processes}
 use Rattle.process_api.specs.contracts.action.NotePartialEq.TheImpl as note
 use Rattle.process_api.specs.contracts.action.NoteEq.TheImpl.Laws as note_laws

@@ -3,7 +3,7 @@ use Rattle.std.specs.Prelude.{◌≡◌, ℕ, ◌-◌, ◌<◌, true, not, ◌&&
 use Rattle.std.specs.Int.{bit_at}
 use Rattle.std.specs.Ordering.{nat_cmp}
 use Rattle.std.specs.FinSet as set
-use Rattle.process_api.specs.Numbers.{numbers_to}
+use Rattle.process_api.specs.Place.{numbers_to, most_processes}
 use Rattle.process_api.specs.declared.action.Note.{Note}
 use Rattle.process_api.specs.declared.action.Note.TheVariants as note
 
@@ -35,3 +35,9 @@ gone n from to = filter (λ q. set.contains from q && not (set.contains to q)) (
 -- the notes of a layer whose suspects change: a suspicion of each new one and then trust in each that left, in order
 abbrev pub changes : (layer n : ℕ) → Processes → Processes → List Note
 changes layer n old new = map (note.Suspect layer) (gone n new old) ++ map (note.Trust layer) (gone n old new)
+
+-- ---- the members of a set of processes in rising order
+
+-- those of all processes that are in the set
+unfoldable pub in_order : Processes → List ℕ
+in_order s = filter (set.contains s) (numbers_to most_processes)

@@ -2,11 +2,9 @@
 -- one input makes of it, and what it does.
 use Rattle.std.specs.Prelude.{ℕ, ◌+◌, ◌-◌, min, max, Bool, not, ◌&&◌, nat_le, if◌then◌else◌, List, [], ◌∷◌, ◌++◌, map, filter}
 use Rattle.std.specs.FinSet as set
-use Rattle.process_api.specs.Numbers.{numbers_to, change}
+use Rattle.process_api.specs.Place.{numbers_to, change, Place, is_watched}
 use Rattle.process_api.specs.Sets.{Processes, insert_all}
-use Rattle.process_api.specs.Place.{Place}
 use Rattle.process_api.specs.Answer.{Answer, still, to_others}
-use Rattle.process_api.specs.Watching.{is_watched}
 use Rattle.process_api.specs.declared.action.Action.{Action}
 use Rattle.process_api.specs.declared.action.Action.TheVariants as action
 use Rattle.process_api.specs.declared.action.Note.TheVariants as note

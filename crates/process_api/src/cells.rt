@@ -5,7 +5,7 @@ ghost use Rattle.std.specs.Option.{option_eq};
 ghost use Rattle.std.specs.Cmp.Lexicographic.{pointwise};
 ghost use Rattle.std.specs.Cmp.Rules.{comparing};
 ghost use Rattle.std.proofs.Common.{rules};
-ghost use Rattle.process_api.specs.Cells.{EndsFilled, IsSomeKnown, cell};
+ghost use Rattle.process_api.specs.Rows.{EndsFilled, IsSomeKnown, cell};
 
 use crate::pid::Pid;
 use std::alloc::{AllocError, Global};
@@ -22,7 +22,7 @@ pub struct Cells {
 
 impl Model for Cells {
     ghost use Rattle.std.specs.Prelude.{ℕ, ◌-◌, ◌≤◌, ◌++◌, List, Option, None, length, replicate};
-    ghost use Rattle.process_api.specs.Cells.{EndsFilled};
+    ghost use Rattle.process_api.specs.Rows.{EndsFilled};
 
     ghost Value = { List (Option ℕ) };
 

@@ -54,7 +54,7 @@ pub struct Entry {
 }
 
 impl Model for Entry {
-    ghost use Rattle.process_api.specs.EntryRecord.{EntryRecord};
+    ghost use Rattle.process_api.specs.Order.{EntryRecord};
 
     ghost Value = { EntryRecord };
 

@@ -1,6 +1,6 @@
 //! Followers of a run, which are told its entries.
 ghost use Rattle.std.specs.Prelude.{◌≡◌, ◌++◌, ◌∷◌, [], List, OnOk};
-ghost use Rattle.process_api.specs.EntryRecord.{EntryRecord};
+ghost use Rattle.process_api.specs.Order.{EntryRecord};
 
 use crate::entry::Entry;
 use std::alloc::AllocError;
@@ -49,7 +49,7 @@ impl Follower for Vec<Entry> {
 }
 
 impl<F: Follower> Follower for Option<F> {
-    ghost use Rattle.process_api.specs.Following.{HasFollowedWhere};
+    ghost use Rattle.process_api.specs.Answer.{HasFollowedWhere};
 
     ghost followed = { HasFollowedWhere F.followed };
 

@@ -1,5 +1,5 @@
 //! Laws that follow from the definitions of base detectors.
-ghost use Rattle.process_api.specs.Laws.{OpensTrusting, StepsByLaws};
+ghost use Rattle.process_api.specs.BaseDetector.{OpensTrusting, StepsByLaws};
 
 /// Base detectors of every kind, whatever their numbers, their state and the input. Each opens with no suspects, and in
 /// each step it acts for itself alone, notes exactly the changes of its suspects, suspects other processes alone, and

@@ -1,9 +1,8 @@
 //! Tables of letters. A letter is a message from one process to another.
 ghost use Rattle.std.specs.Prelude.{◌≡◌, OnOk, is_some};
 ghost use Rattle.std.specs.Option.{option_copied};
-ghost use Rattle.process_api.specs.Coordinator.{keep as keep_of};
+ghost use Rattle.process_api.specs.Coordinator.{keep as keep_of, count_to};
 ghost use Rattle.process_api.specs.Letters.{by_number, since_round};
-ghost use Rattle.process_api.specs.Rounds.{count_to};
 
 use crate::membership::Membership;
 use crate::pid::Pid;

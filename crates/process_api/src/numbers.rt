@@ -1,6 +1,6 @@
 //! The numbers of a detector.
 ghost use Rattle.std.specs.Prelude.{◌≡◌, ◌≢◌, ◌≤◌, true};
-ghost use Rattle.process_api.specs.Watching.{is_watched};
+ghost use Rattle.process_api.specs.Place.{is_watched};
 
 use crate::pid::Pid;
 

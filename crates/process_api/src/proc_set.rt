@@ -4,8 +4,7 @@ ghost use Rattle.std.specs.Iterator.{YieldsFirst, item_count};
 ghost use Rattle.std.specs.FinSet as set;
 ghost use Rattle.std.specs.Cmp.{partial_equiv_from_equiv};
 ghost use Rattle.process_api.specs.ConsensusS.{all_to};
-ghost use Rattle.process_api.specs.InOrder.{in_order};
-ghost use Rattle.process_api.specs.Sets.{HasAbove, of_word, up_to};
+ghost use Rattle.process_api.specs.Sets.{in_order, HasAbove, of_word, up_to};
 
 use crate::pid::Pid;
 use crate::words::{WORDS, clear, count, either, first_with_bits, low, put, without};
@@ -23,7 +22,7 @@ impl Model for ProcSet {
     ghost use Rattle.std.specs.FinSet as set;
     ghost use Rattle.process_api.specs.Sets.{Processes};
     ghost use Rattle.process_api.specs.Inside.Bits.{is_set, members};
-    ghost use Rattle.process_api.specs.Bounds.{most_processes};
+    ghost use Rattle.process_api.specs.Place.{most_processes};
 
     ghost Value = { Processes };
 
@@ -188,8 +187,8 @@ pub struct Members {
 impl Model for Members {
     ghost use Rattle.std.specs.Prelude.{ℕ, List};
     ghost use Rattle.process_api.specs.Inside.Bits.{is_set, members};
-    ghost use Rattle.process_api.specs.Bounds.{most_processes};
-    ghost use Rattle.process_api.specs.InOrder.{in_order};
+    ghost use Rattle.process_api.specs.Place.{most_processes};
+    ghost use Rattle.process_api.specs.Sets.{in_order};
 
     ghost Value = { List ℕ };
 

@@ -1,7 +1,7 @@
 //! The trait of machines.
 ghost use Rattle.std.specs.Prelude.{◌≡◌, ◌≤◌, ◌++◌, Bool, true, IsTrue, OnOk, OnErr, IsErr, length, All};
-ghost use Rattle.process_api.specs.Actions.{IsAllowed};
-ghost use Rattle.process_api.specs.Bounds.{most_step_actions};
+ghost use Rattle.process_api.specs.Answer.{IsAllowed};
+ghost use Rattle.process_api.specs.Place.{most_step_actions};
 ghost use Rattle.process_api.specs.Mind.{Mind};
 ghost use Rattle.process_api.specs.React.{react};
 

@@ -2,7 +2,7 @@
 ghost use Rattle.std.specs.Prelude.{◌≡◌, ◌≤◌, ◌||◌, ℕ, None, OnOk, is_some, length};
 ghost use Rattle.std.specs.FinSet as set;
 ghost use Rattle.std.specs.Option.{option_copied};
-ghost use Rattle.process_api.specs.Rounds.{count_to};
+ghost use Rattle.process_api.specs.Coordinator.{count_to};
 ghost use Rattle.process_api.specs.Rows.{keep_one, cell_of, AreSenders};
 
 use crate::pid::Pid;

@@ -14,7 +14,7 @@ pub struct Trace {
 
 impl Model for Trace {
     ghost use Rattle.std.specs.Prelude.{List, IsTrue};
-    ghost use Rattle.process_api.specs.EntryRecord.{EntryRecord};
+    ghost use Rattle.process_api.specs.Order.{EntryRecord};
     ghost use Rattle.process_api.specs.Order.{is_rising};
 
     ghost Value = { List EntryRecord };

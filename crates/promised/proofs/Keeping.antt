@@ -1,14 +1,13 @@
 -- The numbers of a scenario say of its traces what they are to.
 use Rattle.promised.proofs.Words.{◌≡◌, ◌∙◌, sym, ap, refl, ℕ, ◌+◌, ◌-◌, ◌<◌, ◌≤◌, suc, nat_le, nat_lt, Bool, true, false, true≢false, not, ◌&&◌, Option, Some, None, List, [], map, filter_map, arith, unwrap_or, option_map, if◌then◌else◌, le-leb, leb-true, ltb-true, range_with_len, both_true, and_true, is_watched, is_other, is_chosen, DetectorNumbers, Timeout, Freshness, Record, crash, link, outages_on, Link, IsIn, trusts, detected_by, Watches, IsReliable, IsTimely, watch_of, HasNotGrown, IsToDetect, IsLossless, AlwaysSuspects, KeepsPromises, waiting, crash_for, watched_link, watched_by, links_to, watched_links, loses, needed, patience, is_reliable, latency, is_late, lossless, promised, WatchedLink}
 use Rattle.std.specs.Option.{option_map_or}
-use Rattle.process_api.specs.EntryRecord.{EntryRecord}
-use Rattle.process_api.specs.Numbers.{is_process}
+use Rattle.process_api.specs.Order.{EntryRecord}
+use Rattle.process_api.specs.Place.{is_process}
 use Rattle.scenario_record.specs.Ranges.{IsInRange}
-use Rattle.trace_laws.specs.ScenarioSetting.{setting_of}
+use Rattle.trace_laws.specs.Setting.{setting_of}
 use Rattle.trace_laws.specs.World.{IsTrace}
-use Rattle.judges.specs.Crashes.{crash_tick, is_correct, is_crashed}
-use Rattle.judges.specs.Meaning.{IsProcess}
-use Rattle.judges.specs.Verdicts.{strong_accuracy}
+use Rattle.judges.specs.Out.{crash_tick, is_correct, is_crashed}
+use Rattle.judges.specs.Verdicts.{IsProcess, strong_accuracy}
 use Rattle.judges.proofs.Members.{in_filter, in_image, of_image}
 use Rattle.detector_bounds.specs.Bounds.{HasNoMistake}
 use Rattle.detector_bounds.proofs.Kept.{bounds_kept}

@@ -1,18 +1,15 @@
 -- What the numbers of a scenario say of its traces, on layer 1.
 use Rattle.std.specs.Prelude.{◌≡◌, ◌↔◌, ℕ, ◌+◌, ◌-◌, ◌<◌, ◌≤◌, true, false, List, [], Some}
-use Rattle.process_api.specs.EntryRecord.{EntryRecord}
+use Rattle.process_api.specs.Order.{EntryRecord}
 use Rattle.process_api.specs.declared.numbers.DetectorNumbers.{DetectorNumbers}
 use Rattle.process_api.specs.declared.numbers.DetectorNumbers.TheVariants.{Timeout, Freshness}
 use Rattle.scenario_record.specs.Record.{Record, crash, link, outages_on}
-use Rattle.trace_laws.specs.ScenarioSetting.{setting_of}
+use Rattle.trace_laws.specs.Setting.{setting_of}
 use Rattle.trace_laws.specs.World.{IsTrace}
-use Rattle.judges.specs.Meaning.{IsCorrect, From, Suspects}
-use Rattle.judges.specs.Verdicts.{strong_accuracy}
+use Rattle.judges.specs.Verdicts.{IsCorrect, From, Suspects, strong_accuracy}
 use Rattle.detector_bounds.specs.Bounds.{HasNoMistake}
-use Rattle.detector_bounds.specs.Detected.{detected_by, trusts}
-use Rattle.detector_bounds.specs.Watched.{Watches, IsReliable, IsTimely}
-use Rattle.promised.specs.Links.{watched_link}
-use Rattle.promised.specs.Promised.{is_reliable, latency, patience}
+use Rattle.detector_bounds.specs.Detected.{detected_by, trusts, Watches, IsReliable, IsTimely}
+use Rattle.promised.specs.Promised.{watched_link, is_reliable, latency, patience}
 use Rattle.promised.specs.declared.bounds.PromisedBounds.{PromisedBounds}
 
 -- the detector waits no longer than at first: with time-outs, it took no suspicion back

@@ -4,7 +4,7 @@ ghost use Rattle.std.specs.List.{list_any};
 ghost use Rattle.promised.specs.Kept.{KeepsPromises};
 ghost use Rattle.promised.specs.Promised.{greatest, is_late, is_reliable, is_timely, latency};
 ghost use Rattle.promised.specs.Promised.{loses, needed, promised};
-ghost use Rattle.scenario_record.specs.Numbers.{AreInRange};
+ghost use Rattle.scenario_record.specs.Ranges.{AreInRange};
 
 use crate::detected::detected_by;
 use crate::watching::{WatchedLink, watched_links};

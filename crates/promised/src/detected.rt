@@ -1,7 +1,7 @@
 //! The tick by which the crash of a process is detected.
 ghost use Rattle.std.specs.Prelude.{◌≡◌, ◌≤◌, ◌<◌, ◌+◌, ◌^◌};
 ghost use Rattle.detector_bounds.specs.Detected.{detected_by, grown, last_letter};
-ghost use Rattle.scenario_record.specs.Numbers.{AreInRange};
+ghost use Rattle.scenario_record.specs.Ranges.{AreInRange};
 
 use crate::periods::{last_before, multiple_from};
 use process_api::{DetectorNumbers, TimeoutNumbers};

@@ -1,6 +1,6 @@
 //! Multiples of a period, among ticks.
 ghost use Rattle.std.specs.Prelude.{◌≡◌, ◌≤◌, ◌<◌, ◌+◌, ◌-◌, ◌*◌, ◌^◌};
-ghost use Rattle.detector_bounds.specs.Multiples.{last_before, multiple_from};
+ghost use Rattle.detector_bounds.specs.Detected.{last_before, multiple_from};
 
 /// The greatest number whose multiple of the period lies before a tick; 0 where there is none.
 pub(crate) fn last_before(period: u32, tick: u32) -> u64

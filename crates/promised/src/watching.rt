@@ -1,8 +1,8 @@
 //! The links by which processes watch each other.
 ghost use Rattle.std.specs.Prelude.{◌≡◌, ◌≤◌, ◌≢◌, ◌++◌, true, IfOk, OnOk};
-ghost use Rattle.promised.specs.Links.{crash_for, links_to, watched_link, watched_links};
-ghost use Rattle.detector_bounds.specs.Watched.{watch_of};
-ghost use Rattle.judges.specs.Crashes.{is_correct};
+ghost use Rattle.promised.specs.Promised.{crash_for, links_to, watched_link, watched_links};
+ghost use Rattle.detector_bounds.specs.Detected.{watch_of};
+ghost use Rattle.judges.specs.Out.{is_correct};
 
 use process_api::{DetectorNumbers, Pid, Watch};
 use scenario_record::{Link, Scenario};

@@ -3,7 +3,7 @@ use Rattle.qos_report.proofs.Words.{◌≡◌, ◌≢◌, ◌⊎◌, ℕ, ◌+�
 use Rattle.std.specs.Global.{Vec}
 use Rattle.process_api.specs.declared.print_choice.PrintChoice.{PrintChoice}
 use Rattle.process_api.specs.declared.print_choice.PrintChoice.TheVariants as choice
-use Rattle.reporting.specs.Printed.{items_of, printed, prints_report, prints_trace}
+use Rattle.reporting.specs.ReportText.{items_of, printed, prints_report, prints_trace}
 use Rattle.runs.specs.Finishing.{BreaksOff, WroteRows, IsLonger}
 
 trace_text_is : (trace : List EntryRecord) → trace_header ++ rows_text trace ≡ trace_text trace

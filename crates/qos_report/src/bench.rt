@@ -1,6 +1,6 @@
 //! Runs by windows, from a scenario and its machines to the texts that go out.
 ghost use Rattle.std.specs.Prelude.{◌≡◌, ◌^◌, ◌-◌, ◌<◌, map, IfErr, IfOk};
-ghost use Rattle.process_api.specs.Numbers.{numbers_to};
+ghost use Rattle.process_api.specs.Place.{numbers_to};
 ghost use Rattle.runs.specs.Finishing.{BreaksOff, Finishes};
 ghost use Rattle.scenario_record.specs.Record.{opening_mind};
 ghost use Rattle.windows.specs.Plan.{IsPlanFor};

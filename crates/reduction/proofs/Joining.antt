@@ -2,12 +2,9 @@
 use Rattle.std.proofs.Common.{◌≡◌, ◌+◌, ◌≤◌, ◌++◌, [], ℕ, List, length, ap, sym, subst, refl, ◌∙◌, arith, append_assoc, length-append, None, Some}
 use Rattle.std.specs.List.{All}
 use Rattle.std.proofs.lemmas.List.Elements.{All-append, All-from_recursion}
-use Rattle.process_api.specs.Bounds.{most_processes, most_first_actions, most_second_actions}
+use Rattle.process_api.specs.Place.{most_processes, most_first_actions, most_second_actions, Place, numbers_to}
 use Rattle.process_api.specs.Sets.{Processes, changes}
-use Rattle.process_api.specs.Place.{Place}
-use Rattle.process_api.specs.Answer.{Answer, to_all}
-use Rattle.process_api.specs.Numbers.{numbers_to}
-use Rattle.process_api.specs.Actions.{IsAllowed, notes_of_layer}
+use Rattle.process_api.specs.Answer.{Answer, to_all, IsAllowed, notes_of_layer}
 use Rattle.process_api.specs.Mind.{Lower, layer_of, suspects_of, most_actions}
 use Rattle.process_api.specs.React.{react_lower}
 use Rattle.process_api.specs.Reduction.{ReductionState, gathered, next_share, step_reduction}

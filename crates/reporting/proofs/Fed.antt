@@ -4,7 +4,7 @@ use Rattle.reporting.proofs.Words.{Vec, sum_by, take-append-drop, drop-cons, Ent
 use Rattle.process_api.specs.declared.run_error.RunError.{RunError}
 use Rattle.process_api.specs.declared.run_error.RunError.TheVariants.{Write}
 use Rattle.judges.specs.Outcomes.{outcomes}
-use Rattle.reporting.specs.Measured.{AreFindings, second_verdicts}
+use Rattle.reporting.specs.Running.{AreFindings, second_verdicts}
 use Rattle.reporting.specs.declared.findings.RunFindings.{RunFindings}
 use Rattle.reporting.proofs.Layers.{layered}
 

@@ -17,41 +17,34 @@ unfoldable pub use Rattle.csv.specs.Writing.{fields_text, is_blank}
 pub use Rattle.judges.proofs.Entering.{fed_more, pairs_quiet}
 pub use Rattle.judges.proofs.Standing.{IsKeeping, IsKnown, fed_known, shown, shown_all}
 pub use Rattle.judges.proofs.Turns.{in_order_more, turns_late, turns_other, turns_own, turns_quiet}
-pub use Rattle.judges.specs.Crashes.{crash_tick, end_of}
-pub use Rattle.judges.specs.Out.{suspects}
-pub use Rattle.judges.specs.Pair.{all_turned, kept_at, opened, turned}
-pub use Rattle.judges.specs.Pairs.{AreFrom, ArePairs, fed}
-pub use Rattle.judges.specs.Turns.{Turn, entry_turns, noted_turns, turn_of, turns, turns_at}
+pub use Rattle.judges.specs.Out.{crash_tick, end_of, suspects}
+pub use Rattle.judges.specs.Pairs.{all_turned, kept_at, opened, turned, AreFrom, ArePairs, fed, Turn, entry_turns, noted_turns, turn_of, turns, turns_at}
 pub use Rattle.judges.specs.Verdicts.{verdicts}
 pub use Rattle.judges.specs.declared.pair.Pair.{Pair}
 pub use Rattle.judges.specs.declared.pairs.Pairs.{Pairs}
 pub use Rattle.process_api.proofs.Where.{same_where, then_where, there_where}
-pub use Rattle.process_api.specs.EntryRecord.{EntryRecord}
-pub use Rattle.process_api.specs.Following.{HasFollowedWhere, IsWhere}
-pub use Rattle.process_api.specs.Numbers.{numbers_to, others}
+pub use Rattle.process_api.specs.Order.{EntryRecord}
+pub use Rattle.process_api.specs.Answer.{HasFollowedWhere, IsWhere}
+pub use Rattle.process_api.specs.Place.{numbers_to, others}
 pub use Rattle.process_api.specs.declared.action.Note.{Note}
 pub use Rattle.scenario_record.specs.Record.{Record}
-pub use Rattle.reporting.specs.Distances.{count_below, count_of_distances, distances, is_next, list_below, over_distances, sum_below, sum_of_distances}
+pub use Rattle.reporting.specs.Measures.{count_below, count_of_distances, distances, is_next, list_below, over_distances, sum_below, sum_of_distances, delay_after, ends, is_measured, layers, measured, pair_durations, second_measures, starts}
 pub use Rattle.reporting.specs.Durations.{AreCaught, AreDurations, AreFollowing, caught, lengths_so_far, listed, lists_in, pair_at, tally_at, ticks_between}
-pub use Rattle.reporting.specs.Inside.Findings.{second_text}
+pub use Rattle.reporting.specs.Inside.Findings.{second_text, front_of, row_about, rows_about, value_text}
 unfoldable pub use Rattle.reporting.specs.Inside.Findings.{found_text}
 pub use Rattle.reporting.specs.Inside.Plain.{ArePlain, IsPlain}
-pub use Rattle.reporting.specs.Inside.Values.{front_of, row_about, rows_about, value_text}
-pub use Rattle.reporting.specs.Kinds.{kind_text}
+pub use Rattle.reporting.specs.Rows.{kind_text, IsBetweenRows, plain_writer, text_of, written}
 pub use Rattle.reporting.specs.LayerPairs.{closed_row, closed_rows, metered, pair}
-pub use Rattle.reporting.specs.Measures.{delay_after, ends, is_measured, layers, measured, pair_durations, second_measures, starts}
 unfoldable pub use Rattle.reporting.specs.Measures.{all_measures, layer_measures, pair_measures}
 pub use Rattle.reporting.specs.Meter.{closed, crash_between}
-pub use Rattle.reporting.specs.Printed.{items_of, prints_report, prints_trace}
-pub use Rattle.reporting.specs.ReportText.{Text, decision_text, decisions_text, run_text, verdict_text}
+pub use Rattle.reporting.specs.ReportText.{items_of, prints_report, prints_trace, Text, decision_text, decisions_text, run_text, verdict_text}
 unfoldable pub use Rattle.reporting.specs.ReportText.{pair_text, report_header, report_row, report_rows, report_text}
-pub use Rattle.reporting.specs.Rows.{IsBetweenRows, plain_writer, text_of, written}
 unfoldable pub use Rattle.reporting.specs.Rows.{row_of}
 pub use Rattle.reporting.specs.Running.{AreLayers, IsCounting, IsLayer, IsMeasuring, IsRecording, IsRunning, IsSecond, IsSumming, IsTextWhere, LayerFollowed, LayersFollowed, Running, RunningFollowed, SummingFollowed}
 pub use Rattle.reporting.specs.Tally.{changed, counted, detected, gain, grown, moved, new_tally, passed, told, tracked}
 pub use Rattle.reporting.specs.TraceText.{Holds, note_text, rows_text, trace_header}
 unfoldable pub use Rattle.reporting.specs.TraceText.{notes_text, trace_text}
-pub use Rattle.reporting.specs.Writing.{Wrote, WrotePart}
+pub use Rattle.reporting.specs.Outlet.{Wrote, WrotePart}
 pub use Rattle.reporting.specs.declared.counts.Counts.{Counts}
 pub use Rattle.reporting.specs.declared.pair_measures.Detection.TheVariants.{At, Na, NoTick}
 pub use Rattle.reporting.specs.declared.tally.Tally.{Tally}

@@ -1,10 +1,9 @@
 -- How long mistakes were, pair by pair, as all pairs of a layer are counted.
 use Rattle.std.specs.Prelude.{◌≡◌, ℕ, suc, ◌+◌, ◌-◌, ◌*◌, ◌<◌, ◌&&◌, Bool, if◌then◌else◌, nat_le, nat_lt, Option, None, Some, List, [], ◌∷◌, ◌++◌, length, map, get_or}
 use Rattle.std.specs.Global.{Vec}
-use Rattle.process_api.specs.EntryRecord.{EntryRecord}
+use Rattle.process_api.specs.Order.{EntryRecord}
 use Rattle.scenario_record.specs.Record.{Record}
-use Rattle.judges.specs.Pair.{kept_at, opened}
-use Rattle.judges.specs.Pairs.{fed}
+use Rattle.judges.specs.Pairs.{kept_at, opened, fed}
 use Rattle.judges.specs.declared.pair.Pair.{Pair}
 use Rattle.judges.specs.declared.pairs.Pairs.{Pairs}
 use Rattle.reporting.specs.Measures.{pair_durations}

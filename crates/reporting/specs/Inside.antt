@@ -1,5 +1,4 @@
 -- words that private functions and proofs of this crate use alone: no public contract rests on them
-pub mod Values
 pub mod Plain
 pub mod Findings
 pub mod RowTexts

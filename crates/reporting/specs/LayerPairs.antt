@@ -1,10 +1,9 @@
 -- What is counted of all pairs on a layer, and what their meters tell.
 use Rattle.std.specs.Prelude.{ℕ, suc, ◌+◌, ◌-◌, ◌*◌, List, map, flat_map, get_or}
-use Rattle.process_api.specs.Numbers.{numbers_to, others}
-use Rattle.process_api.specs.EntryRecord.{EntryRecord}
+use Rattle.process_api.specs.Place.{numbers_to, others}
+use Rattle.process_api.specs.Order.{EntryRecord}
 use Rattle.scenario_record.specs.Record.{Record}
-use Rattle.judges.specs.Pair.{opened}
-use Rattle.judges.specs.Pairs.{ArePairs}
+use Rattle.judges.specs.Pairs.{opened, ArePairs}
 use Rattle.judges.specs.declared.pair.Pair.{Pair}
 use Rattle.judges.specs.declared.pairs.Pairs.{Pairs}
 use Rattle.reporting.specs.Meter.{closed, crash_between}

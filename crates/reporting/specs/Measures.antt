@@ -1,17 +1,52 @@
 -- The measures of each pair of processes: the quality of service of a failure detector after Chen, Toueg and Aguilera
--- (IEEE Transactions on Computers 51(5), 2002). Where they take means over runs without end, these are sums and
--- counts over the ticks of one run, cut at its horizon.
-use Rattle.std.specs.Prelude.{ℕ, ◌-◌, Bool, not, ◌&&◌, if◌then◌else◌, Option, None, Some, is_some, List, [], ◌∷◌, map, flat_map}
-use Rattle.process_api.specs.Numbers.{numbers_to, others}
-use Rattle.process_api.specs.EntryRecord.{EntryRecord}
+-- (IEEE Transactions on Computers 51(5), 2002). Where they take means over runs without end, these are sums and counts
+-- over the ticks of one run, cut at its horizon. Sums and counts over the ticks (or other numbers) below an end.
+use Rattle.std.specs.Prelude.{ℕ, ◌-◌, Bool, not, ◌&&◌, if◌then◌else◌, Option, None, Some, is_some, List, [], ◌∷◌, map, flat_map, zero, suc, ◌+◌, ◌||◌, nat_lt, nat_le, ◌++◌}
+use Rattle.process_api.specs.Place.{numbers_to, others}
+use Rattle.process_api.specs.Order.{EntryRecord}
 use Rattle.scenario_record.specs.Record.{Record}
-use Rattle.judges.specs.Crashes.{crash_tick, is_crashed, is_correct, end_of}
-use Rattle.judges.specs.Ticks.{before, least_from}
-use Rattle.judges.specs.Out.{suspects}
-use Rattle.reporting.specs.Distances.{count_below, sum_of_distances, count_of_distances, distances}
+use Rattle.judges.specs.Out.{crash_tick, is_crashed, is_correct, end_of, suspects}
+use Rattle.judges.specs.Track.{before, least_from, all_below}
 use Rattle.reporting.specs.declared.pair_measures.PairMeasures.{PairMeasures}
 use Rattle.reporting.specs.declared.pair_measures.Detection.{Detection}
 use Rattle.reporting.specs.declared.pair_measures.Detection.TheVariants.{Na, NoTick, At}
+
+-- the sum of an amount over 0 to end - 1
+abbrev pub sum_below : (ℕ → ℕ) → (end : ℕ) → ℕ
+sum_below amount zero = 0
+sum_below amount (suc t) = sum_below amount t + amount t
+
+-- how many of 0 to end - 1 pass
+abbrev pub count_below : (ℕ → Bool) → (end : ℕ) → ℕ
+count_below test end = sum_below (λ t. if test t then 1 else 0) end
+
+-- whether t is the next tick after s at which a test passes
+abbrev pub is_next : (ℕ → Bool) → (s t : ℕ) → Bool
+is_next test s t = (nat_lt s t && test t) && all_below (λ u. nat_le u s || not (test u)) t
+
+-- over all ticks s and t below end such that s passes the first test and t is the next tick after s that passes the
+-- second: the sum of an amount of t - s
+abbrev pub over_distances : (ℕ → ℕ) → (from to : ℕ → Bool) → (end : ℕ) → ℕ
+over_distances amount from to end =
+    sum_below (λ t. sum_below (λ s. if from s && is_next to s t then amount (t - s) else 0) t) end
+
+-- the distances from a tick that passes the first test to the next that passes the second, where that is below end:
+-- their sum, and how many there are
+abbrev pub sum_of_distances : (from to : ℕ → Bool) → (end : ℕ) → ℕ
+sum_of_distances = over_distances (λ d. d)
+
+abbrev pub count_of_distances : (from to : ℕ → Bool) → (end : ℕ) → ℕ
+count_of_distances = over_distances (λ d. 1)
+
+-- the lists of 0 to end - 1, one after the other
+abbrev pub list_below : (ℕ → List ℕ) → (end : ℕ) → List ℕ
+list_below lists zero = []
+list_below lists (suc t) = list_below lists t ++ lists t
+
+-- these distances themselves, in the order of the ticks at which they end
+abbrev pub distances : (from to : ℕ → Bool) → (end : ℕ) → List ℕ
+distances from to end =
+    list_below (λ t. list_below (λ s. if from s && is_next to s t then (t - s) ∷ [] else []) t) end
 
 -- a tick at which suspicion starts (an S-transition), and one at which it ends (a T-transition)
 abbrev pub starts : (ℕ → Bool) → ℕ → Bool

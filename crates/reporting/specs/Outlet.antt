@@ -1,5 +1,5 @@
 -- What a put does to an outlet.
-use Rattle.std.specs.Prelude.{ℕ, ◌≤◌, ◌&&◌, not, nat_eq, List, length, take, Option, Result, Ok, Err, if◌then◌else◌}
+use Rattle.std.specs.Prelude.{ℕ, ◌≤◌, ◌&&◌, not, nat_eq, List, length, take, Option, Result, Ok, Err, if◌then◌else◌, ◌≡◌, ◌+◌}
 use Rattle.std.specs.Io.KnownBytes.{Appends}
 
 -- how many failures a put of the piece counts: one where it answered an error, or took nothing of a piece that isn't
@@ -28,3 +28,21 @@ pub record Fuse : Type 0 where
   pub most : ℕ
   pub left : ℕ
   pub failures : ℕ
+
+-- ---- what a call that writes a text leaves of an outlet
+
+module _ {O : Type 0} (told : O → Option (List ℕ)) (failed : O → ℕ) (old new : O) where
+  -- the whole text went out, and no put failed
+  pub record Wrote (text : List ℕ) : Type 0 where
+    pub bytes : Appends (told old) (told new) text
+    pub failures : failed new ≡ failed old
+
+  -- a front part of the text went out, and one put failed
+  pub record WrotePart (text : List ℕ) : Type 0 where
+    pub bytes : Grows (told old) (told new) text
+    pub failures : failed new ≡ failed old + 1
+
+  -- nothing went out, and no put failed
+  pub record WroteNothing : Type 0 where
+    pub bytes : told new ≡ told old
+    pub failures : failed new ≡ failed old

@@ -1,18 +1,22 @@
 -- The text of a report.
-use Rattle.std.specs.Prelude.{ℕ, Bool, if◌then◌else◌, Option, None, Some, List, [], ◌∷◌, ◌++◌, length, codes, decimal}
+use Rattle.std.specs.Prelude.{ℕ, Bool, if◌then◌else◌, Option, None, Some, List, [], ◌∷◌, ◌++◌, length, codes, decimal, true, false}
 use Rattle.std.specs.List.{flat_map, sum_by}
+use Rattle.std.specs.Global.{Vec}
 use Rattle.judges.specs.Outcomes.{outcomes}
 use Rattle.judges.specs.Verdicts.{verdicts}
 use Rattle.judges.specs.declared.outcomes.Answer.{Answer}
 use Rattle.judges.specs.declared.outcomes.Answer.TheVariants as answer
 use Rattle.judges.specs.declared.outcomes.Outcome.{Outcome}
 use Rattle.judges.specs.declared.verdicts.Verdicts.{Verdicts}
-use Rattle.process_api.specs.EntryRecord.{EntryRecord}
+use Rattle.process_api.specs.Order.{EntryRecord}
+use Rattle.process_api.specs.declared.print_choice.PrintChoice.{PrintChoice}
+use Rattle.process_api.specs.declared.print_choice.PrintChoice.TheVariants as choice
 use Rattle.scenario_record.specs.Record.{Record}
 use Rattle.scenario_record.specs.declared.algorithm.AlgorithmKind.{AlgorithmKind}
 use Rattle.scenario_record.specs.declared.algorithm.AlgorithmKind.TheVariants as kind
 use Rattle.reporting.specs.Measures.{layers, all_measures}
 use Rattle.reporting.specs.Rows.{row_of}
+use Rattle.reporting.specs.TraceText.{trace_text}
 use Rattle.reporting.specs.declared.pair_measures.PairMeasures.{PairMeasures}
 use Rattle.reporting.specs.declared.pair_measures.Detection.{Detection}
 use Rattle.reporting.specs.declared.pair_measures.Detection.TheVariants.{Na, NoTick, At}
@@ -104,3 +108,27 @@ report_text S trace =
     ++ (flat_map (λ layer. verdict_text layer (verdicts S trace layer)) (layers S)
     ++ (flat_map pair_text (all_measures S trace)
     ++ decisions_text S.algorithm (outcomes trace S.processes))))
+
+-- ---- the texts that are asked for of a run
+
+-- whether the trace is asked for, and whether the report is
+abbrev pub prints_trace : PrintChoice → Bool
+prints_trace choice.Trace = true
+prints_trace choice.Report = false
+prints_trace choice.Both = true
+
+abbrev pub prints_report : PrintChoice → Bool
+prints_report choice.Trace = false
+prints_report choice.Report = true
+prints_report choice.Both = true
+
+-- a text, if there is one
+abbrev pub items_of : Option (Vec ℕ) → Text
+items_of None = []
+items_of (Some text) = text.items
+
+-- the texts of a trace that are asked for
+abbrev pub printed : PrintChoice → Record → List EntryRecord → List ℕ
+printed choice.Trace S trace = trace_text trace
+printed choice.Report S trace = report_text S trace
+printed choice.Both S trace = trace_text trace ++ report_text S trace

@@ -1,11 +1,13 @@
 -- Rows of a text.
-use Rattle.std.specs.Prelude.{◌≡◌, ℕ, List, [], ◌∷◌, ◌++◌, false}
+use Rattle.std.specs.Prelude.{◌≡◌, ℕ, List, [], ◌∷◌, ◌++◌, false, codes}
 use Rattle.std.specs.Global.{Vec}
 use Rattle.std.specs.List.{join_with_byte}
 use Rattle.csv.specs.Writing.{default_writer, with_style, writer_setup, fields_written, has_written, writer_under, writer_pending}
 use Rattle.csv.specs.declared.writer.QuoteStyle.TheVariants as style
 use Rattle.csv.specs.declared.writer.Writer.{Writer}
 use Rattle.csv.specs.declared.writer.WriterBuilder.{WriterBuilder}
+use Rattle.process_api.specs.declared.entry.Kind.{Kind}
+use Rattle.process_api.specs.declared.entry.Kind.TheVariants as kind
 use Rattle.reporting.specs.declared.rows.Rows.{Rows}
 
 abbrev pub line_feed : ℕ
@@ -37,3 +39,21 @@ IsBetweenRows rows = IsBetween plain_writer rows.writer
 
 abbrev pub text_of : Rows → List ℕ
 text_of rows = written rows.writer
+
+-- ---- the names of kinds, as they stand in texts
+
+abbrev pub kind_text : Kind → List ℕ
+kind_text kind.Start = codes "start"
+kind_text kind.Beat = codes "beat"
+kind_text kind.Check = codes "check"
+kind_text kind.Share = codes "share"
+kind_text kind.Alive = codes "alive"
+kind_text kind.Heartbeat = codes "heartbeat"
+kind_text kind.Suspects = codes "suspects"
+kind_text kind.Vector = codes "vector"
+kind_text kind.Last = codes "last"
+kind_text kind.Estimate = codes "estimate"
+kind_text kind.Proposal = codes "proposal"
+kind_text kind.Reply = codes "reply"
+kind_text kind.Decide = codes "decide"
+kind_text kind.Dead = codes "dead"

@@ -1,24 +1,54 @@
--- What it is that whoever follows a run was told the entries of a trace.
-use Rattle.std.specs.Prelude.{◌≡◌, ℕ, ◌*◌, ◌-◌, ◌^◌, ◌≤◌, min, Bool, true, false, Option, None, Some, is_some, List, [], length}
+-- What it is that whoever follows a run was told the entries of a trace. All that is measured of a run. What is told of
+-- a run in a few numbers.
+use Rattle.std.specs.Prelude.{◌≡◌, ℕ, ◌*◌, ◌-◌, ◌^◌, ◌≤◌, min, Bool, true, false, Option, None, Some, is_some, List, [], length, if◌then◌else◌, ◌<◌}
 use Rattle.std.specs.Global.{Vec}
 use Rattle.std.specs.List.{sum_by}
-use Rattle.process_api.specs.Following.{HasFollowedWhere, IsWhere}
-use Rattle.process_api.specs.EntryRecord.{EntryRecord}
+use Rattle.process_api.specs.Answer.{HasFollowedWhere, IsWhere}
+use Rattle.process_api.specs.Order.{EntryRecord}
 use Rattle.scenario_record.specs.Record.{Record}
-use Rattle.judges.specs.Judging.{HasFollowed, IsDeciding}
+use Rattle.judges.specs.Pairs.{HasFollowed, IsDeciding}
 use Rattle.judges.specs.declared.outcomes.RunningOutcomes.{RunningOutcomes}
 use Rattle.process_api.specs.declared.print_choice.PrintChoice.{PrintChoice}
-use Rattle.reporting.specs.Durations.{AreFollowing}
+use Rattle.judges.specs.Verdicts.{verdicts}
+use Rattle.judges.specs.Outcomes.{outcomes}
+use Rattle.judges.specs.declared.verdicts.Verdicts.{Verdicts}
+use Rattle.reporting.specs.Durations.{AreFollowing, AreDurations}
 use Rattle.reporting.specs.LayerPairs.{IsMetering}
-use Rattle.reporting.specs.Printed.{printed, prints_report, prints_trace}
-use Rattle.reporting.specs.ReportText.{Text, report_text}
-use Rattle.reporting.specs.Summary.{IsSummary}
+use Rattle.reporting.specs.ReportText.{printed, prints_report, prints_trace, Text, report_text}
 use Rattle.reporting.specs.Rows.{written}
 use Rattle.reporting.specs.TraceText.{Holds, trace_text}
+use Rattle.reporting.specs.Measures.{all_measures}
 use Rattle.reporting.specs.declared.counts.Counts.{Counts}
 use Rattle.reporting.specs.declared.layer.Layer.{Layer}
 use Rattle.reporting.specs.declared.summary.Summary.{Summary}
 use Rattle.reporting.specs.declared.trace_text.TraceText.{TraceText}
+use Rattle.reporting.specs.declared.durations.RunDurations.{RunDurations}
+use Rattle.reporting.specs.declared.findings.RunFindings.{RunFindings}
+
+-- the number of entries, the sums of their letters, and the outcomes of the processes
+pub record IsSummary (S : Record) (trace : List EntryRecord) (summary : Summary) : Type 0 where
+  pub entries : summary.entries ≡ length trace
+  pub sent : summary.sent ≡ sum_by (λ e. e.sent) trace
+  pub lost : summary.lost ≡ sum_by (λ e. e.lost) trace
+  pub decided : summary.outcomes.items ≡ outcomes trace S.processes
+
+-- the verdicts on layer 2, where there is a reduction
+abbrev pub second_verdicts : Record → List EntryRecord → Option Verdicts
+second_verdicts S trace = if is_some S.share then Some (verdicts S trace 2) else None
+
+module _ (S : Record) where
+  -- of a trace: its summary, the verdicts on layer 1 and, where there is a reduction, on layer 2, and the measures of
+  -- all pairs
+  pub record AreFindings (trace : List EntryRecord) (found : RunFindings) : Type 0 where
+    pub summary : IsSummary S trace found.summary
+    pub first : found.first ≡ verdicts S trace 1
+    pub second : found.second ≡ second_verdicts S trace
+    pub measures : found.measures.items ≡ all_measures S trace
+
+  -- how long each mistake of a trace was that ended
+  pub record AreRunDurations (trace : List EntryRecord) (durations : RunDurations) : Type 0 where
+    pub first : AreDurations S 1 trace durations.first
+    pub second : is_some S.share ≡ true → AreDurations S 2 trace durations.second
 
 -- the counts stay at the greatest number; each entry has less than 2^32 letters
 pub record IsCounting (trace : List EntryRecord) (c : Counts) : Type 0 where
@@ -101,3 +131,28 @@ module _ (S : Record) where
 abbrev pub IsMeasuring : (listed : Bool) (S : Record) → List EntryRecord
     → (Counts × RunningOutcomes) × (Layer × Option Layer) → Type 0
 IsMeasuring listed S trace m = IsSumming S trace m.0 × AreLayers listed S trace m.1
+
+-- ---- what is told of a run, whatever trace it was that was followed, of less than 2^64 entries
+
+-- what is measured tells these findings
+abbrev pub TellsFindings : (Counts × RunningOutcomes) × (Layer × Option Layer) → RunFindings → Type 0
+TellsFindings measuring found =
+    (listed : Bool) (S : Record) (trace : List EntryRecord) → IsMeasuring listed S trace measuring
+    → length trace < 2 ^ 64 → AreFindings S trace found
+
+-- what follows a run tells this summary and, where it is asked for, this report
+abbrev pub TellsOf : Record → Running → Summary × Option (Vec ℕ) → Type 0
+TellsOf S running told =
+    (trace : List EntryRecord) (reported : Bool) → IsRunning S trace reported running
+    → length trace < 2 ^ 64 → IsToldOf S trace reported told
+
+module _ (S : Record) (recording : Running × Option TraceText) where
+  -- this holds of what is asked for of the run, and of its trace
+  abbrev pub OfRecorded : (PrintChoice → List EntryRecord → Type 0) → Type 0
+  OfRecorded holds =
+      (print : PrintChoice) (trace : List EntryRecord) → IsRecording S print trace recording
+      → length trace < 2 ^ 64 → holds print trace
+
+  -- this holds of the texts that are asked for
+  abbrev pub OfPrinted : (Text → Type 0) → Type 0
+  OfPrinted holds = OfRecorded (λ print trace. holds (printed print S trace))

@@ -2,11 +2,10 @@
 use Rattle.std.specs.Prelude.{◌≡◌, ℕ, List, [], ◌∷◌, ◌++◌, map, codes, decimal}
 use Rattle.std.specs.List.{join_with_byte, flat_map}
 use Rattle.csv.specs.Writing.{default_writer, writer_under}
-use Rattle.process_api.specs.EntryRecord.{EntryRecord}
+use Rattle.process_api.specs.Order.{EntryRecord}
 use Rattle.process_api.specs.declared.action.Note.{Note}
 use Rattle.process_api.specs.declared.action.Note.TheVariants.{Suspect, Trust, Round, Decided, NoValue}
-use Rattle.reporting.specs.Kinds.{kind_text}
-use Rattle.reporting.specs.Rows.{row_of, IsBetween, written}
+use Rattle.reporting.specs.Rows.{kind_text, row_of, IsBetween, written}
 use Rattle.reporting.specs.declared.trace_text.TraceText.{TraceText}
 
 abbrev pub space : ℕ

@@ -1,6 +1,6 @@
 //! The texts that are asked for.
 ghost use Rattle.std.specs.Prelude.{◌≡◌};
-ghost use Rattle.reporting.specs.Printed.{prints_report, prints_trace};
+ghost use Rattle.reporting.specs.ReportText.{prints_report, prints_trace};
 
 use process_api::PrintChoice;
 

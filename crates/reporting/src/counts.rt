@@ -1,6 +1,6 @@
 //! How many entries and letters a run has.
 ghost use Rattle.std.specs.Prelude.{◌++◌, ◌∷◌, [], List};
-ghost use Rattle.process_api.specs.EntryRecord.{EntryRecord};
+ghost use Rattle.process_api.specs.Order.{EntryRecord};
 
 use process_api::{Entry, Follower};
 use std::alloc::AllocError;

@@ -1,6 +1,6 @@
 //! How long each mistake was that ended.
 ghost use Rattle.std.specs.Prelude.{◌≡◌, ℕ, ◌*◌, ◌≤◌, ◌<◌, ◌^◌, ◌++◌, ◌∷◌, [], List, length, vec_len, IfOk, OnOk};
-ghost use Rattle.process_api.specs.EntryRecord.{EntryRecord};
+ghost use Rattle.process_api.specs.Order.{EntryRecord};
 ghost use Rattle.scenario_record.specs.Record.{Record};
 ghost use Rattle.reporting.specs.Durations.{AreCaught, caught, lists_in, ticks_between};
 

@@ -1,6 +1,6 @@
 //! The followers of a run, put together.
 ghost use Rattle.std.specs.Prelude.{◌≡◌, [], IfOk};
-ghost use Rattle.reporting.specs.Printed.{prints_report, prints_trace};
+ghost use Rattle.reporting.specs.ReportText.{prints_report, prints_trace};
 ghost use Rattle.reporting.specs.Running.{AreLayers, IsMeasuring, IsRecording, IsRunning, IsSumming};
 
 use crate::asked::{prints_report, prints_trace};

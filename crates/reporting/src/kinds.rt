@@ -1,6 +1,6 @@
 //! The names of kinds.
 ghost use Rattle.std.specs.Prelude.{◌≡◌, ◌≤◌, length};
-ghost use Rattle.reporting.specs.Kinds.{kind_text};
+ghost use Rattle.reporting.specs.Rows.{kind_text};
 
 use process_api::Kind;
 

@@ -14,10 +14,10 @@
 //!   of these entries, by definition (`specs/Running.antt`): by [`open_running`] and [`close_running`] the [`Summary`],
 //!   and the report where it is asked for; by [`open_recording`] and [`write_recorded`] also the text of the trace; by
 //!   [`open_measuring`] and [`close_measuring`] all that is measured, with no text: the [`RunFindings`], and how long
-//!   each mistake was that ended (`specs/Measured.antt`, `specs/Durations.antt`).
+//!   each mistake was that ended (`specs/Running.antt`, `specs/Durations.antt`).
 //! - [`Meter`] gives the measures of one pair on one layer with no trace at hand: it is fed with the entries as they
-//!   come (`specs/MeterFed.antt`).
-//! - [`write_trace`] and [`write_report`] write one text of any trace, whole or a front part (`specs/Writing.antt`).
+//!   come (`specs/Meter.antt`).
+//! - [`write_trace`] and [`write_report`] write one text of any trace, whole or a front part (`specs/Outlet.antt`).
 //! - [`letters_text`] is the text of [`Letter`]s as comma-separated values (`specs/LettersText.antt`).
 //! - [`Outlet`] says what a put does, and [`put_all`] hands on a whole piece up to the first put that fails.
 //!

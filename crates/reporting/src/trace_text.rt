@@ -3,8 +3,7 @@ ghost use Rattle.std.specs.Prelude.{◌≡◌, ◌++◌, [], List, ℕ, IfOk, On
 ghost use Rattle.csv.specs.Writing.{default_writer};
 ghost use Rattle.reporting.specs.Inside.Plain.{IsPlain, ArePlain};
 ghost use Rattle.reporting.specs.Inside.RowTexts.{WroteRow, texts_of};
-ghost use Rattle.reporting.specs.Kinds.{kind_text};
-ghost use Rattle.reporting.specs.Rows.{row_of, written, IsBetween};
+ghost use Rattle.reporting.specs.Rows.{kind_text, row_of, written, IsBetween};
 ghost use Rattle.reporting.specs.TraceText.{Holds, fields_of, handed, trace_text};
 
 use crate::digits::Digits;

@@ -1,6 +1,6 @@
 //! Values of a report.
 ghost use Rattle.std.specs.Prelude.{◌≡◌};
-ghost use Rattle.reporting.specs.Inside.Values.{value_text};
+ghost use Rattle.reporting.specs.Inside.Findings.{value_text};
 ghost use Rattle.reporting.specs.ReportText.{truth_text, tick_text, detection_text, answer_text};
 
 use crate::pair_measures::Detection;
@@ -21,7 +21,7 @@ pub(crate) enum Value {
 }
 
 impl Value {
-    ghost use Rattle.reporting.specs.Inside.Values.{value_text};
+    ghost use Rattle.reporting.specs.Inside.Findings.{value_text};
 
     /// The text of the value, in the buffer where it is a decimal.
     pub(crate) fn text<'a>(self, buffer: &'a mut Buffer) -> &'a str

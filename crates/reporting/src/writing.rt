@@ -1,11 +1,9 @@
 //! Writing the texts of a finished trace.
 ghost use Rattle.std.specs.Prelude.{◌≡◌, ◌≢◌, ◌^◌, ◌-◌, ◌<◌, Err, OnOk, IfErr, IfOk};
-ghost use Rattle.reporting.specs.Printed.{items_of};
-ghost use Rattle.reporting.specs.ReportText.{report_text};
-ghost use Rattle.reporting.specs.Summary.{IsSummary};
-ghost use Rattle.reporting.specs.Telling.{OfPrinted, OfRecorded};
+ghost use Rattle.reporting.specs.ReportText.{items_of, report_text};
+ghost use Rattle.reporting.specs.Running.{IsSummary, OfPrinted, OfRecorded};
 ghost use Rattle.reporting.specs.TraceText.{trace_text};
-ghost use Rattle.reporting.specs.Writing.{Wrote, WrotePart, WroteNothing};
+ghost use Rattle.reporting.specs.Outlet.{Wrote, WrotePart, WroteNothing};
 
 use crate::following::{Recording, open_running};
 use crate::outlet::{Outlet, put_all};

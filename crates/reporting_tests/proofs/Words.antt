@@ -9,5 +9,5 @@ pub use Rattle.study.specs.Shard.{IsShard, ShardRecord, block}
 pub use Rattle.study.specs.Sources.{SourcesRecord, sources_of}
 pub use Rattle.sweep.proofs.Zipped.{range_more, zip_push}
 pub use Rattle.sweep.specs.Outcome.{WroteStudy}
-pub use Rattle.sweep.specs.RowText.{Text}
+pub use Rattle.sweep.specs.Layout.{Text}
 pub use Rattle.sweep.specs.StudyText.{HasOneText, IsStudyText}

@@ -1,6 +1,6 @@
 //! Code for the tests of several crates.
 ghost use Rattle.std.specs.Prelude.{◌≡◌, ◌≤◌};
-ghost use Rattle.process_api.specs.Bounds.{most_processes};
+ghost use Rattle.process_api.specs.Place.{most_processes};
 
 use process_api::{Key, Pid};
 use scenario::{Scenario, read_scenario};

@@ -1,12 +1,12 @@
 -- A run from its trace to its texts: what it leaves once it is done, and once it is refused.
 use Rattle.runs.proofs.Words.{◌≡◌, ◌≢◌, ℕ, ◌<◌, sym, subst, refl, List, length, Option, Result, Ok, Err, IfOk, IfErr, OnOk, setting_of, IsTrace, Agree, agrees, EntryRecord, IsInRange, Record}
-use Rattle.trace_laws.specs.Effects.{HasCauses, TakesOnce}
+use Rattle.trace_laws.specs.History.{HasCauses, TakesOnce}
 use Rattle.process_api.specs.declared.run_error.RunError.{RunError}
 use Rattle.process_api.specs.declared.run_error.RunError.TheVariants.{Limit, Memory, Spawn, Write}
-use Rattle.reporting.specs.Printed.{printed}
+use Rattle.reporting.specs.ReportText.{printed}
 use Rattle.runs.specs.Finishing.{IsTraceWithin, Finishes, Refuses}
-use Rattle.reporting.specs.Summary.{IsSummary}
-use Rattle.reporting.specs.Writing.{Wrote, WrotePart, WroteNothing}
+use Rattle.reporting.specs.Running.{IsSummary}
+use Rattle.reporting.specs.Outlet.{Wrote, WrotePart, WroteNothing}
 use Rattle.runs.proofs.Resting.{has_grounds}
 use Rattle.process_api.specs.declared.print_choice.PrintChoice.{PrintChoice}
 use Rattle.reporting.specs.declared.summary.Summary.{Summary}

@@ -11,18 +11,16 @@ pub use Rattle.judges.proofs.Agreement.Agreed.{agrees}
 pub use Rattle.judges.proofs.Blamed.{blamed_by_out, shares_suspicions}
 pub use Rattle.judges.proofs.Lasting.{all_from-at, all_from-from}
 pub use Rattle.judges.specs.Agreement.{Agree}
-pub use Rattle.judges.specs.Crashes.{crash_tick, end_of, is_correct, is_crashed}
-pub use Rattle.judges.specs.Out.{suspects}
-pub use Rattle.judges.specs.Ticks.{all_from, first_of, least_below, least_from}
+pub use Rattle.judges.specs.Out.{crash_tick, end_of, is_correct, is_crashed, suspects}
+pub use Rattle.judges.specs.Track.{all_from, first_of, least_below, least_from}
 pub use Rattle.process_api.proofs.Lists.{always, both, images, weaker}
 pub use Rattle.process_api.proofs.Minds.{and_true, both_true}
-pub use Rattle.process_api.specs.EntryRecord.{EntryRecord}
+pub use Rattle.process_api.specs.Order.{EntryRecord}
 pub use Rattle.process_api.specs.declared.action.Action.{Action}
 pub use Rattle.process_api.specs.declared.key.Key.{Key}
 pub use Rattle.process_api.specs.declared.message.StepInput.{StepInput}
 pub use Rattle.reporting.proofs.Followed.{measuring_same, measuring_told, recording_same, recording_told}
-pub use Rattle.reporting.specs.Distances.{count_below}
-pub use Rattle.reporting.specs.Measures.{delay_after, detection, is_measured, layers, measured, starts}
+pub use Rattle.reporting.specs.Measures.{count_below, delay_after, detection, is_measured, layers, measured, starts}
 unfoldable pub use Rattle.reporting.specs.Measures.{all_measures, layer_measures, pair_measures}
 pub use Rattle.reporting.specs.declared.letter.Letter.{Letter}
 pub use Rattle.reporting.specs.declared.pair_measures.Detection.TheVariants.{At, Na}
@@ -35,10 +33,9 @@ pub use Rattle.trace_laws.proofs.Runs.{one_run}
 pub use Rattle.trace_laws.proofs.Sound.{setting_sound}
 pub use Rattle.trace_laws.proofs.Steps.{in_append, in_images, in_left, in_right, in_time_is, of_images}
 pub use Rattle.trace_laws.specs.History.{IsIn}
-pub use Rattle.trace_laws.specs.ScenarioSetting.{setting_of}
-pub use Rattle.trace_laws.specs.Setting.{IsSound, Setting, has_crashed}
+pub use Rattle.trace_laws.specs.Setting.{setting_of, IsSound, Setting, has_crashed}
 pub use Rattle.trace_laws.specs.Step.{Event, Made, Process, added, by_fate, counted, counts_after, dead, in_time, joining, kind_of, kind_of_payload, made_by, raised, step}
 pub use Rattle.trace_laws.specs.World.{Has, IsTrace, IsWorld, Run, World, entries, opening, taken}
 pub use Rattle.runs.specs.Grounds.{HasBlame, HasGrounds, IsBounded, KeepsToBounds, RestsOnBlame}
 pub use Rattle.runs.specs.Letters.{AreInOrder, AreInTrace, AreLetters, AreLostAs, AreNumbered, IsEntryOf, IsNotAfter, due_of, fate_of, is_lost, letter_of, numbers_on}
-pub use Rattle.runs.specs.Trusts.{AreCounts, most_trusts}
+pub use Rattle.runs.specs.Finishing.{AreCounts, most_trusts}

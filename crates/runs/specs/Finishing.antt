@@ -1,28 +1,44 @@
--- What a run leaves and tells.
-use Rattle.std.specs.Prelude.{◌≡◌, ◌≢◌, ◌⊎◌, ◌<◌, ◌≤◌, ◌*◌, ◌^◌, ℕ, List, ◌++◌, length, Option, IsTrue}
-use Rattle.process_api.specs.EntryRecord.{EntryRecord}
+-- What a run leaves and tells. How often each process was trusted again, as it is counted.
+use Rattle.std.specs.Prelude.{◌≡◌, ◌≢◌, ◌⊎◌, ◌<◌, ◌≤◌, ◌*◌, ◌^◌, ℕ, List, ◌++◌, length, Option, IsTrue, suc, ◌+◌, ◌-◌, min, get_or}
+use Rattle.process_api.specs.Order.{EntryRecord}
 use Rattle.process_api.specs.declared.print_choice.PrintChoice.{PrintChoice}
 use Rattle.process_api.specs.declared.print_choice.PrintChoice.TheVariants as choice
 use Rattle.process_api.specs.declared.run_error.RunError.{RunError}
 use Rattle.process_api.specs.declared.run_error.RunError.TheVariants.{Limit, Memory, Write}
 use Rattle.scenario_record.specs.Record.{Record}
 use Rattle.scenario_record.specs.declared.algorithm.AlgorithmKind.TheVariants.{EventuallyStrong}
-use Rattle.trace_laws.specs.Effects.{HasCauses, TakesOnce}
-use Rattle.trace_laws.specs.ScenarioSetting.{setting_of}
+use Rattle.trace_laws.specs.History.{HasCauses, TakesOnce}
+use Rattle.trace_laws.specs.Setting.{setting_of}
 use Rattle.trace_laws.specs.World.{IsTrace}
 use Rattle.judges.specs.Agreement.{Agree, DecidesOnce}
-use Rattle.reporting.specs.Measured.{AreFindings, AreRunDurations}
-use Rattle.reporting.specs.Printed.{printed, prints_trace}
-use Rattle.reporting.specs.ReportText.{Text}
-use Rattle.reporting.specs.Summary.{IsSummary}
+use Rattle.detector_bounds.specs.Detected.{trusts}
+use Rattle.reporting.specs.Running.{AreFindings, AreRunDurations, IsSummary}
+use Rattle.reporting.specs.ReportText.{printed, prints_trace, Text}
 use Rattle.reporting.specs.TraceText.{trace_text}
-use Rattle.reporting.specs.Writing.{Wrote, WrotePart, WroteNothing}
+use Rattle.reporting.specs.Outlet.{Wrote, WrotePart, WroteNothing}
 use Rattle.reporting.specs.declared.durations.RunDurations.{RunDurations}
 use Rattle.reporting.specs.declared.findings.RunFindings.{RunFindings}
 use Rattle.reporting.specs.declared.summary.Summary.{Summary}
 use Rattle.runs.specs.Grounds.{HasGrounds}
-use Rattle.runs.specs.Trusts.{AreTrusts}
 use Rattle.runs.specs.declared.trusts.Trusts.{Trusts}
+
+-- a count stays at the greatest number of 32 bits, should it reach it
+abbrev pub most_trusts : ℕ
+most_trusts = 2 ^ 32 - 1
+
+-- the counts of n processes, by observer and then by subject
+pub record AreCounts (n : ℕ) (of : (q p : ℕ) → ℕ) (counts : List ℕ) : Type 0 where
+  pub square : length counts ≡ n * n
+  pub each : (i j : ℕ) → i < n → j < n → get_or counts (i * n + j) 0 ≡ min (of (suc i) (suc j)) most_trusts
+
+-- they say how often each process noted in a trace that it trusts each other again, on layer 1
+pub record AreTrusts (n : ℕ) (trace : List EntryRecord) (t : Trusts) : Type 0 where
+  pub processes : t.processes ≡ n
+  pub counts : AreCounts n (trusts trace) t.counts.items
+
+-- what was counted of observer q and subject p
+abbrev pub trusts_of : Trusts → (q p : ℕ) → ℕ
+trusts_of t q p = get_or t.counts.items ((q - 1) * t.processes + (p - 1)) 0
 
 -- the scenario's trace, which is within its limit
 pub record IsTraceWithin (S : Record) (trace : List EntryRecord) : Type 0 where

@@ -1,16 +1,13 @@
 -- What stands behind that which is told of the detectors of a run.
 use Rattle.std.specs.Prelude.{◌≡◌, ℕ, ◌-◌, ◌<◌, ◌≤◌, Bool, true, List, Some}
 use Rattle.std.specs.List.{All}
-use Rattle.process_api.specs.EntryRecord.{EntryRecord}
+use Rattle.process_api.specs.Order.{EntryRecord}
 use Rattle.scenario_record.specs.Record.{Record}
-use Rattle.judges.specs.Blame.{IsBlamedBy, SharesSuspicions}
-use Rattle.judges.specs.Crashes.{end_of}
-use Rattle.judges.specs.Meaning.{AreVerdicts, IsCorrect}
-use Rattle.judges.specs.Out.{suspects}
-use Rattle.judges.specs.Ticks.{least_from}
-use Rattle.judges.specs.Verdicts.{verdicts}
+use Rattle.judges.specs.Out.{IsBlamedBy, SharesSuspicions, suspects, end_of}
+use Rattle.judges.specs.Verdicts.{AreVerdicts, IsCorrect, verdicts}
+use Rattle.judges.specs.Track.{least_from}
 use Rattle.detector_bounds.specs.Bounds.{CrashesAt, KeepsBounds, detected_at}
-use Rattle.detector_bounds.specs.Watched.{IsReliable, Watches}
+use Rattle.detector_bounds.specs.Detected.{IsReliable, Watches}
 use Rattle.reporting.specs.Measures.{all_measures, starts}
 use Rattle.reporting.specs.declared.pair_measures.PairMeasures.{PairMeasures}
 use Rattle.reporting.specs.declared.pair_measures.Detection.TheVariants.{At}

@@ -1,15 +1,14 @@
 -- The letters of a scenario's run, and what becomes of each.
 use Rattle.std.specs.Prelude.{◌≡◌, ◌≢◌, ◌⊎◌, ◌==◌, ◌&&◌, ℕ, ◌+◌, ◌<◌, ◌≤◌, Bool, true, false, if◌then◌else◌, nat_le, Option, None, Some, List, [], ◌∷◌, filter, length, map}
 use Rattle.std.specs.List.{All, count_by, range_with_len, sum_by}
-use Rattle.process_api.specs.EntryRecord.{EntryRecord}
+use Rattle.process_api.specs.Order.{EntryRecord}
 use Rattle.process_api.specs.declared.entry.Kind.TheVariants as kind
 use Rattle.scenario_record.specs.Record.{Record}
 use Rattle.streams.specs.declared.fate.Fate.{Fate}
 use Rattle.streams.specs.declared.fate.Fate.TheVariants as link
 use Rattle.steps.specs.Posting.{Posted, ArePosted}
 use Rattle.trace_laws.specs.History.{IsIn}
-use Rattle.trace_laws.specs.ScenarioSetting.{setting_of}
-use Rattle.trace_laws.specs.Setting.{Setting, has_crashed}
+use Rattle.trace_laws.specs.Setting.{setting_of, Setting, has_crashed}
 use Rattle.trace_laws.specs.Step.{kind_of_payload}
 use Rattle.reporting.specs.declared.letter.Letter.{Letter}
 use Rattle.reporting.specs.declared.letter.LetterFate.{LetterFate}

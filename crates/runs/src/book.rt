@@ -1,6 +1,6 @@
 //! The letters of a run, as they are heard of.
 ghost use Rattle.std.specs.Prelude.{◌≡◌, []};
-ghost use Rattle.trace_laws.specs.ScenarioSetting.{setting_of};
+ghost use Rattle.trace_laws.specs.Setting.{setting_of};
 ghost use Rattle.runs.specs.Letters.{due_of, fate_of as fate_for, letter_of as letter_for};
 
 use event_list::{Listener, kind_of_letter};

@@ -1,8 +1,8 @@
 //! The measures of a finished trace.
 ghost use Rattle.std.specs.Prelude.{◌≡◌, All, IfOk};
-ghost use Rattle.trace_laws.specs.ScenarioSetting.{setting_of};
+ghost use Rattle.trace_laws.specs.Setting.{setting_of};
 ghost use Rattle.trace_laws.specs.World.{IsTrace};
-ghost use Rattle.judges.specs.Blame.{SharesSuspicions};
+ghost use Rattle.judges.specs.Out.{SharesSuspicions};
 ghost use Rattle.runs.specs.Grounds.{IsBounded, RestsOnBlame};
 ghost use Rattle.reporting.specs.Measures.{all_measures};
 

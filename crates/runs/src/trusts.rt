@@ -54,8 +54,8 @@ pub struct Trusts {
 }
 
 impl Trusts {
-    ghost use Rattle.process_api.specs.EntryRecord.{EntryRecord};
-    ghost use Rattle.runs.specs.Trusts.{AreTrusts, trusts_of};
+    ghost use Rattle.process_api.specs.Order.{EntryRecord};
+    ghost use Rattle.runs.specs.Finishing.{AreTrusts, trusts_of};
 
     /// Nothing was fed.
     pub(crate) fn open(alloc: Global, scenario: &Scenario) -> Result<Trusts, AllocError>
@@ -100,7 +100,7 @@ impl Trusts {
 }
 
 impl Follower for Trusts {
-    ghost use Rattle.runs.specs.Trusts.{AreTrusts};
+    ghost use Rattle.runs.specs.Finishing.{AreTrusts};
 
     ghost followed = { λ first now told. (n : ℕ) → AreTrusts n [] first → AreTrusts n told now };
 

@@ -24,10 +24,9 @@ unfoldable pub use Rattle.scenario.specs.Drawn.{with_outages}
 pub use Rattle.scenario.specs.Faults.{IsFault, IsValueFault, count, has_integer, integer_in, is_of_pair, item_numbered}
 unfoldable pub use Rattle.scenario.specs.Faults.{IsFoundBy}
 pub use Rattle.scenario.specs.Inside.Outages.{AreOutagesOf}
-pub use Rattle.scenario.specs.Keys.{outages_field}
+pub use Rattle.scenario.specs.Keys.{outages_field, array_key, fields_of_array, numbered, table_of}
 unfoldable pub use Rattle.scenario.specs.Keys.{outage_fields, some_table, top_fields}
 pub use Rattle.scenario.specs.Parts.{AreProcesses, IsProcess, fault_of, field_of, fields_of, link_in, outages_in, tables_in}
-pub use Rattle.scenario.specs.Place.{array_key, fields_of_array, numbered, table_of}
 pub use Rattle.scenario.specs.Ranges.{Subject, array_error, section_error, subject_of}
 pub use Rattle.scenario.specs.Refusals.{Accepts, IsAnswer, IsDocumentOf, Judges, Refuses, first_of, is_memory, key_refusals, number_refusals, outage_refusals, part_refusals, when, when_below}
 unfoldable pub use Rattle.scenario.specs.Refusals.{refusal_of}

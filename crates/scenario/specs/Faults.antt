@@ -11,7 +11,7 @@ use Rattle.scenario.specs.Table.{Field, array_in, is_listed, is_lacking, is_of, 
 use Rattle.scenario.specs.Text.{algorithm_in, processes_of, record_of}
 use Rattle.scenario.specs.Rules.{is_within}
 use Rattle.scenario.specs.Parts.{fields_of}
-use Rattle.scenario.specs.Place.{table_of, fields_at, fields_in, array_key, numbered}
+use Rattle.scenario.specs.Keys.{table_of, fields_at, fields_in, array_key, numbered}
 use Rattle.scenario.specs.Ranges.{Subject, Range, Names, ends_of, allowed_of, subject_of}
 use Rattle.scenario.specs.declared.error.ScenarioError.{ScenarioError}
 use Rattle.scenario.specs.declared.error.ScenarioError.TheVariants as error

@@ -5,8 +5,6 @@ pub mod Drawn
 pub mod Rules
 pub mod Refusals
 pub mod Parts
-pub mod Names
-pub mod Place
 pub mod Ranges
 pub mod Faults
 pub mod Inside

@@ -9,7 +9,7 @@ use Rattle.scenario.specs.Text.{natural_of, kind_in, is_fresh, algorithm_in, wat
 use Rattle.scenario_record.specs.declared.algorithm.AlgorithmKind.{AlgorithmKind}
 use Rattle.scenario_record.specs.declared.link.Link.{Link}
 use Rattle.scenario_record.specs.declared.algorithm.AlgorithmKind.TheVariants as kind
-use Rattle.process_api.specs.Bounds.{most_processes}
+use Rattle.process_api.specs.Place.{most_processes}
 
 -- ---- words
 

@@ -1,6 +1,6 @@
 //! The least pair whose link is below the lookahead.
 ghost use Rattle.std.specs.Prelude.{◌≡◌, ◌≢◌, ◌≤◌, ◌<◌, ◌*◌, ◌==◌, ◌&&◌, not, IsTrue, find, length, IfSome};
-ghost use Rattle.process_api.specs.Bounds.{most_processes};
+ghost use Rattle.process_api.specs.Place.{most_processes};
 ghost use Rattle.scenario.specs.Rules.{pair_below, pairs_from, is_below};
 ghost use Rattle.toml.specs.View.{table_view};
 ghost use Rattle.scenario.specs.Text.{record_of};

@@ -1,6 +1,6 @@
 //! Why a scenario's file is refused.
 ghost use Rattle.std.specs.Prelude.{◌≡◌};
-ghost use Rattle.scenario.specs.Names.{name_of};
+ghost use Rattle.scenario.specs.Refusals.{name_of};
 
 use process_api::Pid;
 use std::alloc::{AllocError, AllocFailed};

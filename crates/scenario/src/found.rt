@@ -5,7 +5,7 @@ ghost use Rattle.toml.specs.View.{table_view};
 ghost use Rattle.scenario.specs.Table.{tables_at};
 ghost use Rattle.scenario.specs.Text.{processes_of};
 ghost use Rattle.scenario.specs.Parts.{tables_in, AreTables};
-ghost use Rattle.scenario.specs.Place.{array_key};
+ghost use Rattle.scenario.specs.Keys.{array_key};
 ghost use Rattle.scenario.specs.Ranges.{array_error, section_error};
 ghost use Rattle.scenario.specs.Faults.{Breaks, Finds};
 

@@ -4,10 +4,9 @@ ghost use Rattle.std.specs.List.{list_any};
 ghost use Rattle.std.specs.Option.{option_map_or};
 ghost use Rattle.toml.specs.View.{table_view};
 ghost use Rattle.scenario.specs.Parts.{fields_of, fault_of, error_of, table_in, tables_in, AreTables};
-ghost use Rattle.scenario.specs.Keys.{some_table, top_fields, detector_fields, share_fields, link_fields, pair_fields, crash_fields, outage_fields};
+ghost use Rattle.scenario.specs.Keys.{some_table, top_fields, detector_fields, share_fields, link_fields, pair_fields, crash_fields, outage_fields, array_key, fields_at, fields_in, fields_of_array, table_of};
 ghost use Rattle.scenario.specs.Table.{tables_at};
 ghost use Rattle.scenario.specs.Refusals.{Judges, first_of, key_refusals};
-ghost use Rattle.scenario.specs.Place.{array_key, fields_at, fields_in, fields_of_array, table_of};
 ghost use Rattle.scenario.specs.Faults.{Breaks, IsFault};
 
 use crate::error::ScenarioError;

@@ -1,6 +1,6 @@
 //! The links.
 ghost use Rattle.std.specs.Prelude.{◌≡◌, ◌≤◌, ◌<◌, ◌+◌, ◌-◌, ◌*◌, codes, map, length, unwrap_or, is_none, IfOk, IfSome};
-ghost use Rattle.process_api.specs.Bounds.{most_processes};
+ghost use Rattle.process_api.specs.Place.{most_processes};
 ghost use Rattle.toml.specs.View.{table_view};
 ghost use Rattle.scenario.specs.Table.{table_or_empty, tables_at};
 ghost use Rattle.scenario.specs.Text.{delays_of, pair_of, record_of};

@@ -1,6 +1,6 @@
 //! The numbers of a scenario's tables.
 ghost use Rattle.std.specs.Prelude.{◌≡◌, ◌≤◌, ◌<◌, ◌^◌, ◌&&◌, nat_le, IsTrue, codes, pos, is_none, IfOk, IfSome};
-ghost use Rattle.process_api.specs.Bounds.{most_processes};
+ghost use Rattle.process_api.specs.Place.{most_processes};
 ghost use Rattle.toml.specs.View.{table_view};
 ghost use Rattle.scenario.specs.Table.{number_or};
 ghost use Rattle.scenario.specs.Text.{number_at, natural_of, processes_of, is_second as second_in};

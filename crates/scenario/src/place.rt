@@ -1,6 +1,6 @@
 //! Where a table stands in a scenario's file.
 ghost use Rattle.std.specs.Prelude.{◌≡◌, ◌<◌, ◌+◌, length, Some};
-ghost use Rattle.scenario.specs.Place.{section_key, array_key};
+ghost use Rattle.scenario.specs.Keys.{section_key, array_key};
 
 use std::fmt;
 use toml::Table;
@@ -81,7 +81,7 @@ impl TableArray {
 }
 
 impl fmt::Display for Place {
-    ghost use Rattle.scenario.specs.Place.{place_text};
+    ghost use Rattle.scenario.specs.Keys.{place_text};
 
     ghost output = { λ p. Some (place_text p) };
 

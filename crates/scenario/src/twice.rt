@@ -4,7 +4,7 @@ ghost use Rattle.toml.specs.Data.{Members};
 ghost use Rattle.toml.specs.View.{table_view};
 ghost use Rattle.scenario.specs.Table.{tables_at};
 ghost use Rattle.scenario.specs.Parts.{tables_in};
-ghost use Rattle.scenario.specs.Place.{array_key};
+ghost use Rattle.scenario.specs.Keys.{array_key};
 ghost use Rattle.scenario.specs.Ranges.{array_error};
 ghost use Rattle.scenario.specs.Faults.{Breaks, is_of_pair as of_pair};
 ghost use Rattle.scenario.specs.declared.error.ScenarioError.{ScenarioError};

@@ -5,7 +5,7 @@ use Rattle.process_api.specs.Detector.{opening_detector, has_pauses}
 use Rattle.process_api.specs.declared.numbers.DetectorNumbers.{DetectorNumbers}
 use Rattle.process_api.specs.declared.numbers.DetectorNumbers.TheVariants as numbers
 use Rattle.process_api.proofs.Minds.{and_true}
-use Rattle.scenario_record.specs.Numbers.{AreInRange}
+use Rattle.scenario_record.specs.Ranges.{AreInRange}
 
 at_least_one : (n : ℕ) → 1 ≤ n → nat_le 1 n ≡ true
 at_least_one n h = grind arith

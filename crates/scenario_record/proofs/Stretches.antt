@@ -8,7 +8,7 @@ use Rattle.std.proofs.lemmas.Bool.{leb-false, ltb-false, ltb-true, lt-ltb, le-lt
 use Rattle.std.proofs.lemmas.List.{map-append, take_more, take_all, length-map, length-take-le, get_or_default, get_or-take, get_or_push}
 use Rattle.std.proofs.lemmas.List.Folds.{list_any_at, list_any_none, list_any_more, list_any-append}
 use Rattle.std.proofs.lemmas.List.Sorted.{IsNonDecreasingBy-push, list_any-IsPermutation}
-use Rattle.scenario_record.specs.Outages.{covers}
+use Rattle.scenario_record.specs.Record.{covers}
 use Rattle.scenario_record.specs.Inside.Stretches.{AreStretchesOf}
 use Rattle.scenario_record.specs.declared.outage.Outage.{Outage}
 

@@ -1,5 +1,5 @@
 -- What a scenario says.
-use Rattle.std.specs.Prelude.{ℕ, ◌+◌, ◌-◌, ◌*◌, List, [], get_or, slice_get, Option, None, option_map, unwrap_or}
+use Rattle.std.specs.Prelude.{ℕ, ◌+◌, ◌-◌, ◌*◌, List, [], get_or, slice_get, Option, None, option_map, unwrap_or, nat_le, nat_lt, Bool, ◌&&◌}
 use Rattle.process_api.specs.Place.{Place}
 use Rattle.process_api.specs.Detector.{opening_detector}
 use Rattle.process_api.specs.Reduction.{opening_reduction}
@@ -73,3 +73,9 @@ module _ (s : Record) where
     };
     algorithm = opening_algorithm p;
   }
+
+-- ---- the ticks of outages
+
+-- the tick is one of the outage: its end isn't
+abbrev pub covers : (tick : ℕ) → Outage → Bool
+covers tick o = nat_le o.begin tick && nat_lt tick o.until

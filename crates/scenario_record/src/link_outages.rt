@@ -2,7 +2,7 @@
 ghost use Rattle.std.specs.Prelude.{◌≡◌, IfOk};
 ghost use Rattle.std.specs.List.{list_any};
 ghost use Rattle.std.specs.List.Sorted.{IsNonDecreasingBy};
-ghost use Rattle.scenario_record.specs.Outages.{covers};
+ghost use Rattle.scenario_record.specs.Record.{covers};
 ghost use Rattle.scenario_record.specs.Inside.Stretches.{AreStretchesOf};
 
 use crate::outage::Outage;

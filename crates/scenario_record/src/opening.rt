@@ -1,8 +1,8 @@
 //! Openings: the settings with which processes open.
 ghost use Rattle.std.specs.Prelude.{◌≡◌, ◌≤◌, not, is_some};
 ghost use Rattle.std.specs.Option.{ForSome};
-ghost use Rattle.process_api.specs.Bounds.{most_processes};
-ghost use Rattle.scenario_record.specs.Numbers.{AreInRange, AreInRange-prop, is_idle};
+ghost use Rattle.process_api.specs.Place.{most_processes};
+ghost use Rattle.scenario_record.specs.Ranges.{AreInRange, AreInRange-prop, is_idle};
 
 use crate::algorithm::AlgorithmKind;
 use process_api::{DetectorNumbers, Pid};

@@ -2,8 +2,7 @@
 ghost use Rattle.std.specs.Prelude.{◌≡◌, ◌≢◌, ◌≤◌, ◌<◌, ◌+◌, ◌-◌, ◌*◌, None};
 ghost use Rattle.scenario_record.specs.Ranges.{IsInRange};
 ghost use Rattle.std.specs.List.{list_any};
-ghost use Rattle.scenario_record.specs.Record.{proposal, crash, link, outages_on, opening_mind};
-ghost use Rattle.scenario_record.specs.Outages.{covers};
+ghost use Rattle.scenario_record.specs.Record.{proposal, crash, link, outages_on, opening_mind, covers};
 ghost use Rattle.scenario_record.specs.Opening.{mind_of};
 
 use crate::algorithm::AlgorithmKind;

@@ -3,7 +3,6 @@ pub use Rattle.std.proofs.Common.{Bor, Err, IfErr, IfSome, List, None, Ok, OnOk,
 pub use Rattle.std.proofs.lemmas.Grind.{common_steps, flat_map-append}
 pub use Rattle.std.proofs.lemmas.List.{length-take, take-append-drop}
 pub use Rattle.std.specs.Io.KnownBytes.{Consumes}
-pub use Rattle.reporting.specs.Writing.{Wrote, WroteNothing, WrotePart}
-pub use Rattle.shell.specs.Ending.{End, Goes, HasStatus, IsWhy, LeftAt, MayHaveGone, Puts, Tells, Went, WentPart, begun, cut, untouched}
-pub use Rattle.shell.specs.Input.{TakesAtMost, most_bytes}
+pub use Rattle.reporting.specs.Outlet.{Wrote, WroteNothing, WrotePart}
+pub use Rattle.shell.specs.Ending.{End, Goes, HasStatus, IsWhy, LeftAt, MayHaveGone, Puts, Tells, Went, WentPart, begun, cut, untouched, TakesAtMost, most_bytes}
 pub use Rattle.shell.specs.Serving.{Ends, GoesForWords, IsAsked, IsOfOrder, IsReason, Serves}

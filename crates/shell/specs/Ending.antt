@@ -1,6 +1,7 @@
 -- What went out of an outlet, and how a run of a program ends.
-use Rattle.std.specs.Prelude.{◌≡◌, ◌⊎◌, ℕ, List, MatchResult, Option, Result}
-use Rattle.reporting.specs.Writing.{WroteNothing, WrotePart, Wrote}
+use Rattle.std.specs.Prelude.{◌≡◌, ◌⊎◌, ℕ, List, MatchResult, Option, Result, ◌≤◌, IfSome, codes, length}
+use Rattle.std.specs.Io.KnownBytes.{Consumes}
+use Rattle.reporting.specs.Outlet.{WroteNothing, WrotePart, Wrote}
 
 -- what a failure leaves of what was to be written: nothing, perhaps what a refused run leaves, or a front part of it
 pub data End : Type 0 where
@@ -60,3 +61,21 @@ module _ {F : Type 0} (status_of : F → ℕ) (line_of : F → List ℕ) where
     pub reason : IsReason failure
     pub status_is : status ≡ status_of failure
     pub line_is : line ≡ line_of failure
+
+-- ---- inputs: how long they may be, and the path of standard input
+
+-- the most bytes that a file may have
+abbrev pub most_bytes : ℕ
+most_bytes = 8388608
+
+-- the path of standard input
+abbrev pub input_path : List ℕ
+input_path = codes "-"
+
+-- the bytes are all that a known input has
+abbrev pub AreAllOf : Option (List ℕ) → List ℕ → Type 0
+AreAllOf input bytes = IfSome input (λ all. bytes ≡ all)
+
+-- at most n bytes of a known input are gone, from its front
+abbrev pub TakesAtMost : ℕ → Option (List ℕ) → Option (List ℕ) → Type 0
+TakesAtMost n old new = (gone : List ℕ) × Consumes old new gone × (length gone ≤ n)

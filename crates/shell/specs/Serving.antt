@@ -1,6 +1,6 @@
 -- A run of a program for its words: they state an order, which is carried out, or they are refused, which is told.
 use Rattle.std.specs.Prelude.{◌≡◌, ◌≢◌, ◌⊎◌, ◌≤◌, ℕ, List, Option, Result}
-use Rattle.reporting.specs.Writing.{WroteNothing}
+use Rattle.reporting.specs.Outlet.{WroteNothing}
 use Rattle.shell.specs.Ending.{End, Goes, IsWhy, MayHaveGone, Tells, Went, WentPart}
 
 module _ {Order : Type 0} (States : Order → Type 0) where

@@ -2,7 +2,7 @@
 ghost use Rattle.std.specs.Prelude.{◌≡◌, ◌⊎◌, ◌+◌, ◌-◌, ◌^◌, ◌<◌, ◌≤◌, IfErr, OnOk};
 ghost use Rattle.std.specs.Io.KnownBytes.{Keeps};
 ghost use Rattle.std.specs.Process.{exit_status};
-ghost use Rattle.reporting.specs.Writing.{WroteNothing};
+ghost use Rattle.reporting.specs.Outlet.{WroteNothing};
 ghost use Rattle.shell.specs.Ending.{Tells};
 
 use crate::failure::{Failure, report};

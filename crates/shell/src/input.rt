@@ -1,7 +1,7 @@
 //! Reading an input to its end.
 ghost use Rattle.std.specs.Prelude.{◌≡◌, ◌≢◌, ◌+◌, ◌≤◌, ◌<◌, IfOk, IfSome, OnOk, length, Err};
 ghost use Rattle.std.specs.Io.KnownBytes.{IsAtEnd};
-ghost use Rattle.shell.specs.Input.{TakesAtMost, most_bytes};
+ghost use Rattle.shell.specs.Ending.{TakesAtMost, most_bytes};
 
 use std::alloc::Global;
 use std::io::Read;

@@ -1,7 +1,7 @@
 //! Reading what a path names.
 ghost use Rattle.std.specs.Prelude.{◌≡◌, ◌≢◌, ◌+◌, ◌≤◌, ◌<◌, IfOk, IfSome, OnOk, length, Err};
 ghost use Rattle.std.specs.Io.KnownBytes.{IsAtEnd};
-ghost use Rattle.shell.specs.Input.{AreAllOf, TakesAtMost, input_path, most_bytes};
+ghost use Rattle.shell.specs.Ending.{AreAllOf, TakesAtMost, input_path, most_bytes};
 
 use crate::input::{InputError, read_all};
 use std::alloc::Global;

@@ -1,7 +1,7 @@
 //! Texts that go out.
 ghost use Rattle.std.specs.Prelude.{◌≡◌, ◌-◌, ◌^◌, ◌<◌, IfErr, OnOk};
 ghost use Rattle.std.specs.List.{flat_map};
-ghost use Rattle.reporting.specs.Writing.{Wrote, WrotePart};
+ghost use Rattle.reporting.specs.Outlet.{Wrote, WrotePart};
 ghost use Rattle.shell.specs.Ending.{Tells};
 
 use crate::failure::Failure;

@@ -3,10 +3,9 @@ use Rattle.std.proofs.Common.{◌≡◌, ◌≤◌, ◌++◌, ℕ, IsTrue, List,
 use Rattle.std.specs.List.{All}
 use Rattle.std.proofs.lemmas.List.Elements.{All-append, All-weaker}
 use Rattle.std.proofs.lemmas.Bool.Decides.{nat_tests}
-use Rattle.process_api.specs.Bounds.{most_first_actions, most_second_actions, most_algorithm_actions, most_step_actions}
+use Rattle.process_api.specs.Place.{most_first_actions, most_second_actions, most_algorithm_actions, most_step_actions, Place, same_place}
 use Rattle.process_api.specs.Sets.{Processes}
-use Rattle.process_api.specs.Place.{Place, same_place}
-use Rattle.process_api.specs.Actions.{IsAllowed}
+use Rattle.process_api.specs.Answer.{IsAllowed}
 use Rattle.process_api.specs.Mind.{Lower, AlgorithmState, Idle, Exchanging, Coordinating, Mind, suspects_of, most_actions, processes_of, stands_at}
 use Rattle.process_api.specs.React.{react_lower, react_algorithm, react}
 use Rattle.process_api.specs.declared.action.Action.{Action}

@@ -2,7 +2,7 @@
 use Rattle.steps.proofs.Words.{◌≡◌, ℕ, zero, suc, ◌-◌, ◌<◌, ◌≤◌, sym, ap, ◌∙◌, subst, List, [], ◌∷◌, inl, inr, Some, arith, slice_get, get_or, map, option_map, cases_lt, get_or_append_left, get_or_push, All, AllByRecursion, Mind, Record, opening_mind, IsMindIn}
 use Rattle.std.proofs.lemmas.List.Elements.{All-from_recursion}
 use Rattle.std.proofs.lemmas.Option.{slice_get-get_or, slice_get-map}
-use Rattle.process_api.specs.Numbers.{numbers_to}
+use Rattle.process_api.specs.Place.{numbers_to}
 use Rattle.process_api.proofs.Lists.{images, numbers_are, weaker}
 pub use Rattle.process_api.proofs.Numbering.{length-numbers_to}
 use Rattle.scenario_record.specs.Ranges.{IsInRange}

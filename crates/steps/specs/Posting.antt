@@ -6,7 +6,7 @@ use Rattle.process_api.specs.declared.key.Key.{Key}
 use Rattle.process_api.specs.declared.message.Payload.{Payload}
 use Rattle.process_api.specs.declared.message.StepInput.{StepInput}
 use Rattle.streams.specs.declared.fate.Fate.{Fate}
-use Rattle.trace_laws.specs.Joins.{HaveJoined}
+use Rattle.trace_laws.specs.Taken.{HaveJoined}
 use Rattle.trace_laws.specs.Setting.{Setting, has_crashed}
 use Rattle.trace_laws.specs.Step.{Process, counted}
 use Rattle.trace_laws.specs.World.{World, Pair, Run, opening, taken}

@@ -1,6 +1,6 @@
 -- Machines with their link counts, as processes.
 use Rattle.std.specs.Prelude.{◌≡◌, ℕ, ◌+◌, ◌≤◌, List, length, slice_index_or, IsTrue}
-use Rattle.process_api.specs.Bounds.{most_step_actions}
+use Rattle.process_api.specs.Place.{most_step_actions}
 use Rattle.process_api.specs.Mind.{Mind, is_mind_at}
 use Rattle.scenario_record.specs.Record.{Record, crash, place_in}
 use Rattle.trace_laws.specs.Step.{Process}

@@ -1,10 +1,10 @@
 //! The letters that a process puts on its links.
 ghost use Rattle.std.specs.Prelude.{◌≡◌, ◌≢◌, ◌≤◌, ◌<◌, ◌+◌, ◌^◌, ◌++◌, ◌∷◌, [], ℕ, IfNone, IfOk, IfSome, OnOk, length, replicate, vec_len, vec_capacity};
 ghost use Rattle.std.specs.List.{AllByRecursion};
-ghost use Rattle.process_api.specs.Actions.{IsAllowed};
-ghost use Rattle.process_api.specs.Bounds.{most_step_actions};
+ghost use Rattle.process_api.specs.Answer.{IsAllowed};
+ghost use Rattle.process_api.specs.Place.{most_step_actions};
 ghost use Rattle.streams.specs.Fate.{fate_of};
-ghost use Rattle.trace_laws.specs.Joins.{HaveJoined, Serves, StillServes};
+ghost use Rattle.trace_laws.specs.Taken.{HaveJoined, Serves, StillServes};
 ghost use Rattle.steps.specs.Posting.{posting, posted_by};
 ghost use Rattle.steps.specs.Inside.Links.{later, wake_key, in_step, with_action, entry_of};
 ghost use Rattle.steps.specs.Seat.{count_of};

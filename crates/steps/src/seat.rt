@@ -1,10 +1,9 @@
 //! One step of one process.
 ghost use Rattle.std.specs.Prelude.{◌≡◌, ◌≤◌, ◌<◌, ◌+◌, ◌^◌, ℕ, IfOk, OnOk};
-ghost use Rattle.process_api.specs.Bounds.{most_step_actions};
-ghost use Rattle.trace_laws.specs.Joins.{HaveJoined, Serves, StillServes};
+ghost use Rattle.process_api.specs.Place.{most_step_actions};
+ghost use Rattle.trace_laws.specs.Taken.{HaveJoined, Serves, StillServes};
 ghost use Rattle.steps.specs.Posting.{posted_in};
-ghost use Rattle.trace_laws.specs.ScenarioSetting.{setting_of};
-ghost use Rattle.trace_laws.specs.Setting.{has_crashed};
+ghost use Rattle.trace_laws.specs.Setting.{setting_of, has_crashed};
 ghost use Rattle.trace_laws.specs.Step.{kind_of as kind_for, kind_of_payload, step};
 
 use crate::links::Links;

@@ -3,7 +3,7 @@ use Rattle.std.proofs.Common.{◌≡◌, ◌<◌, ◌≤◌, ◌+◌, ◌*◌, �
 use Rattle.std.proofs.lemmas.Bool.{cases_eq, cases_lt}
 use Rattle.std.proofs.lemmas.List.{get_or-set_same, get_or-set_other, get_or-replicate, get_or_past, length-replicate}
 use Rattle.std.proofs.lemmas.Nat.{mod-mul-add}
-use Rattle.streams.specs.Words.{IsDrawn, none}
+use Rattle.streams.specs.Fate.{IsDrawn, none}
 use Rattle.streams.specs.declared.kept.Drawn.{Drawn}
 
 -- each is of a letter to the receiver at its place

@@ -1,6 +1,6 @@
 //! Words of letters that are at hand.
 ghost use Rattle.std.specs.Prelude.{◌≡◌, ◌<◌, ◌+◌, ◌*◌, ℕ, IfOk, MatchOption, ⊤};
-ghost use Rattle.streams.specs.Words.{AreDrawn, Fits, IsDrawn};
+ghost use Rattle.streams.specs.Fate.{AreDrawn, Fits, IsDrawn};
 
 use process_api::Pid;
 use std::alloc::{AllocError, Global};

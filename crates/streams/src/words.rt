@@ -1,7 +1,6 @@
 //! Random words of a sender's links.
 ghost use Rattle.std.specs.Prelude.{◌≡◌, ◌≤◌, ◌<◌, ◌+◌, ◌-◌, ◌*◌, ◌^◌, ℕ, IfOk, MatchOption, ⊤};
-ghost use Rattle.streams.specs.Fate.{key_of_seed, stream_of, word};
-ghost use Rattle.streams.specs.Words.{AreDrawn, AreWordsOf, Fits, IsBefore, stands_at};
+ghost use Rattle.streams.specs.Fate.{key_of_seed, stream_of, word, AreDrawn, AreWordsOf, Fits, IsBefore, stands_at};
 
 use crate::kept::{Drawn, Kept, LETTERS};
 use process_api::Pid;
@@ -24,7 +23,7 @@ pub struct SenderWords {
 
 impl Model for SenderWords {
     ghost use Rattle.std.specs.Prelude.{ℕ};
-    ghost use Rattle.streams.specs.Words.{AreDrawn, Fits};
+    ghost use Rattle.streams.specs.Fate.{AreDrawn, Fits};
 
     ghost Value = { ℕ × ℕ };
 

@@ -30,8 +30,7 @@ pub use Rattle.toml.specs.View.{items_view, members_view, table_view, view}
 pub use Rattle.toml.specs.declared.value.Value.{Value}
 pub use Rattle.study.specs.AxisWords.{IsFault, entries_said, range_by, range_of}
 unfoldable pub use Rattle.study.specs.AxisWords.{first_fault}
-pub use Rattle.study.specs.Combinations.{combinations}
-pub use Rattle.study.specs.Grid.{AreDealtEvenly, GridRecord, HaveOwnSeeds, Refusal, RunRecord, all_keys, deal_refusal, dealt_to, first_again, keys_of, meets, paths_of, runs, runs_with, told, uneven}
+pub use Rattle.study.specs.Grid.{combinations, AreDealtEvenly, GridRecord, HaveOwnSeeds, Refusal, RunRecord, all_keys, deal_refusal, dealt_to, first_again, keys_of, meets, paths_of, runs, runs_with, told, uneven}
 pub use Rattle.study.specs.KeyWords.{SayNoKeys, SaysKey, SaysNoKey}
 pub use Rattle.study.specs.Laid.{CantBeLaid, HasValues, IsLaidBy, StaysAsItIs, above, drawn_in, file_over, has_sources, horizon_of, is_laid, laid_in, lay_links, listed, older, refused, seed_of, too_many, values_in}
 unfoldable pub use Rattle.study.specs.Laid.{with_rows, with_tables}

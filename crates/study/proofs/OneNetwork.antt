@@ -1,10 +1,8 @@
 -- A network file stands for one network: what is laid and what is drawn are one.
 use Rattle.study.proofs.Basics.{◌≡◌, ℕ, zero, suc, ◌+◌, ◌-◌, ◌*◌, ◌/◌, ◌%◌, min, List, [], ◌∷◌, ◌++◌, map, filter, length, slice_index, nat_lt, true, false, refl, sym, ◌∙◌, ap, AllZip, flat_map, range_with_len, take_while, enumerate_from, Members, on_each, of_each, of_burst, of_cut, of_pause, of_replay, drawn_of, LinkOutage}
-use Rattle.network.specs.Groups.{holds, links_between, links_of, only}
+use Rattle.network.specs.Laid.{holds, links_between, links_of, only}
 use Rattle.network.specs.Words.{Words, after, place_of, stream_number, stream_of, words_of}
-use Rattle.network.specs.Spells.{ticks_of, words_taken, first_ticks_of, first_words_taken, geometric, digits_drawn}
-use Rattle.network.specs.Episodes.{Coming, cut_at, coming, episodes}
-use Rattle.network.specs.Replays.{replayed, replayed_in}
+use Rattle.network.specs.Drawn.{ticks_of, words_taken, first_ticks_of, first_words_taken, geometric, digits_drawn, Coming, cut_at, coming, episodes, replayed, replayed_in}
 use Rattle.network.specs.Reading.{Said, ticks, values, mean, said_of, SaysLink, SaysBurst, SaysCut, SaysPause, SaysReplay, SaysNetwork}
 use Rattle.network.specs.declared.group.Group.TheVariants.{All}
 use Rattle.network.specs.declared.kind.Kind.TheVariants as kind

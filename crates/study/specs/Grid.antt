@@ -1,14 +1,19 @@
--- A grid of settings: its points, and the runs of a point.
+-- A grid of settings: its points, and the runs of a point. All combinations of choices.
 use Rattle.std.specs.Prelude.{◌≡◌, ℕ, ◌+◌, ◌-◌, ◌*◌, ◌%◌, ◌<◌, ◌^◌, ◌==◌, min, nat_lt, nat_le, List, [], ◌∷◌, ◌++◌, map, length, get_or, Bool, true, false, ◌&&◌, Option, Some, None, option_map, if◌then◌else◌, string_bytes}
 use Rattle.std.specs.List.{flat_map, range_with_len, list_any, count_by}
 use Rattle.std.specs.Option.{option_or}
 use Rattle.scenario.specs.Table.{same_text}
-use Rattle.study.specs.Combinations.{combinations}
 use Rattle.study.specs.Settings.{FilePath, top, inner, element, every, Path, scenario, network, path_of, key_text, Chosen, choices, chosen}
 use Rattle.study.specs.declared.axis.Axis.{Axis}
 use Rattle.study.specs.declared.run.Run.{Run}
 use Rattle.study.specs.declared.error.GridError.{GridError}
 use Rattle.study.specs.declared.error.GridError.TheVariants as error
+
+-- one choice of each list, in all ways, in order, each with what its choices hold, one after the other: the last list's
+-- choice changes fastest
+abbrev pub combinations : {X : Type 0} → List (List (List X)) → List (List X)
+combinations [] = [] ∷ []
+combinations (xs ∷ rest) = flat_map (λ x. map (λ others. x ++ others) (combinations rest)) xs
 
 pub record GridRecord : Type 0 where
   -- for each varied axis its choices

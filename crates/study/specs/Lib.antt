@@ -1,15 +1,11 @@
 pub mod Shard
-pub mod Combinations
 pub mod Settings
 pub mod Sources
 pub mod Grid
 pub mod Placed
 pub mod Reading
 pub mod Laid
-pub mod Runs
 pub mod Words
 pub mod KeyWords
 pub mod AxisWords
 pub mod SetWords
-pub mod SeedWords
-pub mod ShardWords

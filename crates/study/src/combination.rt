@@ -1,8 +1,7 @@
 //! Combinations of choices, counted and picked by their numbers.
 ghost use Rattle.std.specs.Prelude.{◌≡◌, ◌≤◌, ◌<◌, ◌++◌, [], length, map, get_or, OnOk};
-ghost use Rattle.study.specs.Combinations.{combinations};
+ghost use Rattle.study.specs.Grid.{combinations, told};
 ghost use Rattle.study.specs.Settings.{choices, chosen, path_of, given_by, set_to};
-ghost use Rattle.study.specs.Grid.{told};
 
 use crate::axis::{Axis, Choice};
 use crate::key::Key;

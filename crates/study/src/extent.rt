@@ -1,6 +1,6 @@
 //! How far a run goes.
 ghost use Rattle.std.specs.Prelude.{◌≤◌};
-ghost use Rattle.process_api.specs.Bounds.{most_processes};
+ghost use Rattle.process_api.specs.Place.{most_processes};
 
 /// How far a run goes: what of it a network's draws depend on.
 #[derive(Clone, Copy)]

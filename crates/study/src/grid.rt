@@ -27,7 +27,7 @@ pub struct Grid {
 
 impl Model for Grid {
     ghost use Rattle.std.specs.Prelude.{◌≡◌, ◌<◌, ◌≤◌, ◌+◌, ◌*◌, ◌%◌, ◌^◌, map, length};
-    ghost use Rattle.study.specs.Combinations.{combinations};
+    ghost use Rattle.study.specs.Grid.{combinations};
     ghost use Rattle.study.specs.Settings.{choices};
     ghost use Rattle.study.specs.Grid.{GridRecord};
 

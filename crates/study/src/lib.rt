@@ -12,7 +12,7 @@
 //! others, and what the run's seed draws as outages (`specs/Laid.antt`). [`scenario_text`] writes that table as a file,
 //! and [`read_alone`] reads the files as they stand. Keys, axes, assignments, [`Seeds`] and shards are read from
 //! arguments of a command line by their `parse` (`specs/KeyWords.antt`, `specs/AxisWords.antt`, `specs/SetWords.antt`,
-//! `specs/SeedWords.antt`, `specs/ShardWords.antt`).
+//! `specs/Words.antt`).
 #![tactic(auto)]
 
 mod assignment;

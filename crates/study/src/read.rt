@@ -5,7 +5,7 @@ ghost use Rattle.study.specs.Settings.{chosen};
 ghost use Rattle.study.specs.Sources.{sources_of};
 ghost use Rattle.study.specs.Grid.{run_of};
 ghost use Rattle.study.specs.Placed.{sources_of_run, IsRefused, is_memory as is_place_memory};
-ghost use Rattle.study.specs.Runs.{IsRunTable, HasNoTable, IsScenarioOf, IsRefusedFor, is_memory};
+ghost use Rattle.study.specs.Laid.{IsRunTable, HasNoTable, IsScenarioOf, IsRefusedFor, is_memory};
 
 use crate::axis::Choice;
 use crate::error::{PlaceError, ReadError};

@@ -1,6 +1,6 @@
 //! Shards, as arguments of a command line.
 ghost use Rattle.std.specs.Prelude.{◌≡◌, None, Some, IfOk, IfErr};
-ghost use Rattle.study.specs.ShardWords.{shard_said, shard_fault};
+ghost use Rattle.study.specs.Words.{shard_said, shard_fault};
 
 use crate::error::ShardError;
 use crate::shard::Shard;

@@ -4,7 +4,7 @@ ghost use Rattle.study.specs.Settings.{chosen};
 ghost use Rattle.study.specs.Sources.{sources_of};
 ghost use Rattle.study.specs.Grid.{run_of};
 ghost use Rattle.study.specs.Placed.{sources_of_run};
-ghost use Rattle.study.specs.Runs.{IsRunText, HasNoText, is_text_memory};
+ghost use Rattle.study.specs.Laid.{IsRunText, HasNoText, is_text_memory};
 
 use crate::axis::Choice;
 use crate::error::{PlaceError, TextError};

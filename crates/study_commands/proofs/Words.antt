@@ -12,7 +12,7 @@ pub use Rattle.std.specs.declared.alloc.AllocError.{AllocError}
 pub use Rattle.std.specs.declared.alloc.Global.{Global}
 pub use Rattle.diagnosis.specs.Diagnosis.{AcceptsAs, AcceptsTableAs, Describes, RefusesTableFor, entries_in, longest_window}
 pub use Rattle.promised.specs.Promised.{promised}
-pub use Rattle.reporting.specs.Writing.{Wrote, WroteNothing, WrotePart}
+pub use Rattle.reporting.specs.Outlet.{Wrote, WroteNothing, WrotePart}
 pub use Rattle.scenario.proofs.Elements.{contains_image}
 pub use Rattle.scenario.specs.Refusals.{Accepts, IsDocumentOf}
 pub use Rattle.scenario.specs.Text.{pair_of, record_of, same_pair}
@@ -33,10 +33,9 @@ pub use Rattle.sweep.specs.StudyText.{IsTextOf, numbers_of, point_at, units_of}
 pub use Rattle.toml.specs.Data.{Data, Items, Members, array, as_array, as_table, get_member}
 pub use Rattle.toml.specs.View.{items_view, table_view, view}
 pub use Rattle.toml.specs.declared.value.Value.{Value}
-pub use Rattle.trace_laws.specs.Joins.{HaveJoined}
+pub use Rattle.trace_laws.specs.Taken.{HaveJoined}
 pub use Rattle.study_commands.specs.Answer.{Answers, GoesFor, IsNoSweep, Leaves, Writes}
-pub use Rattle.study_commands.specs.BoundsText.{bounds_text}
-pub use Rattle.study_commands.specs.Check.{accepted_line, accepted_text, study_begin}
+pub use Rattle.study_commands.specs.Check.{bounds_text, accepted_line, accepted_text, study_begin}
 pub use Rattle.study_commands.specs.Draw.{IsOfPicture, process_said}
 pub use Rattle.study_commands.specs.Fault.{IsBefore, IsOfWordsFor, IsRefusal, end_of, line_of, status_of}
 pub use Rattle.study_commands.specs.File.{AreBytes, AreFiles, AreSet, AreSources, IsOwnScenario, IsScenario, IsTable, MayBeTable, NameInputTwice, is_alone, network_path, no_axes, set_words}

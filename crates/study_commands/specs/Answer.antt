@@ -1,17 +1,54 @@
--- What an order is answered with.
-use Rattle.std.specs.Prelude.{ℕ, List, Option, None, Some, Result}
+-- What an order is answered with. What `letters` answers. What `show` answers.
+use Rattle.std.specs.Prelude.{ℕ, List, Option, None, Some, Result, ◌≡◌, ◌+◌, ◌<◌, ◌≤◌, length}
+use Rattle.scenario_record.specs.Record.{Record}
+use Rattle.study.specs.Sources.{SourcesRecord}
+use Rattle.study.specs.Grid.{GridRecord, points, runs}
+use Rattle.study.specs.Placed.{sources_of_run}
+use Rattle.study.specs.Laid.{IsRunText}
 use Rattle.study_commands.specs.Check.{IsCheckAnswer, IsStudyCheck}
 use Rattle.study_commands.specs.Draw.{IsDrawAnswer}
 use Rattle.study_commands.specs.Fault.{end_of}
-use Rattle.study_commands.specs.Letters.{IsLettersAnswer}
-use Rattle.study_commands.specs.Show.{IsShowAnswer}
 use Rattle.study_commands.specs.Sweep.{IsSweepAnswer, IsSweepFront}
 use Rattle.study_commands.specs.declared.fault.Fault.{Fault}
-use Rattle.shell.specs.Ending.{Goes}
+use Rattle.shell.specs.Ending.{Goes, most_bytes}
 use Rattle.study_line.specs.declared.order.Order.{Order}
 use Rattle.study_line.specs.declared.order.Order.TheVariants as order
 use Rattle.study_line.specs.declared.order.SourceTexts.{SourceTexts}
 use Rattle.study_line.specs.declared.order.StudyTexts.{StudyTexts}
+use Rattle.study_line.specs.declared.order.GridTexts.{GridTexts}
+use Rattle.reporting.specs.LettersText.{letters_text}
+use Rattle.reporting.specs.declared.letter.Letter.{Letter}
+use Rattle.runs.specs.Letters.{AreLetters}
+use Rattle.sweep.specs.StudyText.{point_at, run_at}
+use Rattle.study_commands.specs.File.{IsScenario, AreSources}
+use Rattle.study_commands.specs.Study.{IsGrid}
+
+-- a number that counts from 1 has this place, counted from 0, among so many
+pub record IsPlace (number count place : ℕ) : Type 0 where
+  pub number_is : number ≡ place + 1
+  pub is_low : place < count
+
+-- the piece is the text of the run, one of the point's, which is one of the study's, and can be a file's
+pub record IsShowAnswer (input : Option (List ℕ)) (texts : SourceTexts) (words : GridTexts) (point run : ℕ)
+    (piece : List ℕ) : Type 0 where
+  pub grid : GridRecord
+  pub is_grid : IsGrid words grid
+  pub sources : SourcesRecord
+  pub are_sources : AreSources input texts grid sources
+  pub point_place : ℕ
+  pub is_point : IsPlace point (length (points grid)) point_place
+  pub run_place : ℕ
+  pub is_run : IsPlace run (length (runs grid)) run_place
+  pub text : IsRunText (sources_of_run (point_at grid point_place) (run_at grid run_place) sources) piece
+  pub is_short : length piece ≤ most_bytes
+
+-- the piece is the text of the letters of the run of the files' scenario
+pub record IsLettersAnswer (input : Option (List ℕ)) (texts : SourceTexts) (piece : List ℕ) : Type 0 where
+  pub scenario : Record
+  pub is_scenario : IsScenario input texts scenario
+  pub letters : List Letter
+  pub are_letters : AreLetters scenario letters
+  pub text : piece ≡ letters_text letters
 
 -- the piece is what a check says, of the files or of a study over them
 abbrev pub IsChecked : Option (List ℕ) → SourceTexts → Option StudyTexts → List ℕ → Type 0

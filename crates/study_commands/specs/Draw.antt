@@ -2,24 +2,22 @@
 use Rattle.std.specs.Prelude.{◌≡◌, ◌⊎◌, ℕ, ◌-◌, List, [], ◌++◌, map, nat_le, ◌&&◌, Contains, Option, None, Some, String, codes, decimal, if◌then◌else◌, option_map, unwrap_or}
 use Rattle.std.specs.declared.alloc.Global.{Global}
 use Rattle.printable.specs.Printable.{printable}
-use Rattle.process_api.specs.Bounds.{most_processes}
+use Rattle.process_api.specs.Place.{most_processes}
 use Rattle.study.specs.Words.{Word, between, is_natural, natural}
-use Rattle.drawing.specs.LettersPicture.{DrawsLetters}
-use Rattle.drawing.specs.Refusals.{IsMemory, letters_refusal, refusal}
+use Rattle.drawing.specs.LettersPicture.{DrawsLetters, IsMemory, letters_refusal, refusal}
 use Rattle.drawing.specs.Suspicions.{DrawsSuspicions}
 use Rattle.drawing.specs.declared.error.DrawError.{DrawError}
 use Rattle.drawing.specs.declared.error.DrawError.TheVariants as picture_error
-use Rattle.trace_laws.specs.ScenarioSetting.{setting_of}
+use Rattle.trace_laws.specs.Setting.{setting_of}
 use Rattle.trace_laws.specs.World.{IsTrace}
 use Rattle.study_commands.specs.File.{IsScenario, no_axes}
-use Rattle.study_commands.specs.Refusal.{IsOfFile, Says, line_with}
-use Rattle.study_commands.specs.Runs.{IsTooLong}
+use Rattle.study_commands.specs.Refusal.{IsOfFile, Says, line_with, IsTooLong}
 use Rattle.study_commands.specs.WordRefusals.{SaysNoSources}
 use Rattle.study_commands.specs.declared.fault.Fault.{Fault}
 use Rattle.study_commands.specs.declared.fault.Fault.TheVariants.{Limit, Memory, NotDrawn, Words, WordsMemory, Write}
 use Rattle.runs.specs.Letters.{AreLetters}
 use Rattle.reporting.specs.declared.letter.Letter.{Letter}
-use Rattle.process_api.specs.EntryRecord.{EntryRecord}
+use Rattle.process_api.specs.Order.{EntryRecord}
 use Rattle.scenario_record.specs.Record.{Record}
 use Rattle.study_line.specs.declared.order.Picture.{Picture}
 use Rattle.study_line.specs.declared.order.Picture.TheVariants as picture

@@ -4,10 +4,10 @@ use Rattle.std.specs.List.{AllZip}
 use Rattle.toml.specs.Data.{Members}
 use Rattle.scenario_record.specs.Record.{Record}
 use Rattle.scenario.specs.Refusals.{Accepts, IsDocumentOf}
-use Rattle.shell.specs.Input.{AreAllOf, input_path, most_bytes}
+use Rattle.shell.specs.Ending.{AreAllOf, input_path, most_bytes}
 use Rattle.study.specs.Grid.{GridRecord, grid_of, set_twice}
 use Rattle.study.specs.Placed.{assign_all}
-use Rattle.study.specs.Runs.{IsScenarioOf}
+use Rattle.study.specs.Laid.{IsScenarioOf}
 use Rattle.study.specs.SetWords.{SaysAssignment}
 use Rattle.study.specs.Settings.{Path, path_of}
 use Rattle.study.specs.Sources.{SourcesRecord}

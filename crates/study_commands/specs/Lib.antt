@@ -3,16 +3,11 @@ pub mod File
 pub mod Study
 pub mod Refusal
 pub mod WordRefusals
-pub mod Runs
 pub mod Warnings
 pub mod WarningText
-pub mod BoundsText
 pub mod Check
-pub mod Letters
 pub mod Draw
-pub mod Show
 pub mod Sweep
-pub mod Told
 pub mod Why
 pub mod Answer
 pub mod Serve

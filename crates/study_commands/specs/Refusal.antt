@@ -5,22 +5,28 @@ use Rattle.diagnosis.specs.Diagnosis.{RefusesFor}
 use Rattle.diagnosis.specs.Text.{refused_text}
 use Rattle.diagnosis.specs.declared.answer.Refused.{Refused as Diagnosed}
 use Rattle.printable.specs.Printable.{printable}
-use Rattle.study_commands.specs.File.{AreBytes, AreFiles, AreSources, is_alone, network_path, no_axes, set_words}
+use Rattle.study_commands.specs.File.{AreBytes, AreFiles, AreSources, is_alone, network_path, no_axes, set_words, IsScenario}
 use Rattle.study_commands.specs.WordRefusals.{SaysNoSources}
 use Rattle.study_commands.specs.declared.fault.Fault.{Fault}
-use Rattle.study_commands.specs.declared.fault.Fault.TheVariants.{Memory, Refused, Words, WordsMemory}
+use Rattle.study_commands.specs.declared.fault.Fault.TheVariants.{Memory, Refused, Words, WordsMemory, Limit, Write}
 use Rattle.scenario.specs.Refusals.{IsDocumentOf}
 use Rattle.std.specs.List.{AllZip}
+use Rattle.process_api.specs.Order.{EntryRecord}
+use Rattle.process_api.specs.declared.run_error.RunError.{RunError}
+use Rattle.process_api.specs.declared.run_error.RunError.TheVariants as error
+use Rattle.scenario_record.specs.Record.{Record}
 use Rattle.study.specs.Grid.{GridRecord}
 use Rattle.study.specs.Placed.{assign_all, is_memory as is_place_memory}
-use Rattle.study.specs.Runs.{IsRefusedFor, is_memory}
+use Rattle.study.specs.Laid.{IsRefusedFor, is_memory}
 use Rattle.study.specs.SetWords.{SaysAssignment}
 use Rattle.study.specs.Sources.{SourcesRecord}
 use Rattle.study.specs.declared.assignment.Assignment.{Assignment}
 use Rattle.study.specs.declared.error.PlaceError.{PlaceError}
 use Rattle.study.specs.declared.error.ReadError.{ReadError}
 use Rattle.study_line.specs.declared.order.SourceTexts.{SourceTexts}
-use Rattle.shell.specs.Input.{input_path, most_bytes}
+use Rattle.trace_laws.specs.Setting.{setting_of}
+use Rattle.trace_laws.specs.World.{IsTrace}
+use Rattle.shell.specs.Ending.{input_path, most_bytes}
 
 -- the line, where there was memory for one
 abbrev pub Says : Option (String Global) → List ℕ → Type 0
@@ -185,3 +191,27 @@ module _ (input : Option (List ℕ)) where
     IsOfFile (Refused line) = AreRefused line
     IsOfFile Memory = Unit {0}
     IsOfFile _ = ⊥
+
+-- ---- runs of the files' scenario that are refused
+
+-- a run by the event list is refused for its limit, or because memory was refused
+abbrev pub fault_of_run : RunError → Fault
+fault_of_run error.Limit = Limit
+fault_of_run _ = Memory
+
+-- the scenario's trace has more entries than its limit
+abbrev pub IsTooLong : Record → Type 0
+IsTooLong s = (trace : List EntryRecord) → IsTrace (setting_of s) trace → s.limit < length trace
+
+-- the fault is that of a run of the scenario: for the limit only where the trace is longer
+abbrev pub IsOfRun : Record → Fault → Type 0
+IsOfRun s Limit = IsTooLong s
+IsOfRun s Memory = Unit {0}
+IsOfRun s _ = ⊥
+
+-- `letters` stops for its words, for its files, for a run of its scenario that is longer than the limit, because memory
+-- was refused, or at a failed write
+abbrev pub StopsLetters : Option (List ℕ) → SourceTexts → Fault → Type 0
+StopsLetters input texts Limit = (s : Record) × IsScenario input texts s × IsTooLong s
+StopsLetters input texts Write = Unit {0}
+StopsLetters input texts fault = IsOfFile input texts fault

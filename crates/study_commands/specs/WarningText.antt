@@ -1,5 +1,5 @@
 -- Lines of warnings, and who is told them.
-use Rattle.std.specs.Prelude.{ℕ, ◌+◌, codes, decimal, List, [], ◌∷◌, ◌++◌, map, length, option_map, option_to_list}
+use Rattle.std.specs.Prelude.{ℕ, ◌+◌, codes, decimal, List, [], ◌∷◌, ◌++◌, map, length, option_map, option_to_list, ◌≡◌, ◌⊎◌, Option, None, Some}
 use Rattle.std.specs.List.{AllZip}
 use Rattle.printable.specs.Printable.{printable}
 use Rattle.scenario_record.specs.Record.{Record}
@@ -12,7 +12,16 @@ use Rattle.study_commands.specs.declared.late.Late.{Late}
 use Rattle.study_commands.specs.declared.spread.Spread.{Spread}
 use Rattle.sweep.specs.StudyText.{numbers_of, point_at}
 use Rattle.toml.specs.Data.{Members}
-use Rattle.trace_laws.specs.Joins.{HaveJoined}
+use Rattle.study_line.specs.Order.{AsksHelp, AsksVersion, States}
+use Rattle.study_line.specs.declared.order.Order.{Order}
+use Rattle.study_line.specs.declared.order.Order.TheVariants as order
+use Rattle.study_line.specs.declared.order.SourceTexts.{SourceTexts}
+use Rattle.study_line.specs.declared.order.StudyTexts.{StudyTexts}
+use Rattle.trace_laws.specs.Taken.{HaveJoined}
+use Rattle.sweep.specs.Layout.{LayoutRecord}
+use Rattle.sweep.specs.Outcome.{HeardLimits}
+use Rattle.study_commands.specs.File.{IsScenario}
+use Rattle.study_commands.specs.Sweep.{IsSaid}
 
 -- a key and what it is set to, after this
 abbrev pub choice_text : (before : List ℕ) → Chosen → List ℕ
@@ -80,3 +89,59 @@ module _ {W : Type 0} (warned : W → List (List ℕ) → W → Type 0) (old new
     pub each : AllZip (IsFirst sources g) (numbers_of g shard) tables
     pub told : HaveJoined warned old new (map (warning_line g (length (numbers_of g shard)))
         (warnings (numbers_of g shard) tables sources g))
+
+-- ---- what a watcher is told in lines
+
+-- a watcher is told of the scenario of the files, and of nothing else
+pub record IsToldOfFile {W : Type 0} (warned : W → List (List ℕ) → W → Type 0) (old new : W)
+    (input : Option (List ℕ)) (texts : SourceTexts) : Type 0 where
+  pub scenario : Record
+  pub is_scenario : IsScenario input texts scenario
+  pub told : IsWarnedOf warned old new scenario
+
+module _ {W : Type 0} (heard : W → List (ℕ × ℕ) → W → Type 0) (warned : W → List (List ℕ) → W → Type 0) where
+  -- it hears of no limit, and is told of the study then
+  pub record IsToldAfterReading (old new : W) (sources : SourcesRecord) (g : GridRecord) (shard : ShardRecord)
+      : Type 0 where
+    pub read : W
+    pub reading : HaveJoined heard old read []
+    pub told : IsWarnedOfStudy warned read new sources g shard
+
+  module _ (old new : W) (input : Option (List ℕ)) (texts : SourceTexts) where
+    module _ (study : StudyTexts) where
+      -- of the study that words say of the files
+      pub record IsToldOfCheck : Type 0 where
+        pub sources : SourcesRecord
+        pub grid : GridRecord
+        pub shard : ShardRecord
+        pub layout : LayoutRecord
+        pub said : IsSaid input texts study sources grid shard layout
+        pub told : IsToldAfterReading old new sources grid shard
+
+      -- and where it is swept it hears after that of each point of which runs passed their limit
+      pub record IsToldOfSweep : Type 0 where
+        pub sources : SourcesRecord
+        pub grid : GridRecord
+        pub shard : ShardRecord
+        pub layout : LayoutRecord
+        pub said : IsSaid input texts study sources grid shard layout
+        pub begun : W
+        pub told : IsToldAfterReading old begun sources grid shard
+        pub running : HeardLimits heard begun new sources grid (numbers_of grid shard)
+
+    abbrev pub IsToldOfChecked : Option StudyTexts → Type 0
+    IsToldOfChecked None = IsToldOfFile warned old new input texts
+    IsToldOfChecked (Some study) = IsToldOfCheck study
+
+  module _ (old new : W) (input : Option (List ℕ)) where
+    -- what it hears and is told for an order: of `letters`, `draw` and `show` nothing
+    abbrev pub IsTold : Order → Type 0
+    IsTold (order.Check texts study) = IsToldOfChecked old new input texts study
+    IsTold (order.Sweep texts study) = IsToldOfSweep old new input texts study
+    IsTold _ = new ≡ old
+
+    -- and for words: where they ask for help or for the version nothing
+    abbrev pub IsToldFor : (words : List (List ℕ)) → Type 0
+    IsToldFor words =
+        ((asked : Order) × States words asked × IsTold asked)
+        ⊎ ((AsksHelp words ⊎ AsksVersion words) × (new ≡ old))

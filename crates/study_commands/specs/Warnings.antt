@@ -11,7 +11,7 @@ use Rattle.scenario.specs.Text.{pair_of, processes_of, record_of, same_pair}
 use Rattle.scenario_record.specs.Record.{Record}
 use Rattle.study.specs.Grid.{GridRecord, all_keys}
 use Rattle.study.specs.Placed.{sources_of_run}
-use Rattle.study.specs.Runs.{IsRunTable}
+use Rattle.study.specs.Laid.{IsRunTable}
 use Rattle.study.specs.Settings.{Chosen, FilePath, Given, Path, element, every, inner, number, scenario}
 use Rattle.study.specs.Sources.{SourcesRecord}
 use Rattle.study_commands.specs.declared.found.Found.{Found}

@@ -3,17 +3,16 @@ use Rattle.std.specs.Prelude.{◌≡◌, ◌⊎◌, ◌<◌, ℕ, List, length, 
 use Rattle.std.specs.declared.alloc.Global.{Global}
 use Rattle.study_commands.specs.Draw.{StopsPicture}
 use Rattle.study_commands.specs.File.{AreSources}
-use Rattle.study_commands.specs.Refusal.{AreNoSources, IsOfFile}
-use Rattle.study_commands.specs.Runs.{StopsLetters}
-use Rattle.study_commands.specs.Show.{IsPlace}
+use Rattle.study_commands.specs.Refusal.{AreNoSources, IsOfFile, StopsLetters}
+use Rattle.study_commands.specs.Answer.{IsPlace}
 use Rattle.study_commands.specs.Study.{IsGrid, IsLayout, IsShardOf, columns_word, pairs_words, shard_word}
 use Rattle.study_commands.specs.WordRefusals.{IsOutside, SaysNoGrid, SaysNoLayout, SaysNoShard, SaysNoSources}
 use Rattle.study_commands.specs.declared.fault.Fault.{Fault}
 use Rattle.study_commands.specs.declared.fault.Fault.TheVariants.{Memory, Refused, Words, WordsMemory, Write}
 use Rattle.study.specs.Grid.{GridRecord, points, runs}
 use Rattle.study.specs.Placed.{sources_of_run}
-use Rattle.shell.specs.Input.{most_bytes}
-use Rattle.study.specs.Runs.{HasNoText, IsRunText, RunSources, is_text_memory}
+use Rattle.shell.specs.Ending.{most_bytes}
+use Rattle.study.specs.Laid.{HasNoText, IsRunText, RunSources, is_text_memory}
 use Rattle.study.specs.Shard.{ShardRecord}
 use Rattle.study.specs.declared.error.TextError.{TextError}
 use Rattle.study_line.specs.declared.order.GridTexts.{GridTexts}

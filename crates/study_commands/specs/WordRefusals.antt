@@ -2,15 +2,13 @@
 use Rattle.std.specs.Prelude.{◌≡◌, ◌⊎◌, ◌<◌, ℕ, List, ◌++◌, map, Bool, true, false, nat_le, if◌then◌else◌, Option, Some}
 use Rattle.std.specs.Prelude.{codes, string_bytes}
 use Rattle.std.specs.List.{AllZip, Contains}
-use Rattle.diagnosis.specs.Likeness.{edits, most_edits}
+use Rattle.diagnosis.specs.Diagnosis.{edits, most_edits}
 use Rattle.printable.specs.Printable.{printable}
 use Rattle.study.specs.AxisWords.{SaysAxis, SaysNoAxis, is_memory as is_axis_memory}
 use Rattle.study.specs.Grid.{GridRecord, IsFirst, set_twice, is_memory as is_grid_memory}
-use Rattle.study.specs.SeedWords.{seeds_fault, seeds_said}
+use Rattle.study.specs.Words.{seeds_fault, seeds_said, Word, shard_fault, shard_said}
 use Rattle.study.specs.SetWords.{SaysAssignment, SaysNoAssignment, is_memory as is_set_memory}
 use Rattle.study.specs.Settings.{Path}
-use Rattle.study.specs.ShardWords.{shard_fault, shard_said}
-use Rattle.study.specs.Words.{Word}
 use Rattle.study.specs.declared.assignment.Assignment.{Assignment}
 use Rattle.study.specs.declared.axis.Axis.{Axis}
 use Rattle.study.specs.declared.error.AssignmentError.{AssignmentError}

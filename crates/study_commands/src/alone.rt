@@ -1,7 +1,7 @@
 //! The scenario of the files that a command line names, where no study is asked for.
 ghost use Rattle.std.specs.Prelude.{◌≡◌, ◌+◌, Ok, IfErr, IfOk};
-ghost use Rattle.shell.specs.Input.{TakesAtMost, most_bytes};
-ghost use Rattle.study.specs.Runs.{IsRunTable, IsScenarioOf, is_memory};
+ghost use Rattle.shell.specs.Ending.{TakesAtMost, most_bytes};
+ghost use Rattle.study.specs.Laid.{IsRunTable, IsScenarioOf, is_memory};
 ghost use Rattle.toml.specs.View.{table_view};
 ghost use Rattle.study.specs.Sources.{sources_of};
 ghost use Rattle.study_commands.specs.File.{AreSources, IsScenario, NameNoInput, is_alone as is_alone_in, no_axes};

@@ -1,8 +1,7 @@
 //! Bounds that no run of a scenario breaks, in lines.
 ghost use Rattle.std.specs.Prelude.{◌≡◌, IfOk, string_bytes};
 ghost use Rattle.promised.specs.Promised.{promised};
-ghost use Rattle.study_commands.specs.BoundsText.{bounds_text, detection_text, key_of, lossy_text};
-ghost use Rattle.study_commands.specs.BoundsText.{needed_text, reliable_text, within_text};
+ghost use Rattle.study_commands.specs.Check.{bounds_text, detection_text, key_of, lossy_text, needed_text, reliable_text, within_text};
 
 use process_api::DetectorNumbers;
 use promised::{PromisedBounds, promised_bounds};

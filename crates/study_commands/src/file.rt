@@ -5,7 +5,7 @@ ghost use Rattle.toml.specs.View.{table_view};
 ghost use Rattle.study.specs.Sources.{sources_of};
 ghost use Rattle.study_commands.specs.File.{AreBytes, AreFiles, IsOwnScenario, IsTable, MayBeTable, NameInputTwice, NameNoInput};
 ghost use Rattle.study_commands.specs.Refusal.{IsOfBytes, IsOfFiles, IsOfNetwork, IsOfOwnFile, IsOfTable, IsToldWith, IsUnread};
-ghost use Rattle.shell.specs.Input.{TakesAtMost, input_path, most_bytes};
+ghost use Rattle.shell.specs.Ending.{TakesAtMost, input_path, most_bytes};
 
 use crate::fault::Fault;
 use diagnosis::{Diagnosis, Refused, diagnose};

@@ -1,5 +1,5 @@
 //! The facts that are looked at in a point's first run.
-ghost use Rattle.scenario_record.specs.Numbers.{AreInRange, AreInRange-prop};
+ghost use Rattle.scenario_record.specs.Ranges.{AreInRange, AreInRange-prop};
 
 use process_api::DetectorNumbers;
 

@@ -1,6 +1,6 @@
 //! Detectors that can suspect nobody before the horizon.
 ghost use Rattle.std.specs.Prelude.{◌≡◌, ◌+◌, map, IfOk};
-ghost use Rattle.scenario_record.specs.Numbers.{AreInRange};
+ghost use Rattle.scenario_record.specs.Ranges.{AreInRange};
 ghost use Rattle.study_commands.specs.Warnings.{first_suspicion as first_suspicion_of, late_with};
 
 use crate::first_run::FirstRun;

@@ -2,9 +2,9 @@
 ghost use Rattle.std.specs.Prelude.{◌≡◌, ◌+◌, IfErr, IfOk};
 ghost use Rattle.study_commands.specs.Fault.{IsBefore};
 ghost use Rattle.study_commands.specs.File.{NameNoInput};
-ghost use Rattle.study_commands.specs.Letters.{IsLettersAnswer};
-ghost use Rattle.study_commands.specs.Runs.{StopsLetters};
-ghost use Rattle.shell.specs.Input.{TakesAtMost, most_bytes};
+ghost use Rattle.study_commands.specs.Answer.{IsLettersAnswer};
+ghost use Rattle.study_commands.specs.Refusal.{StopsLetters};
+ghost use Rattle.shell.specs.Ending.{TakesAtMost, most_bytes};
 
 use crate::alone::scenario_at;
 use crate::fault::Fault;

@@ -4,13 +4,13 @@
 //! for `sweep` is the study's text, for `show` the run's, for `check` the lines of an accepted file, for `letters` the
 //! text of the letters of its run and for `draw` a picture of it; with status 4 by a front part of it; with another
 //! status by nothing, but that a `sweep` of status 3 may leave the rows of the first points. Each command has a module
-//! and a file of definitions: `specs/Sweep.antt`, `specs/Show.antt`, `specs/Check.antt`, `specs/Letters.antt` and
-//! `specs/Draw.antt`. The study's text is defined by `sweep`, its grid and its arguments by `study`, letters by
+//! and definitions: `specs/Sweep.antt`, `specs/Check.antt`, `specs/Draw.antt` and, of `show` and `letters`,
+//! `specs/Answer.antt`. The study's text is defined by `sweep`, its grid and its arguments by `study`, letters by
 //! `letters`, pictures by `drawing`, and the command line by `study_line`. The process ends with the status, by the
 //! contract of `finish` of `shell`.
 //!
 //! A [`warned::Warned`] is told, in lines, what may mislead in a scenario or a study (`specs/Warnings.antt`,
-//! `specs/WarningText.antt`), and then of the limits of each point (`specs/Told.antt`).
+//! `specs/WarningText.antt`), and then of the limits of each point.
 //!
 //! For example, the command `fdstudy sweep - --seeds 1..=20 --vary detector.timeout=5,10` prints the line of the
 //! columns' names and two rows, each over 20 runs.

@@ -5,11 +5,10 @@ ghost use Rattle.study_commands.specs.Fault.{IsBefore, end_of};
 ghost use Rattle.study_commands.specs.File.{NameNoInput};
 ghost use Rattle.study_commands.specs.Serve.{EndsFor, GoesForWords, IsNoFault, IsReason, NamesNoInput, TellsLine};
 ghost use Rattle.study_commands.specs.Serve.{TellsOf, other_word_line};
-ghost use Rattle.study_commands.specs.Told.{IsTold, IsToldFor};
+ghost use Rattle.study_commands.specs.WarningText.{IsTold, IsToldFor};
 ghost use Rattle.printable.specs.Printable.{printable_lines};
 ghost use Rattle.study_commands.specs.Why.{StopsFor};
-ghost use Rattle.shell.specs.Ending.{Puts};
-ghost use Rattle.shell.specs.Input.{TakesAtMost, most_bytes};
+ghost use Rattle.shell.specs.Ending.{Puts, TakesAtMost, most_bytes};
 
 use crate::checking::serve_check;
 use crate::fault::Fault;

@@ -3,13 +3,13 @@ ghost use Rattle.std.specs.Prelude.{◌≡◌, ◌+◌, ◌<◌, ◌≤◌, IfOk
 ghost use Rattle.study.specs.Sources.{sources_of};
 ghost use Rattle.study_commands.specs.Fault.{IsBefore, IsOfWordsFor};
 ghost use Rattle.study_commands.specs.File.{NameNoInput};
-ghost use Rattle.study_commands.specs.Show.{IsPlace, IsShowAnswer};
+ghost use Rattle.study_commands.specs.Answer.{IsPlace, IsShowAnswer};
 ghost use Rattle.study_commands.specs.Why.{IsOfText, StopsShow};
 ghost use Rattle.study_commands.specs.WordRefusals.{IsOutside};
-ghost use Rattle.shell.specs.Input.{TakesAtMost, most_bytes};
+ghost use Rattle.shell.specs.Ending.{TakesAtMost, most_bytes};
 ghost use Rattle.study.specs.Grid.{points, runs};
 ghost use Rattle.study.specs.Placed.{sources_of_run};
-ghost use Rattle.study.specs.Runs.{IsRunText, is_text_memory};
+ghost use Rattle.study.specs.Laid.{IsRunText, is_text_memory};
 ghost use Rattle.sweep.specs.StudyText.{point_at, run_at};
 
 use crate::fault::Fault;

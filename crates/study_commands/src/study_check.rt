@@ -2,11 +2,11 @@
 ghost use Rattle.std.specs.Prelude.{◌≡◌, ◌+◌, false, IfOk, IfErr, OnOk, string_bytes};
 ghost use Rattle.study_commands.specs.Check.{IsStudyCheck};
 ghost use Rattle.study_commands.specs.Inside.Setting.{TellsOfStudy};
-ghost use Rattle.study_commands.specs.Told.{IsToldOfCheck};
+ghost use Rattle.study_commands.specs.WarningText.{IsToldOfCheck};
 ghost use Rattle.study_commands.specs.Why.{StopsSweep};
 ghost use Rattle.study_commands.specs.Fault.{IsBefore};
 ghost use Rattle.study_commands.specs.File.{NameNoInput};
-ghost use Rattle.shell.specs.Input.{TakesAtMost, most_bytes};
+ghost use Rattle.shell.specs.Ending.{TakesAtMost, most_bytes};
 
 use crate::fault::Fault;
 use crate::progress_line::time_of;

@@ -5,7 +5,7 @@ ghost use Rattle.study_commands.specs.Fault.{IsOfWords, IsOfWordsFor};
 ghost use Rattle.study_commands.specs.Study.{IsGrid, IsShardOf};
 ghost use Rattle.study_commands.specs.WordRefusals.{HasNoAxis, HasNoGroup, SaysNoGrid, SaysNoSeeds, SaysNoShard, is_group_memory};
 ghost use Rattle.study.specs.AxisWords.{SaysAxis, is_memory};
-ghost use Rattle.study.specs.SeedWords.{seeds_said};
+ghost use Rattle.study.specs.Words.{seeds_said};
 ghost use Rattle.sweep.specs.GroupWords.{SaysGroup};
 
 use crate::fault::Fault;

@@ -1,6 +1,6 @@
 //! Who is warned.
 ghost use Rattle.std.specs.Prelude.{◌≡◌, ℕ, List, [], ◌∷◌, false};
-ghost use Rattle.trace_laws.specs.Joins.{HaveJoined};
+ghost use Rattle.trace_laws.specs.Taken.{HaveJoined};
 
 use sweep::{Unwatched, Watcher};
 

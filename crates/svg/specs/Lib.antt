@@ -1,3 +1,1 @@
-pub mod Escaping
-pub mod Elements
 pub mod Document

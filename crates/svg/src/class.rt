@@ -1,6 +1,6 @@
 //! Classes of shapes, which say what a shape shows.
 ghost use Rattle.std.specs.Prelude.{◌≡◌};
-ghost use Rattle.svg.specs.Elements.{class_name};
+ghost use Rattle.svg.specs.Document.{class_name};
 
 /// What a shape shows. The style sheet says how it is drawn.
 #[derive(Clone, Copy)]

@@ -1,7 +1,6 @@
 //! Pictures as documents.
 ghost use Rattle.std.specs.Prelude.{◌≡◌, ◌++◌, flat_map, IfOk, OnOk};
-ghost use Rattle.svg.specs.Document.{IsDocument, head_text, view_box_text};
-ghost use Rattle.svg.specs.Elements.{shape_text};
+ghost use Rattle.svg.specs.Document.{IsDocument, head_text, view_box_text, shape_text};
 
 use crate::elements::{push_attributes, push_number, push_shape};
 use crate::shape::Shape;

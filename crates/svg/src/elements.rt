@@ -1,6 +1,6 @@
 //! Shapes as elements.
 ghost use Rattle.std.specs.Prelude.{◌≡◌, ◌++◌, flat_map, map, decimal, OnOk};
-ghost use Rattle.svg.specs.Elements.{attribute, element, line_text, opening, shape_text};
+ghost use Rattle.svg.specs.Document.{attribute, element, line_text, opening, shape_text};
 
 use crate::caption::Caption;
 use crate::class::Class;

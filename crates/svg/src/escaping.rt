@@ -1,6 +1,6 @@
 //! Texts between the marks of XML.
 ghost use Rattle.std.specs.Prelude.{◌≡◌, ◌++◌, OnOk};
-ghost use Rattle.svg.specs.Escaping.{escaped, written};
+ghost use Rattle.svg.specs.Document.{escaped, written};
 
 use std::alloc::AllocError;
 

@@ -2,8 +2,8 @@
 //!
 //! A [`Picture`] is a list of [`Shape`]s, each with whole coordinates in user units, from the top left corner, and with
 //! a [`Class`], which says what it shows. [`svg_text`] gives the picture as an SVG document of its own: the text that
-//! `specs/Document.antt` defines, shape by shape in their order (`specs/Elements.antt`), with the texts of captions
-//! escaped (`specs/Escaping.antt`). The style sheet of each document says how each class is drawn; no contract says
+//! `specs/Document.antt` defines, shape by shape in their order, with the texts of captions
+//! escaped. The style sheet of each document says how each class is drawn; no contract says
 //! what is in it. It fits light and dark backgrounds, draws no background of its own, and takes colours that
 //! colour-blind readers tell apart (those of Okabe and Ito).
 //!

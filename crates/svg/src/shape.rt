@@ -1,6 +1,6 @@
 //! Shapes.
 ghost use Rattle.std.specs.Prelude.{◌≡◌};
-ghost use Rattle.svg.specs.Elements.{anchor_name};
+ghost use Rattle.svg.specs.Document.{anchor_name};
 
 use crate::caption::Caption;
 use crate::class::Class;

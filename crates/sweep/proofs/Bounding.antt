@@ -3,9 +3,9 @@ use Rattle.sweep.proofs.Words.{◌≡◌, ◌≢◌, ◌⊎◌, inl, inr, ℕ, z
 use Rattle.process_api.specs.declared.numbers.DetectorNumbers.{DetectorNumbers}
 use Rattle.process_api.specs.declared.numbers.DetectorNumbers.TheVariants.{Timeout, Freshness}
 use Rattle.process_api.specs.declared.numbers.TimeoutNumbers.{TimeoutNumbers}
-use Rattle.scenario_record.specs.Numbers.{AreInRange}
+use Rattle.scenario_record.specs.Ranges.{AreInRange}
 use Rattle.scenario_record.specs.declared.link.Link.{Link}
-use Rattle.detector_bounds.specs.Multiples.{multiple_from}
+use Rattle.detector_bounds.specs.Detected.{multiple_from}
 use Rattle.reporting.specs.declared.pair_measures.Detection.{Detection}
 use Rattle.sweep.proofs.Added.{bounds_added}
 use Rattle.sweep.proofs.Greatest.{greatest_both}

@@ -3,7 +3,7 @@ use Rattle.sweep.proofs.Words.{◌≡◌, ℕ, zero, suc, ◌+◌, ◌*◌, ◌/
 use Rattle.std.proofs.lemmas.List.Concat.{length-flat_map}
 use Rattle.judges.specs.Outcomes.{outcome, outcomes}
 use Rattle.process_api.proofs.Numbering.{length-numbers_to, length-filter_to}
-use Rattle.reporting.specs.Distances.{count_below}
+use Rattle.reporting.specs.Measures.{count_below}
 use Rattle.reporting.specs.declared.summary.Summary.{Summary}
 use Rattle.sweep.proofs.Lasted.{each_measure}
 use Rattle.sweep.proofs.Layered.{few_mapped}

@@ -25,32 +25,28 @@ pub use Rattle.std.specs.Result.{IsOk, is_ok}
 pub use Rattle.std.specs.Vec.Iter.{into_iter_items}
 pub use Rattle.csv.specs.Records.{fields_of}
 unfoldable pub use Rattle.csv.specs.Records.{field_at}
-pub use Rattle.detector_bounds.specs.Detected.{detected_by, grown, last_letter, trusts}
-pub use Rattle.detector_bounds.specs.Watched.{watch_of}
-pub use Rattle.diagnosis.specs.Likeness.{edits}
-pub use Rattle.judges.specs.Crashes.{crash_tick, end_of, is_correct, is_crashed}
-pub use Rattle.judges.specs.Out.{suspects}
-pub use Rattle.judges.specs.Ticks.{least_from}
+pub use Rattle.detector_bounds.specs.Detected.{detected_by, grown, last_letter, trusts, watch_of}
+pub use Rattle.diagnosis.specs.Diagnosis.{edits}
+pub use Rattle.judges.specs.Out.{crash_tick, end_of, is_correct, is_crashed, suspects}
+pub use Rattle.judges.specs.Track.{least_from}
 pub use Rattle.judges.specs.Verdicts.{verdicts}
 pub use Rattle.judges.specs.declared.outcomes.Outcome.{Outcome}
 pub use Rattle.judges.specs.declared.verdicts.Verdicts.{Verdicts}
 pub use Rattle.process_api.proofs.Minds.{and_true, both_true}
-pub use Rattle.process_api.specs.EntryRecord.{EntryRecord}
-pub use Rattle.process_api.specs.Numbers.{is_process, numbers_to, others}
-pub use Rattle.process_api.specs.Watching.{is_chosen, is_other, is_watched}
+pub use Rattle.process_api.specs.Order.{EntryRecord}
+pub use Rattle.process_api.specs.Place.{is_process, numbers_to, others, is_chosen, is_other, is_watched}
 pub use Rattle.reporting.proofs.Layers.{one_layer, two_layers}
 pub use Rattle.reporting.proofs.Written.{wrote_both, wrote_nothing, wrote_then_part}
 pub use Rattle.reporting.specs.Durations.{AreDurations, lengths_of, lists_in}
-pub use Rattle.reporting.specs.Measured.{AreFindings}
+pub use Rattle.reporting.specs.Running.{AreFindings}
 pub use Rattle.reporting.specs.Measures.{all_measures, delay_after, is_measured, pair_durations, starts}
 unfoldable pub use Rattle.reporting.specs.Measures.{layer_measures, pair_measures}
-pub use Rattle.reporting.specs.Writing.{Wrote, WrotePart}
+pub use Rattle.reporting.specs.Outlet.{Wrote, WrotePart}
 pub use Rattle.reporting.specs.declared.findings.RunFindings.{RunFindings}
 pub use Rattle.reporting.specs.declared.pair_measures.Detection.TheVariants.{At, Na, NoTick}
 pub use Rattle.reporting.specs.declared.pair_measures.PairMeasures.{PairMeasures}
-pub use Rattle.runs.specs.Finishing.{IsLonger, MeasuresRun}
+pub use Rattle.runs.specs.Finishing.{IsLonger, MeasuresRun, AreTrusts, most_trusts, trusts_of}
 pub use Rattle.runs.specs.Grounds.{HasGrounds, IsBounded}
-pub use Rattle.runs.specs.Trusts.{AreTrusts, most_trusts, trusts_of}
 pub use Rattle.runs.specs.declared.trusts.Trusts.{Trusts}
 pub use Rattle.scenario_record.specs.Ranges.{IsInRange}
 pub use Rattle.scenario_record.specs.Record.{Record, crash, link}
@@ -60,30 +56,24 @@ pub use Rattle.study.specs.Shard.{ShardRecord}
 pub use Rattle.study.specs.Sources.{SourcesRecord, sources_of}
 pub use Rattle.study.specs.Words.{Word, after, before}
 pub use Rattle.trace_laws.proofs.Joining.{joined_then, none_joined}
-pub use Rattle.trace_laws.specs.Joins.{HaveJoined}
+pub use Rattle.trace_laws.specs.Taken.{HaveJoined}
 pub use Rattle.sweep.specs.ColumnTable.{Column, column_names, columns_of_detections, columns_of_mistakes, columns_of_outcomes, number_of, reaches}
 unfoldable pub use Rattle.sweep.specs.ColumnTable.{columns_of_runs, standard_error}
 pub use Rattle.sweep.specs.Columns.{AreBounds, AreColumns, AreDecisionSums, AreDoneSums, AreFirstRuns, AreLayerSums, ArePairSums, AreRunCounts, AreTraceSums, AreVerdictCounts, IsAwaited, IsDistribution, SomeAwaited, TellsBound, all_detections, all_durations, all_pairs, detection_bound, does, done_on, finish_of, finished_of, first_after, first_number, has_layer, is_limited, last_decisions, on_layer, over, top_rounds}
-pub use Rattle.sweep.specs.Counted.{CountsMore, passing}
-pub use Rattle.sweep.specs.Fields.{AddsRowsOfGroup, AddsRowsOfSums, AreRowsOfSums, IsBetweenLines, text_of}
+pub use Rattle.sweep.specs.Percentile.{CountsMore, passing, IsPercentile, IsRanked, at_most, greater, greatest}
+pub use Rattle.sweep.specs.StudyText.{AddsRowsOfGroup, AddsRowsOfSums, AreRowsOfSums, IsBetweenLines, text_of, AreRowsOf, HasOneText, HasRowsOf, IsStudyText, IsTextOf, IsTrialOf, ShardsMakeWhole, header_of, lead_names, lead_of, names_of, numbers_of, point_at, run_at, unit_first, unit_point, unit_run, unit_runs, units_in, units_of, values}
 pub use Rattle.sweep.specs.Fitting.{AreDecisionsWithin, ArePairsWithin, AreTracesWithin, IsLayerWithin, most_mistakes, most_of, most_runs, most_values}
 pub use Rattle.sweep.specs.GroupWords.{SayBlocks, SayNoBlocks, block_of, block_said, side_said}
 pub use Rattle.sweep.specs.Groups.{group_names, is_in}
-pub use Rattle.sweep.specs.Inside.Adding.{bounds_plus, decisions_plus, differ, first_of, first_with, is_above, layer_plus, of_bound, of_outcome, of_verdicts, pairs_plus, plus, plus_few, tick_or_zero, traces_plus}
-pub use Rattle.sweep.specs.Inside.Limits.{AreUnderWay, TellsOn, next_counted, numbers_in}
+pub use Rattle.sweep.specs.Inside.Adding.{bounds_plus, decisions_plus, differ, first_of, first_with, is_above, layer_plus, of_bound, of_outcome, of_verdicts, pairs_plus, plus, plus_few, tick_or_zero, traces_plus, AreOwnSums, IsPair}
+pub use Rattle.sweep.specs.Inside.Progress.{AreUnderWay, TellsOn, next_counted, numbers_in, AreAdded, GoesOn, HeaderFails, IsUnderWay, StopsBelow, StopsInPoints, WroteFrontUpTo, WroteUpTo, next_run}
 pub use Rattle.sweep.specs.Inside.Numbering.{AreNumbersAt, AreNumbersFrom, IsAnswerAt, IsFirstRefusal, IsReadyAt, IsRefusalAt, runs_each, unit_count}
-pub use Rattle.sweep.specs.Inside.OwnSums.{AreOwnSums, IsPair}
-pub use Rattle.sweep.specs.Inside.Progress.{AreAdded, GoesOn, HeaderFails, IsUnderWay, StopsBelow, StopsInPoints, WroteFrontUpTo, WroteUpTo, next_run}
-pub use Rattle.sweep.specs.Layout.{IsNearest, IsRefusal, IsUnknown, LayoutRecord, TellsOf, place_of}
+pub use Rattle.sweep.specs.Layout.{IsNearest, IsRefusal, IsUnknown, LayoutRecord, TellsOf, place_of, AreRowsFor, AreRowsOfGroup, Text, header_text, layer_fields, line_text, number_text, picked}
 pub use Rattle.sweep.specs.OneRun.{Finished, bound_after, bounds, bounds_of, bounds_on, counted_of, counted_pairs, counts_on, decided_value, deciding, deciding_of, decision_tick, detection_time, detections, do_all_decide, do_differ, do_disagree, durations, has_decided, has_mistake, is_to_decide, is_to_detect, is_undecided, is_undetected, last_decision, mistakes, noted_round, pair_ticks, run_outcomes, times_of, top_round}
-pub use Rattle.sweep.specs.Parallel.{AreAnswers, ArePlaces, IsPlaced, with_answers, with_columns}
-pub use Rattle.sweep.specs.Percentile.{IsPercentile, IsRanked, at_most, greater, greatest}
-pub use Rattle.sweep.specs.Results.{IsResult, RunResult, Trial, done_run, finished, limited, limited_run}
-pub use Rattle.sweep.specs.RowText.{AreRowsFor, AreRowsOfGroup, Text, header_text, layer_fields, line_text, number_text, picked}
-unfoldable pub use Rattle.sweep.specs.RowText.{layer_text}
-pub use Rattle.sweep.specs.StudyText.{AreRowsOf, HasOneText, HasRowsOf, IsStudyText, IsTextOf, IsTrialOf, ShardsMakeWhole, header_of, lead_names, lead_of, names_of, numbers_of, point_at, run_at, unit_first, unit_point, unit_run, unit_runs, units_in, units_of, values}
+pub use Rattle.sweep.specs.Results.{AreAnswers, ArePlaces, IsPlaced, with_answers, with_columns, IsResult, RunResult, Trial, done_run, finished, limited, limited_run}
+unfoldable pub use Rattle.sweep.specs.Layout.{layer_text}
 pub use Rattle.sweep.specs.Sums.{AddsOneMore, AddsRun, AreFitting, AreGroupNumbers, AreLayerFindings, AreLayerNumbers, AreNumbers, AreOfLimited, AreOfNoLayer, AreSums, AreUnitSums}
-pub use Rattle.sweep.specs.Watching.{AreLimited, HeardLimits, HeardSomeLimits, told_of}
+pub use Rattle.sweep.specs.Outcome.{AreLimited, HeardLimits, HeardSomeLimits, told_of}
 pub use Rattle.sweep.specs.declared.columns.Columns.{Columns}
 pub use Rattle.sweep.specs.declared.columns.DecisionSums.{DecisionSums}
 pub use Rattle.sweep.specs.declared.columns.DetectionBounds.{DetectionBounds}

@@ -2,9 +2,8 @@
 use Rattle.std.specs.Prelude.{◌≡◌, ℕ, ◌+◌, ◌-◌, ◌*◌, ◌/◌, ◌≤◌, ◌==◌, Bool, true, false, if◌then◌else◌, is_none, is_some, Option, None, Some, List, [], ◌∷◌, length}
 use Rattle.std.specs.List.{count_by, filter, filter_map, flat_map, list_any, sum, sum_by}
 use Rattle.detector_bounds.specs.Bounds.{CrashesAt, detected_at}
-use Rattle.detector_bounds.specs.Watched.{Watches}
-use Rattle.judges.specs.Meaning.{IsCorrect}
-use Rattle.judges.specs.Verdicts.{verdicts}
+use Rattle.detector_bounds.specs.Detected.{Watches}
+use Rattle.judges.specs.Verdicts.{IsCorrect, verdicts}
 use Rattle.judges.specs.declared.outcomes.Outcome.{Outcome}
 use Rattle.judges.specs.declared.verdicts.Verdicts.{Verdicts}
 use Rattle.reporting.specs.Measures.{layers}

@@ -1,6 +1,4 @@
 -- words that private functions and proofs of this crate use alone: no public contract rests on them
 pub mod Adding
-pub mod OwnSums
 pub mod Numbering
 pub mod Progress
-pub mod Limits

@@ -5,14 +5,9 @@ pub mod GroupWords
 pub mod OneRun
 pub mod Columns
 pub mod ColumnTable
-pub mod RowText
 pub mod Fitting
-pub mod Counted
 pub mod Sums
-pub mod Fields
-pub mod Parallel
 pub mod Layout
 pub mod StudyText
 pub mod Outcome
-pub mod Watching
 pub mod Inside

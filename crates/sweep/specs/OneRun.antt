@@ -1,20 +1,19 @@
 -- What one run that is done tells on a layer.
 use Rattle.std.specs.Prelude.{ℕ, ◌-◌, ◌==◌, ◌&&◌, Bool, true, false, not, if◌then◌else◌, nat_lt, is_some, Option, None, Some, List, [], length, map}
 use Rattle.std.specs.List.{filter, filter_map, flat_map, list_all, list_any, sum_by}
-use Rattle.detector_bounds.specs.Detected.{detected_by, trusts}
-use Rattle.detector_bounds.specs.Watched.{watch_of}
-use Rattle.judges.specs.Crashes.{crash_tick, is_correct, end_of}
+use Rattle.detector_bounds.specs.Detected.{detected_by, trusts, watch_of}
+use Rattle.judges.specs.Out.{crash_tick, is_correct, end_of}
 use Rattle.judges.specs.Outcomes.{outcomes}
 use Rattle.judges.specs.declared.outcomes.Answer.{Answer}
 use Rattle.judges.specs.declared.outcomes.Answer.TheVariants as answer
 use Rattle.judges.specs.declared.outcomes.Outcome.{Outcome}
-use Rattle.process_api.specs.EntryRecord.{EntryRecord}
-use Rattle.process_api.specs.Watching.{is_watched}
+use Rattle.process_api.specs.Order.{EntryRecord}
+use Rattle.process_api.specs.Place.{is_watched}
 use Rattle.reporting.specs.Measures.{layer_measures, pair_durations}
 use Rattle.reporting.specs.declared.pair_measures.Detection.{Detection}
 use Rattle.reporting.specs.declared.pair_measures.Detection.TheVariants.{Na, NoTick, At}
 use Rattle.reporting.specs.declared.pair_measures.PairMeasures.{PairMeasures}
-use Rattle.scenario_record.specs.Numbers.{is_idle}
+use Rattle.scenario_record.specs.Ranges.{is_idle}
 use Rattle.scenario_record.specs.Record.{Record, link}
 use Rattle.sweep.specs.Groups.{is_in}
 use Rattle.sweep.specs.Percentile.{greatest}

@@ -1,17 +1,20 @@
 -- What a sweep leaves of an outlet.
-use Rattle.std.specs.Prelude.{◌≡◌, ◌⊎◌, ◌<◌, ℕ, false, take, length, List, Option, None, Some, Contains}
+use Rattle.std.specs.Prelude.{◌≡◌, ◌⊎◌, ◌<◌, ℕ, false, take, length, List, Option, None, Some, Contains, ◌==◌, not}
+use Rattle.std.specs.List.{AllZip, count_by, filter}
 use Rattle.study.specs.Sources.{SourcesRecord}
-use Rattle.reporting.specs.Writing.{Wrote, WrotePart, WroteNothing}
+use Rattle.reporting.specs.Outlet.{Wrote, WrotePart, WroteNothing}
 use Rattle.scenario_record.specs.Record.{Record}
 use Rattle.study.specs.Grid.{GridRecord, runs}
 use Rattle.study.specs.Placed.{sources_of_run}
-use Rattle.study.specs.Runs.{IsScenarioOf, IsRefusedFor, is_memory}
+use Rattle.study.specs.Laid.{IsScenarioOf, IsRefusedFor, is_memory}
 use Rattle.study.specs.Shard.{ShardRecord}
 use Rattle.study.specs.declared.error.ReadError.{ReadError}
+use Rattle.trace_laws.specs.Taken.{HaveJoined}
 use Rattle.sweep.specs.Groups.{first_above}
-use Rattle.sweep.specs.Layout.{LayoutRecord}
-use Rattle.sweep.specs.RowText.{Text}
-use Rattle.sweep.specs.StudyText.{point_at, run_at, numbers_of, units_of, IsTextOf, IsStudyText}
+use Rattle.sweep.specs.Layout.{LayoutRecord, Text}
+use Rattle.sweep.specs.StudyText.{point_at, run_at, numbers_of, units_of, IsTextOf, IsStudyText, IsTrialOf}
+use Rattle.sweep.specs.Columns.{is_limited}
+use Rattle.sweep.specs.Results.{Trial}
 use Rattle.sweep.specs.declared.error.SweepError.{SweepError}
 use Rattle.sweep.specs.declared.error.SweepError.TheVariants as error
 use Rattle.sweep.specs.declared.group.Group.{Group}
@@ -107,3 +110,28 @@ module _ (sources : SourcesRecord) (g : GridRecord) where
         × WroteNothing told failed old new
     BreaksOff error.Memory = WroteNothing told failed old new ⊎ WroteFirst
     BreaksOff error.Write = WroteFront
+
+-- ---- what a watcher is told of a sweep: how many runs of a point passed their limit
+
+-- so many of a point's runs passed their limit
+pub record AreLimited (sources : SourcesRecord) (g : GridRecord) (point : ℕ) (count : ℕ) : Type 0 where
+  pub trials : List Trial
+  pub each : AllZip (IsTrialOf sources (point_at g point)) (runs g) trials
+  pub counted : count ≡ count_by (λ t. is_limited t.result) trials
+
+-- of points and their counts those that are told: where some run passed the limit
+abbrev pub told_of : List (ℕ × ℕ) → List (ℕ × ℕ)
+told_of counts = filter (λ entry. not (entry.1 == 0)) counts
+
+module _ {W : Type 0} (heard : W → List (ℕ × ℕ) → W → Type 0) (old new : W) (sources : SourcesRecord)
+    (g : GridRecord) where
+  -- of each of these points of which runs passed their limit it is told how many did, in the order of the points, and
+  -- of no other
+  pub record HeardLimits (points : List ℕ) : Type 0 where
+    pub counts : List (ℕ × ℕ)
+    pub counted : AllZip (λ point entry. (entry.0 ≡ point) × AreLimited sources g point entry.1) points counts
+    pub told : HaveJoined heard old new (told_of counts)
+
+  -- the same of some, the first of them
+  abbrev pub HeardSomeLimits : (points : List ℕ) → Type 0
+  HeardSomeLimits points = (complete : ℕ) × HeardLimits (take complete points)

@@ -1,6 +1,8 @@
 -- Of some values the greatest, and the nearest-rank percentile, by counting.
-use Rattle.std.specs.Prelude.{ℕ, ◌+◌, ◌*◌, ◌≤◌, max, nat_le, Option, None, Some, List, [], ◌∷◌, length}
-use Rattle.std.specs.List.{count_by, Contains}
+use Rattle.std.specs.Prelude.{ℕ, ◌+◌, ◌*◌, ◌≤◌, max, nat_le, Option, None, Some, List, [], ◌∷◌, length, ◌≡◌, Bool, if◌then◌else◌, ◌++◌}
+use Rattle.std.specs.List.{count_by, Contains, sum_by}
+use Rattle.sweep.specs.Fitting.{most_values}
+use Rattle.sweep.specs.declared.value_counts.ValueCounts.{ValueCounts}
 
 -- the greater of two, if there is one
 abbrev pub greater : Option ℕ → Option ℕ → Option ℕ
@@ -33,3 +35,20 @@ module _ (p : ℕ) (values : List ℕ) (infinite : ℕ) where
   abbrev pub IsPercentile : Option ℕ → Type 0
   IsPercentile None = (w : ℕ) → Contains values w → Covers w → ⊥
   IsPercentile (Some v) = IsRanked v
+
+-- ---- what it is that values were counted
+
+-- how many of the values pass a test, where each entry is a value and how often it came
+abbrev pub passing : (ℕ → Bool) → List (ℕ × ℕ) → ℕ
+passing test entries = sum_by (λ e. if test e.0 then e.1 else 0) entries
+
+-- each value has its count
+pub record AreCounted (values : List ℕ) (c : ValueCounts) : Type 0 where
+  pub counts : (test : ℕ → Bool) → count_by test values ≡ passing test c.counts.entries
+  pub total : c.total ≡ length values
+  pub highest : c.greatest ≡ greatest values
+
+-- the old counts of any values, as long as they aren't too many, give the new counts of these values and of more
+abbrev pub CountsMore : (more : List ℕ) → (old new : ValueCounts) → Type 0
+CountsMore more old new = (values : List ℕ) → length values + length more ≤ most_values → AreCounted values old
+    → AreCounted (values ++ more) new

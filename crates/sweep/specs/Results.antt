@@ -1,6 +1,9 @@
 -- What becomes of runs.
-use Rattle.std.specs.Prelude.{List}
-use Rattle.process_api.specs.EntryRecord.{EntryRecord}
+use denote.Param.Members.{Shared}
+use Rattle.std.specs.Prelude.{List, ◌≡◌, ℕ, ◌+◌, ◌<◌, Option, Some, None, fold, length, set, slice_index_or}
+use Rattle.std.specs.Fn.{FnReturns}
+use Rattle.std.specs.Global.{Vec}
+use Rattle.process_api.specs.Order.{EntryRecord}
 use Rattle.scenario_record.specs.Record.{Record}
 use Rattle.reporting.specs.declared.durations.RunDurations.{RunDurations}
 use Rattle.reporting.specs.declared.findings.RunFindings.{RunFindings}
@@ -38,3 +41,30 @@ ForMeasured S findings durations trusts P =
 
 abbrev pub IsTrial : Trial → Type 0
 IsTrial t = IsResult t.scenario t.result
+
+-- ---- what a job gives for consecutive numbers, and how threads share them out
+
+module _ {T : Type 0} where
+  -- places in which these answers were put in turn, each into its own
+  abbrev pub with_answers : List (Option T) → List (ℕ × T) → List (Option T)
+  with_answers places answers = fold (λ places answer. set places answer.0 (Some answer.1)) places answers
+
+  -- and those of each of these columns
+  abbrev pub with_columns : List (Option T) → List (Vec (ℕ × T)) → List (Option T)
+  with_columns places columns = fold (λ places column. with_answers places column.items) places columns
+
+module _ {F T : Type 0} (g : Shared F (ℕ × Unit {0}) T) (job : F) where
+  -- the i-th of the answers, from 0, is one that the job may give for the number first + i
+  pub record AreAnswers (first count : ℕ) (answers : List T) : Type 0 where
+    pub count_is : length answers ≡ count
+    pub each : (i : ℕ) (d : T) → i < count → FnReturns g job (first + i, tt) (slice_index_or answers i d)
+
+  -- an answer for the number that is so far from the first
+  pub record IsPlaced (first count : ℕ) (placed : ℕ × T) : Type 0 where
+    pub within : placed.0 < count
+    pub gives : FnReturns g job (first + placed.0, tt) placed.1
+
+  -- places, each empty or with an answer for its number, of which this is the first
+  abbrev pub ArePlaces : ℕ → List (Option T) → Type 0
+  ArePlaces first places = (i : ℕ) (answer : T) → slice_index_or places i None ≡ Some answer
+      → FnReturns g job (first + i, tt) answer

@@ -3,18 +3,18 @@ use Rattle.std.specs.Prelude.{◌≡◌, ℕ, ◌+◌, ◌*◌, ◌^◌, ◌<◌
 use Rattle.std.specs.List.{All, AllZip, cons_option}
 use Rattle.judges.specs.Verdicts.{verdicts}
 use Rattle.judges.specs.declared.verdicts.Verdicts.{Verdicts}
-use Rattle.process_api.specs.EntryRecord.{EntryRecord}
+use Rattle.process_api.specs.Order.{EntryRecord}
 use Rattle.reporting.specs.Durations.{AreDurations}
 use Rattle.runs.specs.Grounds.{HasGrounds}
 use Rattle.reporting.specs.Measures.{layer_measures}
-use Rattle.reporting.specs.Summary.{IsSummary}
-use Rattle.runs.specs.Trusts.{AreTrusts}
+use Rattle.reporting.specs.Running.{IsSummary}
+use Rattle.runs.specs.Finishing.{AreTrusts}
 use Rattle.reporting.specs.declared.pair_measures.PairMeasures.{PairMeasures}
 use Rattle.reporting.specs.declared.summary.Summary.{Summary}
 use Rattle.scenario_record.specs.Ranges.{IsInRange}
 use Rattle.scenario_record.specs.Record.{Record}
 use Rattle.sweep.specs.Columns.{done_on, has_layer, AreColumns, AreLayerSums, AreFirstRuns, all_durations, all_detections, is_limited, last_decisions, top_rounds}
-use Rattle.sweep.specs.Counted.{AreCounted}
+use Rattle.sweep.specs.Percentile.{AreCounted}
 use Rattle.sweep.specs.Fitting.{IsLayerWithin, most_runs, most_of, most_pairs, most_mistakes}
 use Rattle.sweep.specs.Results.{Trial, done_run, limited_run}
 use Rattle.sweep.specs.declared.columns.Columns.{Columns}

@@ -1,6 +1,6 @@
 //! How many runs are handed out at a time.
 ghost use Rattle.std.specs.Prelude.{ℕ, ◌+◌, ◌^◌, ◌<◌, ◌≤◌, length, IfOk};
-ghost use Rattle.sweep.specs.Parallel.{AreAnswers};
+ghost use Rattle.sweep.specs.Results.{AreAnswers};
 
 use crate::parallel::in_parallel;
 use std::alloc::{AllocError, Global};

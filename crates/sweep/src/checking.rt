@@ -1,10 +1,10 @@
 //! Reads every run's scenario, before the first run starts.
 ghost use Rattle.std.specs.Prelude.{◌≡◌, ℕ, ◌*◌, ◌^◌, ◌<◌, ◌≤◌, [], true, false, length, slice_index_or};
 ghost use Rattle.std.specs.Prelude.{OnOk, IfErr, IfNone, IfSome};
-ghost use Rattle.trace_laws.specs.Joins.{HaveJoined};
+ghost use Rattle.trace_laws.specs.Taken.{HaveJoined};
 ghost use Rattle.study.specs.Sources.{sources_of};
 ghost use Rattle.study.specs.Grid.{points, runs};
-ghost use Rattle.study.specs.Runs.{is_memory};
+ghost use Rattle.study.specs.Laid.{is_memory};
 ghost use Rattle.sweep.specs.Inside.Numbering.{point_of, ArePointsReady, IsLack, IsReadyAt, IsRefusalAt, IsFirstRefusal};
 ghost use Rattle.sweep.specs.Groups.{first_above};
 ghost use Rattle.sweep.specs.Outcome.{AreReady, CantBeRun};

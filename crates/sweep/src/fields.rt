@@ -2,7 +2,7 @@
 ghost use Rattle.std.specs.Prelude.{◌≡◌, ◌++◌, map, string_bytes, OnOk};
 ghost use Rattle.csv.specs.Records.{fields_of};
 ghost use Rattle.study.specs.Settings.{chosen};
-ghost use Rattle.sweep.specs.RowText.{number_text};
+ghost use Rattle.sweep.specs.Layout.{number_text};
 ghost use Rattle.sweep.specs.StudyText.{values};
 
 use csv::StringRecord;

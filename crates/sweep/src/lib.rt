@@ -3,7 +3,7 @@
 //! A run is done within its limit and has a trace, or it passes the limit (`specs/Results.antt`). [`RunNumbers`] are
 //! the numbers of one run, [`UnitSums`] are the sums over the runs of a point, and [`Table`] forms the text of rows.
 //! The numbers of a row are defined by sums, counts and quantifiers over a list of runs (`specs/Columns.antt`), and so
-//! are its columns (`specs/ColumnTable.antt`) and its text (`specs/RowText.antt`). A [`Layout`] says whether rows tell
+//! are its columns (`specs/ColumnTable.antt`) and its text (`specs/Layout.antt`). A [`Layout`] says whether rows tell
 //! of points or of single runs, and which columns they have (`specs/Layout.antt`). It is proved that the sums of a
 //! point, to which runs were added one by one, are those of the list of these runs. It is proved too that the text has
 //! the rows of all points, or of all runs (`specs/StudyText.antt`).
@@ -21,7 +21,7 @@
 //! 1,000,000,000,000 runs.
 //!
 //! [`in_parallel`] shares out calls for consecutive numbers among threads, and gives what they answer in the numbers'
-//! order (`specs/Parallel.antt`). A sweep has its runs read and done by it.
+//! order (`specs/Results.antt`). A sweep has its runs read and done by it.
 //!
 //! For example, let process 2 of two crash at tick 3 of 10, process 1 detect it at tick 9, and the study have this one
 //! run, with `detector.timeout` 5. Its row begins `5,1,1,0,12,4,0,6,`: a time-out of 5, layer 1, one run, no run that

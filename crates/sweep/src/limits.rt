@@ -1,9 +1,9 @@
 //! How many runs of each point passed their limit, which the watcher is told.
 ghost use Rattle.std.specs.Prelude.{◌≡◌, ◌+◌, ◌*◌, ◌^◌, ◌<◌, ◌≤◌, [], ◌∷◌, length};
-ghost use Rattle.trace_laws.specs.Joins.{HaveJoined};
+ghost use Rattle.trace_laws.specs.Taken.{HaveJoined};
 ghost use Rattle.study.specs.Sources.{SourcesRecord};
 ghost use Rattle.study.specs.Grid.{GridRecord, points, runs};
-ghost use Rattle.sweep.specs.Watching.{told_of};
+ghost use Rattle.sweep.specs.Outcome.{told_of};
 
 use crate::run_numbers::RunNumbers;
 use crate::watcher::Watcher;
@@ -30,7 +30,7 @@ pub(crate) struct Limits {
 }
 
 impl Limits {
-    ghost use Rattle.sweep.specs.Inside.Limits.{AreCounted, TellsOn, next_counted};
+    ghost use Rattle.sweep.specs.Inside.Progress.{AreCounted, TellsOn, next_counted};
 
     /// No run of the point is in.
     pub fn at(point: u64) -> Limits

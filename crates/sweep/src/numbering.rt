@@ -3,7 +3,7 @@ ghost use Rattle.std.specs.Prelude.{◌≡◌, ◌-◌, ◌<◌, ◌≤◌, fals
 ghost use Rattle.std.specs.List.{range_with_len};
 ghost use Rattle.study.specs.Sources.{sources_of};
 ghost use Rattle.study.specs.Grid.{points, runs};
-ghost use Rattle.study.specs.Runs.{IsScenarioOf, IsRefusedFor, is_memory};
+ghost use Rattle.study.specs.Laid.{IsScenarioOf, IsRefusedFor, is_memory};
 ghost use Rattle.sweep.specs.Inside.Numbering.{point_of, table_at};
 ghost use Rattle.sweep.specs.StudyText.{numbers_of};
 

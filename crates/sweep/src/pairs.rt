@@ -1,8 +1,8 @@
 //! The pairs of a run that count, and what they add up to.
 ghost use Rattle.std.specs.Prelude.{◌≡◌, ◌≤◌, ◌*◌, ◌^◌, length, IfOk};
 ghost use Rattle.std.specs.List.{flat_map, sum_by};
-ghost use Rattle.detector_bounds.specs.Watched.{watch_of};
-ghost use Rattle.judges.specs.Crashes.{end_of};
+ghost use Rattle.detector_bounds.specs.Detected.{watch_of};
+ghost use Rattle.judges.specs.Out.{end_of};
 ghost use Rattle.reporting.specs.Durations.{lengths_of};
 ghost use Rattle.sweep.specs.Inside.Adding.{of_pair};
 ghost use Rattle.sweep.specs.Columns.{ArePairSums};

@@ -1,7 +1,7 @@
 //! Calls for consecutive numbers, shared out among threads.
 ghost use Rattle.std.specs.Prelude.{◌≡◌, ℕ, ◌+◌, ◌^◌, ◌<◌, ◌≤◌, None, IfOk, Ok, map, vec_len};
 ghost use Rattle.std.specs.List.{All};
-ghost use Rattle.sweep.specs.Parallel.{AreAnswers, ArePlaces, IsPlaced, with_answers, with_columns};
+ghost use Rattle.sweep.specs.Results.{AreAnswers, ArePlaces, IsPlaced, with_answers, with_columns};
 
 use std::alloc::{AllocError, Global};
 use std::marker::{Send, Sync};

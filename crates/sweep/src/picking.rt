@@ -1,7 +1,7 @@
 //! Fields of a row that are put into another.
 ghost use Rattle.std.specs.Prelude.{◌≡◌, ◌++◌, [], get_or, OnOk};
 ghost use Rattle.csv.specs.Records.{fields_of};
-ghost use Rattle.sweep.specs.RowText.{picked};
+ghost use Rattle.sweep.specs.Layout.{picked};
 
 use csv::StringRecord;
 use std::alloc::AllocError;

@@ -2,9 +2,8 @@
 ghost use Rattle.std.specs.Prelude.{◌≡◌, List, IfOk, is_some};
 ghost use Rattle.judges.specs.declared.outcomes.Outcome.{Outcome as OutcomeRecord};
 ghost use Rattle.scenario_record.specs.Ranges.{IsInRange};
-ghost use Rattle.sweep.specs.Inside.Adding.{of_verdicts};
+ghost use Rattle.sweep.specs.Inside.Adding.{of_verdicts, AreOwnSums};
 ghost use Rattle.sweep.specs.Columns.{AreDecisionSums};
-ghost use Rattle.sweep.specs.Inside.OwnSums.{AreOwnSums};
 ghost use Rattle.sweep.specs.declared.group.Group.{Group as GroupRecord};
 ghost use Rattle.sweep.specs.Results.{ForMeasured, limited_run};
 

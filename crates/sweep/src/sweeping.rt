@@ -2,12 +2,10 @@
 ghost use Rattle.std.specs.Prelude.{◌≡◌, ◌^◌, ◌-◌, ◌*◌, ◌<◌, ◌≤◌, false, length, [], OnOk, IfErr};
 ghost use Rattle.study.specs.Sources.{sources_of};
 ghost use Rattle.study.specs.Grid.{points, runs};
-ghost use Rattle.sweep.specs.Outcome.{WroteStudy, BreaksOff, RefusesRun};
-ghost use Rattle.sweep.specs.Inside.Progress.{WrotePoints, StopsInPoints};
-ghost use Rattle.sweep.specs.Inside.Limits.{numbers_in};
+ghost use Rattle.sweep.specs.Outcome.{WroteStudy, BreaksOff, RefusesRun, HeardLimits, HeardSomeLimits};
+ghost use Rattle.sweep.specs.Inside.Progress.{WrotePoints, StopsInPoints, numbers_in};
 ghost use Rattle.sweep.specs.StudyText.{numbers_of};
-ghost use Rattle.sweep.specs.Watching.{HeardLimits, HeardSomeLimits};
-ghost use Rattle.trace_laws.specs.Joins.{HaveJoined};
+ghost use Rattle.trace_laws.specs.Taken.{HaveJoined};
 
 use crate::batches::Batches;
 use crate::checking::check_study;

@@ -4,7 +4,7 @@ ghost use Rattle.study.specs.Grid.{points};
 ghost use Rattle.csv.specs.Records.{fields_of};
 ghost use Rattle.sweep.specs.ColumnTable.{number_of, numbers_of};
 ghost use Rattle.sweep.specs.Groups.{group_word};
-ghost use Rattle.sweep.specs.RowText.{number_text, header_text, layer_fields, line_text, picked};
+ghost use Rattle.sweep.specs.Layout.{number_text, header_text, layer_fields, line_text, picked};
 ghost use Rattle.sweep.specs.StudyText.{names_of as names_in, unit_point, lead_of};
 
 use crate::column_table::{
@@ -117,7 +117,7 @@ pub struct Table {
 }
 
 impl Table {
-    ghost use Rattle.sweep.specs.Fields.{AddsRowsOfGroup, AddsRowsOfSums, IsBetweenLines, text_of};
+    ghost use Rattle.sweep.specs.StudyText.{AddsRowsOfGroup, AddsRowsOfSums, IsBetweenLines, text_of};
 
     /// No line yet.
     pub fn new(alloc: Global) -> Table
@@ -154,7 +154,7 @@ impl Table {
     /// # Errors
     ///
     /// `AllocError` where memory was refused.
-    #[tactic(auto, unfolding(crate::specs::RowText::header_text))]
+    #[tactic(auto, unfolding(crate::specs::Layout::header_text))]
     pub fn push_header(
         &mut self,
         alloc: Global,

@@ -39,7 +39,7 @@ pub(crate) struct ValueCounts {
 }
 
 impl ValueCounts {
-    ghost use Rattle.sweep.specs.Counted.{AreCounted, CountsMore};
+    ghost use Rattle.sweep.specs.Percentile.{AreCounted, CountsMore};
 
     /// No value came.
     pub(crate) fn new(alloc: Global) -> ValueCounts

@@ -1,6 +1,6 @@
 //! Who is told how far a sweep has come.
 ghost use Rattle.std.specs.Prelude.{◌≡◌, ◌<◌, ◌∷◌, [], ℕ, false, Bool, List, length};
-ghost use Rattle.trace_laws.specs.Joins.{HaveJoined};
+ghost use Rattle.trace_laws.specs.Taken.{HaveJoined};
 ghost use Rattle.study.specs.Grid.{points};
 
 use study::{Grid, Sources};

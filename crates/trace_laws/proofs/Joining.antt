@@ -1,7 +1,7 @@
 -- Events that join, or letters that are heard, one after another.
 use Rattle.trace_laws.proofs.Words.{◌≡◌, ◌++◌, ◌∷◌, [], List, refl, sym, subst, ◌∙◌, append_assoc, append-nil, Event, Events, joined}
 use Rattle.std.specs.FinMap as events
-use Rattle.trace_laws.specs.Joins.{HaveJoined}
+use Rattle.trace_laws.specs.Taken.{HaveJoined}
 
 -- some of all have joined, and the rest is left
 pub record Joined {J E : Type 0} (grown : J → List E → J → Type 0) (old now : J) (rest all : List E) : Type 0 where

@@ -3,7 +3,7 @@ use Rattle.trace_laws.proofs.Words.{◌≡◌, ◌<◌, refl, sym, ap, ◌∙◌
 use Rattle.std.specs.Prelude.{take}
 use Rattle.std.proofs.Math.Seq.{take-append_seam}
 use Rattle.trace_laws.specs.History.{Pair}
-use Rattle.trace_laws.specs.Reached.{IsReached}
+use Rattle.trace_laws.specs.World.{IsReached}
 use Rattle.trace_laws.proofs.Runs.{again, next}
 
 module _ {Mind : Type 0} (S : Setting Mind) where

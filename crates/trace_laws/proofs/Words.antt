@@ -9,11 +9,9 @@ pub use Rattle.std.specs.Ordering.{eq_by_cmp}
 pub use Rattle.process_api.proofs.KeyOrder.{before_by_tick, before_or_not, exact_keys, keys_total, not_before_itself, not_both, same_or_not, ticks_rise}
 pub use Rattle.process_api.proofs.Minds.{and_true, both_true}
 pub use Rattle.process_api.specs.Answer.{Answer}
-pub use Rattle.process_api.specs.EntryRecord.{EntryRecord}
+pub use Rattle.process_api.specs.Order.{EntryRecord, is_before, is_less, is_rising, key_cmp}
 pub use Rattle.process_api.specs.Mind.{Idle, Mind, is_mind_at, stands_at}
-pub use Rattle.process_api.specs.Numbers.{change, numbers_to}
-pub use Rattle.process_api.specs.Order.{is_before, is_less, is_rising, key_cmp}
-pub use Rattle.process_api.specs.Place.{Place, same_place}
+pub use Rattle.process_api.specs.Place.{change, numbers_to, Place, same_place}
 pub use Rattle.process_api.specs.declared.action.Action.{Action}
 pub use Rattle.process_api.specs.declared.key.Key.{Key}
 pub use Rattle.process_api.specs.declared.message.StepInput.{StepInput}
@@ -26,8 +24,6 @@ pub use Rattle.streams.specs.Fate.{fate_by, is_cut, word}
 unfoldable pub use Rattle.streams.specs.Fate.{fate_of}
 pub use Rattle.streams.specs.declared.fate.Fate.TheVariants.{Delay, Lost}
 pub use Rattle.trace_laws.specs.History.{IsClosed, IsIn, IsOnly}
-pub use Rattle.trace_laws.specs.Plain.{plain_left, plain_starts, plain_steps, puts}
-pub use Rattle.trace_laws.specs.ScenarioSetting.{setting_of}
-pub use Rattle.trace_laws.specs.Setting.{IsProcess, IsSlow, IsSound, Setting, has_crashed}
+pub use Rattle.trace_laws.specs.World.{plain_left, plain_starts, plain_steps, puts, Has, IsLeast, IsTrace, IsWorld, NoneBelow, Run, World, entries, joined, made, opening, opening_process, start_of, starts, taken}
+pub use Rattle.trace_laws.specs.Setting.{setting_of, IsProcess, IsSlow, IsSound, Setting, has_crashed}
 pub use Rattle.trace_laws.specs.Step.{Event, Events, Made, Process, added, by_fate, counted, counts_after, dead, in_time, joining, kind_of, lost, lost_by, made_by, noted, raised, sent, step}
-pub use Rattle.trace_laws.specs.World.{Has, IsLeast, IsTrace, IsWorld, NoneBelow, Run, World, entries, joined, made, opening, opening_process, start_of, starts, taken}

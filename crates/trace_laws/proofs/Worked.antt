@@ -3,9 +3,9 @@
 use Rattle.trace_laws.proofs.Words.{◌≡◌, ℕ, zero, suc, ◌+◌, ◌-◌, ◌*◌, ◌%◌, ◌≤◌, refl, sym, ap, ◌∙◌, subst, false, cond, nat_lt, nat_cmp, List, [], ◌∷◌, replicate, get_or, length, Option, None, Some, arith, lit≤, Bool, true, map, filter, inl, inr, AllByRecursion, ForSome, get_or-replicate, get_or_past, length-replicate, EntryRecord, Mind, TimeoutNumbers, IsInRange, IsLink, Record, no_link, link, place_in, Link, fate_of, fate_by, word, Lost, Delay, plain_starts, plain_steps, plain_left, setting_of, Setting, IsSound, opening_process, entries, IsTrace, IsIn}
 use Rattle.std.specs.FinSet as set
 use Rattle.std.proofs.lemmas.Nat.{mul-add-lt}
-use Rattle.process_api.specs.Bounds.{most_processes}
+use Rattle.process_api.specs.Place.{most_processes}
 use Rattle.process_api.specs.declared.numbers.DetectorNumbers.TheVariants as kinds
-use Rattle.scenario_record.specs.Numbers.{AreTimeoutInRange}
+use Rattle.scenario_record.specs.Ranges.{AreTimeoutInRange}
 use Rattle.scenario_record.specs.declared.algorithm.AlgorithmKind.TheVariants as algorithms
 use Rattle.trace_laws.proofs.Alike.{with_minds, same_plain}
 use Rattle.trace_laws.proofs.Sets.{not_None, same_Some}

@@ -2,11 +2,5 @@ pub mod Setting
 pub mod Step
 pub mod World
 pub mod History
-pub mod Plain
 pub mod Theorems
-pub mod ScenarioSetting
-pub mod Effects
-pub mod Joins
 pub mod Taken
-pub mod Codes
-pub mod Reached

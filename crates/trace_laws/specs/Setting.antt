@@ -1,10 +1,13 @@
--- What a scenario and its machines are to the event list. Nothing here knows which algorithm a process runs, or how a
--- letter's fate is drawn.
+-- What a scenario and its machines are to the event list. Nothing but the last section knows which algorithm a process
+-- runs, or how a letter's fate is drawn.
 use Rattle.std.specs.Prelude.{◌≢◌, ℕ, ◌≤◌, Bool, false, nat_le, IsTrue, Option, None, Some}
 use Rattle.std.specs.List.{All}
-use Rattle.process_api.specs.Actions.{IsAllowed}
-use Rattle.process_api.specs.Answer.{Answer}
+use Rattle.process_api.specs.Answer.{IsAllowed, Answer}
+use Rattle.process_api.specs.Mind.{Mind, is_mind_at}
+use Rattle.process_api.specs.React.{react}
 use Rattle.process_api.specs.declared.message.StepInput.{StepInput}
+use Rattle.scenario_record.specs.Record.{Record, crash, place_in, opening_mind}
+use Rattle.streams.specs.Fate.{fate_of}
 use Rattle.streams.specs.declared.fate.Fate.{Fate}
 use Rattle.streams.specs.declared.fate.Fate.TheVariants as fate
 
@@ -51,3 +54,17 @@ module _ {Mind : Type 0} (S : Setting Mind) where
 abbrev pub has_crashed : Option ℕ → ℕ → Bool
 has_crashed None now = false
 has_crashed (Some at) now = nat_le at now
+
+-- ---- what a scenario is to the event list
+
+abbrev pub setting_of : Record → Setting Mind
+setting_of s = record {
+  processes = s.processes;
+  horizon = s.horizon;
+  lookahead = s.lookahead;
+  crash = crash s;
+  fate = fate_of s;
+  opening = opening_mind s;
+  react = react;
+  is_mind = λ p mind. is_mind_at (place_in s p) mind;
+}

@@ -2,9 +2,8 @@
 use Rattle.std.specs.Prelude.{ℕ, ◌+◌, Bool, true, false, if◌then◌else◌, List, [], ◌∷◌, ◌++◌, nat_lt, nat_eq}
 use Rattle.std.specs.FinMap.{FinMap}
 use Rattle.process_api.specs.Answer.{Answer}
-use Rattle.process_api.specs.EntryRecord.{EntryRecord}
-use Rattle.process_api.specs.Numbers.{change}
-use Rattle.process_api.specs.Order.{key_cmp}
+use Rattle.process_api.specs.Order.{EntryRecord, key_cmp}
+use Rattle.process_api.specs.Place.{change}
 use Rattle.process_api.specs.declared.action.Action.{Action}
 use Rattle.process_api.specs.declared.action.Action.TheVariants as action
 use Rattle.process_api.specs.declared.action.Note.{Note}

@@ -1,13 +1,11 @@
 -- What the laws of the event list say of a setting.
 use Rattle.std.specs.Prelude.{◌≡◌, ℕ, List, []}
 use Rattle.std.specs.declared.cmp.Ordering.TheVariants.{Less}
-use Rattle.process_api.specs.EntryRecord.{EntryRecord}
-use Rattle.process_api.specs.Order.{key_cmp}
+use Rattle.process_api.specs.Order.{EntryRecord, key_cmp}
 use Rattle.process_api.specs.declared.key.Key.{Key}
 use Rattle.process_api.specs.declared.message.StepInput.{StepInput}
 use Rattle.trace_laws.specs.Setting.{Setting}
-use Rattle.trace_laws.specs.World.{World, Pair, Run, IsLeast, IsWorld, opening, opening_process, taken, entries, IsTrace}
-use Rattle.trace_laws.specs.Plain.{plain_starts, plain_steps, plain_left}
+use Rattle.trace_laws.specs.World.{World, Pair, Run, IsLeast, IsWorld, opening, opening_process, taken, entries, IsTrace, plain_starts, plain_steps, plain_left}
 use Rattle.trace_laws.specs.History.{IsIn, IsOnly, IsClosed, IsStart, IsCauseOf}
 
 module _ {Mind : Type 0} (S : Setting Mind) where

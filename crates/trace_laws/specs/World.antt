@@ -1,10 +1,11 @@
 -- The single event list.
-use Rattle.std.specs.Prelude.{◌≡◌, ◌≢◌, ℕ, ◌≤◌, ◌<◌, zero, suc, List, [], ◌∷◌, map, IsTrue, Some}
+use Rattle.std.specs.Prelude.{◌≡◌, ◌≢◌, ℕ, ◌≤◌, ◌<◌, zero, suc, List, [], ◌∷◌, map, IsTrue, Some, ◌++◌, refl}
 use Rattle.std.specs.declared.cmp.Ordering.TheVariants.{Less}
 use Rattle.std.specs.FinMap as events
-use Rattle.process_api.specs.EntryRecord.{EntryRecord}
-use Rattle.process_api.specs.Numbers.{change}
-use Rattle.process_api.specs.Order.{key_cmp}
+use Rattle.std.specs.Coded.{Coded, code_by, coded×, coded_ℕ}
+use Rattle.std.specs.FinMap.Entries.{put}
+use Rattle.process_api.specs.Order.{EntryRecord, key_cmp}
+use Rattle.process_api.specs.Place.{change}
 use Rattle.process_api.specs.declared.key.Key.{Key}
 use Rattle.process_api.specs.declared.message.StepInput.{StepInput}
 use Rattle.process_api.specs.declared.message.StepInput.TheVariants.{Start}
@@ -93,3 +94,54 @@ module _ {Mind : Type 0} (S : Setting Mind) where
   abbrev pub IsTrace : List EntryRecord → Type 0
   IsTrace trace =
       (history : List Pair) × (last : World Mind) × Run S.horizon opening history last × (trace ≡ entries history)
+
+-- ---- worlds that the list comes by
+
+module _ {M : Type 0} (S : Setting M) where
+  -- the list comes by this world, after these entries
+  pub record IsReached (w : World M) (trace : List EntryRecord) : Type 0 where
+    pub history : List Pair
+    pub trace_is : trace ≡ entries history
+    pub goes_on : (rest : List Pair) (last : World M)
+        → Run S S.horizon w rest last → Run S S.horizon (opening S) (history ++ rest) last
+    pub comes_by : (all : List Pair) (last : World M)
+        → Run S S.horizon (opening S) all last
+        → (rest : List Pair) × (all ≡ history ++ rest) × Run S S.horizon w rest last
+
+-- ---- how keys are stored
+
+-- a key is stored as its fields
+abbrev pub key_code : Coded Key
+key_code =
+    code_by (ℕ × (ℕ × (ℕ × ℕ))) (coded× coded_ℕ (coded× coded_ℕ (coded× coded_ℕ coded_ℕ)))
+    (λ k. (k.tick, (k.receiver, (k.sender, k.number))))
+    (λ p. record { tick = p.0; receiver = p.1.0; sender = p.1.1.0; number = p.1.1.1 }) (λ _. refl)
+
+-- ---- a plain, slow program for small scenarios, which computes
+
+-- further events, each put in its place
+abbrev pub puts : List Event → List Event → List Event
+puts es [] = es
+puts es (a ∷ more) = puts (put key_cmp a.0 a.1 es) more
+
+-- the starts of processes 1 to n
+abbrev pub plain_starts : ℕ → List Event
+plain_starts zero = []
+plain_starts (suc n) = put key_cmp (start_of (suc n)) Start (plain_starts n)
+
+module _ {Mind : Type 0} (S : Setting Mind) where
+  -- the steps of at most so many events, and what is pending then
+  abbrev pub plain_steps : ℕ → (ℕ → Process Mind) → List Event → List Pair
+  plain_steps zero process es = []
+  plain_steps (suc n) process [] = []
+  plain_steps (suc n) process (e ∷ es) =
+      ((step S (process e.0.receiver) e.0 e.1).entry, e.1)
+      ∷ plain_steps n (change process e.0.receiver (step S (process e.0.receiver) e.0 e.1).process)
+      (puts es (step S (process e.0.receiver) e.0 e.1).added)
+
+  abbrev pub plain_left : ℕ → (ℕ → Process Mind) → List Event → List Event
+  plain_left zero process es = es
+  plain_left (suc n) process [] = []
+  plain_left (suc n) process (e ∷ es) =
+      plain_left n (change process e.0.receiver (step S (process e.0.receiver) e.0 e.1).process)
+      (puts es (step S (process e.0.receiver) e.0 e.1).added)

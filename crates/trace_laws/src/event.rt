@@ -147,7 +147,7 @@ pub struct Event {
 impl Model for Event {
     ghost use Rattle.std.specs.Coded.{coded×};
     ghost use Rattle.process_api.specs.contracts.message.StepInput as step_input;
-    ghost use Rattle.trace_laws.specs.Codes.{key_code};
+    ghost use Rattle.trace_laws.specs.World.{key_code};
     ghost use Rattle.trace_laws.specs.Step.{Event as Pair};
 
     ghost Value = { Pair };

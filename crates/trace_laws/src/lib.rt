@@ -2,8 +2,8 @@
 //!
 //! `specs/World.antt` defines the single event list. It has all pending events and takes the least of them. The step of
 //! that event changes the processes and adds events (`specs/Step.antt`). The list doesn't know detectors, algorithms or
-//! fates: it sees a scenario as a `Setting` (`specs/Setting.antt`), and `specs/ScenarioSetting.antt` makes one of a
-//! scenario. `specs/History.antt` says what a closed history is, whatever the order in which events are taken.
+//! fates: it sees a scenario as a `Setting` (`specs/Setting.antt`), and `setting_of` makes one of a scenario.
+//! `specs/History.antt` says what a closed history is, whatever the order in which events are taken.
 //!
 //! It is proved here that a scenario has exactly one trace, that this trace is a closed history, and that every closed
 //! history has its entries (`proofs/Closed.antt`). It is also proved that each entry but a start has one cause, which

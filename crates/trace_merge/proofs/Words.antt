@@ -15,8 +15,7 @@ pub use Rattle.std.specs.Vec.Iter.{into_iter_items}
 pub use Rattle.process_api.proofs.KeyOrder.{before_by_tick, exact_keys, keys_total}
 pub use Rattle.process_api.proofs.Lists.{both, weaker}
 pub use Rattle.process_api.proofs.Minds.{and_true, both_true}
-pub use Rattle.process_api.specs.EntryRecord.{EntryRecord}
-pub use Rattle.process_api.specs.Order.{is_before, is_less, is_rising, key_cmp}
+pub use Rattle.process_api.specs.Order.{EntryRecord, is_before, is_less, is_rising, key_cmp}
 pub use Rattle.process_api.specs.declared.entry.Entry.{Entry}
 pub use Rattle.trace_merge.specs.Parts.{AllDiffer, AreApart, AreDisjoint, IsInOrder, IsMergeOf, all_of, same}
 pub use Rattle.trace_merge.specs.declared.by_tick.Lane.{Lane}

@@ -3,8 +3,7 @@ use Rattle.std.specs.Prelude.{◌≢◌, Bool, List, [], ◌∷◌, ◌++◌, Is
 use Rattle.std.specs.List.{AllByRecursion, IsDistinct}
 use Rattle.std.specs.List.Sorted.{IsPermutation, IsSortedByKey}
 use Rattle.std.specs.Ordering.{eq_by_cmp}
-use Rattle.process_api.specs.EntryRecord.{EntryRecord}
-use Rattle.process_api.specs.Order.{is_rising, key_cmp}
+use Rattle.process_api.specs.Order.{EntryRecord, is_rising, key_cmp}
 
 -- the entries of all parts
 abbrev pub all_of : List (List EntryRecord) → List EntryRecord

@@ -1,7 +1,6 @@
 //! Merging of the parts of a trace, whole or in pieces.
 ghost use Rattle.std.specs.Prelude.{◌≡◌, ◌<◌, ◌≤◌, ◌⊎◌, ◌++◌, List, [], length, map, IsTrue, IfOk, IfErr, All, IsPermutation};
-ghost use Rattle.process_api.specs.EntryRecord.{EntryRecord};
-ghost use Rattle.process_api.specs.Order.{is_rising};
+ghost use Rattle.process_api.specs.Order.{EntryRecord, is_rising};
 ghost use Rattle.trace_merge.specs.Parts.{all_of, AreDisjoint, IsMergeOf};
 
 use crate::by_tick::{Lane, take_tick};
@@ -26,7 +25,7 @@ pub struct Merging {
 
 impl Model for Merging {
     ghost use Rattle.std.specs.Prelude.{List, map};
-    ghost use Rattle.process_api.specs.EntryRecord.{EntryRecord};
+    ghost use Rattle.process_api.specs.Order.{EntryRecord};
     ghost use Rattle.trace_merge.specs.Parts.{all_of, AllDiffer};
 
     ghost Value = { List (List EntryRecord) };

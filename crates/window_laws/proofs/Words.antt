@@ -5,9 +5,8 @@ pub use Rattle.std.proofs.lemmas.List.{length-map, map-append}
 pub use Rattle.std.specs.List.{list_all, list_any}
 pub use Rattle.pending_events.specs.Pending.{IsEmpty}
 pub use Rattle.process_api.proofs.KeyOrder.{exact_keys, keys_total, not_before_itself, not_both, same_or_not, ticks_rise}
-pub use Rattle.process_api.specs.EntryRecord.{EntryRecord}
-pub use Rattle.process_api.specs.Numbers.{change}
-pub use Rattle.process_api.specs.Order.{is_before, is_less, is_rising, key_cmp}
+pub use Rattle.process_api.specs.Order.{EntryRecord, is_before, is_less, is_rising, key_cmp}
+pub use Rattle.process_api.specs.Place.{change}
 pub use Rattle.process_api.specs.declared.key.Key.{Key}
 pub use Rattle.process_api.specs.declared.message.StepInput.{StepInput}
 pub use Rattle.trace_laws.proofs.Closed.{closed_of_run, opening_world}
@@ -20,6 +19,5 @@ pub use Rattle.trace_laws.specs.History.{IsIn}
 pub use Rattle.trace_laws.specs.Setting.{IsProcess, IsSound, Setting}
 pub use Rattle.trace_laws.specs.Step.{Event, Events, Made, Process, step}
 pub use Rattle.trace_laws.specs.World.{Has, IsLeast, IsTrace, IsWorld, NoneBelow, Run, World, entries, joined, made, opening, taken}
-pub use Rattle.window_laws.specs.Machine.{Act, Close, Done, Held, HoldsNoWork, IsRun, Moves, Post, Return, StageRecord, StandsFor, Status, Take, Turn, Waiting, closed, end_of, first_status, for_others, for_self, gathered, has_below, posted, turned, with_status}
+pub use Rattle.window_laws.specs.Machine.{Act, Close, Done, Held, HoldsNoWork, IsRun, Moves, Post, Return, StageRecord, StandsFor, Status, Take, Turn, Waiting, closed, end_of, first_status, for_others, for_self, gathered, has_below, posted, turned, with_status, AreBerths, BerthRun, IsPosted, IsSameStage}
 pub use Rattle.window_laws.specs.Theorems.{AreAlike, IsListRun, IsMerge, Windows, end_to_end, turns_of}
-pub use Rattle.window_laws.specs.Window.{AreBerths, BerthRun, IsPosted, IsSameStage}

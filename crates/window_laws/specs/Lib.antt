@@ -1,4 +1,3 @@
 pub mod Machine
-pub mod Window
 pub mod Theorems
 pub mod Inside

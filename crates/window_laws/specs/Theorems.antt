@@ -1,7 +1,6 @@
 -- What the law of the window machine says of a setting and a length of windows.
 use Rattle.std.specs.Prelude.{◌≡◌, ◌↔◌, ℕ, ◌≤◌, List, [], ◌∷◌, ◌++◌, map, IsTrue}
-use Rattle.process_api.specs.EntryRecord.{EntryRecord}
-use Rattle.process_api.specs.Order.{is_rising}
+use Rattle.process_api.specs.Order.{EntryRecord, is_rising}
 use Rattle.trace_laws.specs.History.{IsIn, pairs_of}
 use Rattle.trace_laws.specs.Setting.{Setting, IsProcess}
 use Rattle.trace_laws.specs.World.{World, Pair, IsWorld, NoneBelow, Run, entries, opening, IsTrace}

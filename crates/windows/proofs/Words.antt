@@ -15,16 +15,13 @@ pub use Rattle.std.specs.Option.{is_some, option_or}
 pub use Rattle.std.specs.Vec.Iter.{into_iter_items}
 pub use Rattle.deques.proofs.Deals.{flat_push, map_push, map_turn}
 pub use Rattle.deques.specs.Deques.{DequeId, HandView, IsDealt, RestView, TookOne, all_put, deques_of}
-pub use Rattle.mailboxes.specs.Mailbox.{MailboxId, earlier_of, soonest_in}
-pub use Rattle.mailboxes.specs.Mailboxes.{IsSlipOf, MailboxesView, SlipView, filed, list_of, mailboxes_of, posted_to, slip_of, unused, with_lists}
+pub use Rattle.mailboxes.specs.Mailboxes.{MailboxId, earlier_of, soonest_in, IsSlipOf, MailboxesView, SlipView, filed, list_of, mailboxes_of, posted_to, slip_of, unused, with_lists}
 pub use Rattle.pending_events.specs.Pending.{IsEmpty, IsLeastTick}
 pub use Rattle.process_api.proofs.KeyOrder.{before_or_not, exact_keys, keys_total, same_or_not, ticks_rise}
 pub use Rattle.process_api.proofs.Lists.{both, weaker}
-pub use Rattle.process_api.specs.Bounds.{most_step_actions}
-pub use Rattle.process_api.specs.EntryRecord.{EntryRecord}
+pub use Rattle.process_api.specs.Place.{most_step_actions, numbers_to}
+pub use Rattle.process_api.specs.Order.{EntryRecord, is_rising, key_cmp}
 pub use Rattle.process_api.specs.Mind.{Mind}
-pub use Rattle.process_api.specs.Numbers.{numbers_to}
-pub use Rattle.process_api.specs.Order.{is_rising, key_cmp}
 pub use Rattle.process_api.specs.declared.key.Key.{Key}
 pub use Rattle.process_api.specs.declared.message.Letter.{Letter}
 pub use Rattle.process_api.specs.declared.message.StepInput.{StepInput}
@@ -43,8 +40,7 @@ pub use Rattle.trace_laws.proofs.Sets.{insert_at, insert_other, inserted, joined
 pub use Rattle.trace_laws.proofs.Sound.{opens_with_mind, setting_sound}
 pub use Rattle.trace_laws.proofs.Steps.{in_append, in_left, in_right}
 pub use Rattle.trace_laws.specs.History.{IsIn, Pair, pairs_of}
-pub use Rattle.trace_laws.specs.ScenarioSetting.{setting_of}
-pub use Rattle.trace_laws.specs.Setting.{IsProcess, IsSound, Setting}
+pub use Rattle.trace_laws.specs.Setting.{setting_of, IsProcess, IsSound, Setting}
 pub use Rattle.trace_laws.specs.Step.{Event, Events, Process, step}
 pub use Rattle.trace_laws.specs.Taken.{event_of}
 pub use Rattle.trace_laws.specs.World.{Has, IsLeast, IsTrace, IsWorld, NoneBelow, Run, World, entries, joined, opened, opening, opening_process, start_of, starts, taken}
@@ -55,20 +51,15 @@ pub use Rattle.window_laws.proofs.Family.{is_or_not}
 pub use Rattle.window_laws.proofs.Together.{berths_run, h_stands}
 pub use Rattle.window_laws.proofs.Unions.{filter_in, in_filter, in_map, joined_back, map_in}
 pub use Rattle.window_laws.proofs.Whole.{one_merge, windows_trace}
-pub use Rattle.window_laws.specs.Machine.{Act, IsRun, StageRecord, StandsFor, end_of, first_status, for_others, for_self}
+pub use Rattle.window_laws.specs.Machine.{Act, IsRun, StageRecord, StandsFor, end_of, first_status, for_others, for_self, AreBerths, BerthRun, IsPosted, IsSameStage}
 pub use Rattle.window_laws.specs.Theorems.{IsMerge, end_to_end}
-pub use Rattle.window_laws.specs.Window.{AreBerths, BerthRun, IsPosted, IsSameStage}
 pub use Rattle.windows.specs.Berth.{IsBerth, all_filed, most_in_part, with_letters}
 pub use Rattle.windows.specs.Inside.Agenda.{AreFrom, AreLists, AreOne, IsParted, all_ahead, all_in, first_tick, in_box}
-pub use Rattle.windows.specs.Inside.Closing.{HasNextWindow, IsClosed, IsNextWindow, delivered, kept_in}
-pub use Rattle.windows.specs.Inside.Last.{AreParts, IsMerged, TookAllBut, TookFrontOf}
+pub use Rattle.windows.specs.Inside.Closing.{HasNextWindow, IsClosed, IsNextWindow, delivered, kept_in, AreParts, IsMerged, TookAllBut, TookFrontOf}
 pub use Rattle.windows.specs.Inside.Outbox.{made_in}
-pub use Rattle.windows.specs.Inside.Shared.{AreAnswers, ArePosting, AreReady, IsAnswerTo, IsOneTooLong, IsStart, IsWorkBy, IsWorkIn}
-pub use Rattle.windows.specs.Inside.Workers.{AreRun, AreRunBy, BringsTogether, HasLong, IsFresh, IsOutcome, IsReady, IsRest, IsSent, IsStay, IsWork, RiseBy, Stay, given_to, is_to, left_in, sent_in, stay, taken_in}
+pub use Rattle.windows.specs.Inside.Workers.{AreAnswers, ArePosting, AreReady, IsAnswerTo, IsOneTooLong, IsStart, IsWorkBy, IsWorkIn, AreRun, AreRunBy, BringsTogether, HasLong, IsFresh, IsOutcome, IsReady, IsRest, IsSent, IsStay, IsWork, RiseBy, Stay, given_to, is_to, left_in, sent_in, stay, taken_in}
 pub use Rattle.windows.specs.Plan.{IsPlanFor, PlanRecord}
-pub use Rattle.windows.specs.Refusals.{AreThere, IsFirstRefusal, IsOverLimit, IsRefusal, IsRefusalOfOne}
-pub use Rattle.windows.specs.Sink.{IsRefusalOfSink, TookAll, TookClosed, TookFront, TookTrace, writes_of}
-pub use Rattle.windows.specs.Stage.{AreHome, IsCountOfWorkers, IsNextStart, IsOpened, IsStage, IsStageAfter, IsWindowRun, of_process, stage_of, start_event}
+pub use Rattle.windows.specs.Stage.{AreThere, IsFirstRefusal, IsOverLimit, IsRefusal, IsRefusalOfOne, AreHome, IsCountOfWorkers, IsNextStart, IsOpened, IsStage, IsStageAfter, IsWindowRun, of_process, stage_of, start_event, IsRefusalOfSink, TookAll, TookClosed, TookFront, TookTrace, writes_of}
 pub use Rattle.windows.specs.declared.berth.Berth.{Berth}
 pub use Rattle.windows.specs.declared.stage.Stage.{Stage}
 pub use Rattle.windows.specs.declared.workers.Start.{Start}

@@ -1,19 +1,18 @@
 -- A machine in its berth, and what it does in one window.
 use Rattle.std.specs.Prelude.{◌≡◌, ℕ, ◌<◌, ◌+◌, ◌*◌, ◌++◌, List, [], ◌∷◌, length, map}
-use Rattle.process_api.specs.Bounds.{most_step_actions}
+use Rattle.process_api.specs.Place.{most_step_actions}
 use Rattle.process_api.specs.Mind.{Mind}
 use Rattle.process_api.specs.declared.key.Key.{Key}
 use Rattle.process_api.specs.declared.message.Letter.{Letter}
 use Rattle.process_api.specs.declared.message.StepInput.{StepInput}
 use Rattle.scenario_record.specs.Record.{Record}
-use Rattle.trace_laws.specs.ScenarioSetting.{setting_of}
+use Rattle.trace_laws.specs.Setting.{setting_of}
 use Rattle.steps.specs.Seat.{process_of, own_of, IsSeated}
 use Rattle.trace_laws.specs.Step.{Event, Events, Process}
 use Rattle.trace_laws.specs.World.{Pair, Has, entries}
 use Rattle.mailboxes.specs.Mailboxes.{SlipView, filed, slip_of}
 use Rattle.trace_laws.specs.Taken.{event_of}
-use Rattle.window_laws.specs.Machine.{for_others}
-use Rattle.window_laws.specs.Window.{BerthRun}
+use Rattle.window_laws.specs.Machine.{for_others, BerthRun}
 use Rattle.windows.specs.declared.berth.Berth.{Berth}
 use Rattle.windows.specs.declared.berth.TheConstants.{MOST_IN_PART}
 

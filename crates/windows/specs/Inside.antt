@@ -1,8 +1,5 @@
 -- words that private functions, proofs and tests use alone: no public contract rests on them
 pub mod Outbox
 pub mod Workers
-pub mod Shared
-pub mod Last
 pub mod Closing
 pub mod Agenda
-pub mod Filed

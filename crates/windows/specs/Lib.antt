@@ -1,6 +1,4 @@
 pub mod Plan
 pub mod Berth
 pub mod Stage
-pub mod Refusals
-pub mod Sink
 pub mod Inside

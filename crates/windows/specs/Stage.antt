@@ -1,25 +1,25 @@
 -- What a stage of the program stands for.
-use Rattle.std.specs.Prelude.{◌≡◌, ◌⊎◌, ℕ, zero, suc, ◌+◌, ◌++◌, ◌*◌, ◌<◌, ◌≤◌, List, [], length, map, min, slice_get, slice_index_or, Some, vec_len}
+use Rattle.std.specs.Prelude.{◌≡◌, ◌⊎◌, ℕ, zero, suc, ◌+◌, ◌++◌, ◌*◌, ◌<◌, ◌≤◌, List, [], length, map, min, slice_get, slice_index_or, Some, vec_len, Result, Ok, IsErrOf, ◌∷◌, Err}
 use Rattle.std.specs.FinMap as events
 use Rattle.std.specs.List.{All}
 use Rattle.std.specs.List.Sorted.{IsPermutation}
-use Rattle.process_api.specs.Bounds.{most_step_actions}
-use Rattle.process_api.specs.EntryRecord.{EntryRecord}
+use Rattle.process_api.specs.Place.{most_step_actions}
+use Rattle.process_api.specs.Order.{EntryRecord}
 use Rattle.process_api.specs.Mind.{Mind}
 use Rattle.process_api.specs.declared.message.StepInput.TheVariants.{Start}
+use Rattle.process_api.specs.declared.run_error.RunError.{RunError}
+use Rattle.process_api.specs.declared.run_error.RunError.TheVariants.{Limit, Memory, Spawn, Write}
 use Rattle.scenario_record.specs.Record.{Record}
 use Rattle.trace_laws.specs.History.{IsIn}
 use Rattle.pending_events.specs.Pending.{IsLeastTick}
-use Rattle.trace_laws.specs.ScenarioSetting.{setting_of}
+use Rattle.trace_laws.specs.Setting.{setting_of, Setting}
 use Rattle.steps.specs.Seat.{process_of, own_of, IsSeated}
-use Rattle.trace_laws.specs.Reached.{IsReached}
+use Rattle.trace_laws.specs.World.{IsReached, World, IsWorld, NoneBelow, start_of, opening_process, IsTrace}
 use Rattle.trace_laws.specs.Step.{Events}
-use Rattle.trace_laws.specs.World.{World, IsWorld, NoneBelow, start_of, opening_process}
 use Rattle.windows.specs.Berth.{IsBerth}
 use Rattle.windows.specs.Plan.{PlanRecord}
-use Rattle.window_laws.specs.Machine.{StageRecord, Act, StandsFor, IsRun, end_of, first_status}
-use Rattle.window_laws.specs.Theorems.{IsMerge}
-use Rattle.window_laws.specs.Window.{IsSameStage}
+use Rattle.window_laws.specs.Machine.{StageRecord, Act, StandsFor, IsRun, end_of, first_status, IsSameStage}
+use Rattle.window_laws.specs.Theorems.{IsMerge, end_to_end}
 use Rattle.windows.specs.declared.berth.Berth.{Berth}
 use Rattle.windows.specs.declared.stage.Stage.{Stage}
 
@@ -109,3 +109,82 @@ module _ {M : Type 0} where
   StartedWorkers plan old new =
       IsCountOfWorkers (end_of (setting_of old.scenario.now) plan.window old.start) plan.workers old.berths.items
       new.workers
+
+-- ---- why a window is refused, and which of several refusals is answered
+
+-- one process is refused because the trace has no place left, or because memory was refused
+abbrev pub IsRefusalOfOne : RunError → Type 0
+IsRefusalOfOne e = (e ≡ Limit) ⊎ (e ≡ Memory)
+
+-- a window is refused for that, or because a thread was refused
+abbrev pub IsRefusal : RunError → Type 0
+IsRefusal e = (e ≡ Limit) ⊎ (e ≡ Memory) ⊎ (e ≡ Spawn)
+
+-- every trace of the scenario has more entries than its limit
+abbrev pub IsOverLimit : Record → Type 0
+IsOverLimit s = (whole : List EntryRecord) → IsTrace (setting_of s) whole → s.limit < length whole
+
+-- of several refusals that of a thread comes first, then that of memory, then that of a place in the trace
+abbrev pub rank_of : RunError → ℕ
+rank_of Spawn = 0
+rank_of Memory = 1
+rank_of Limit = 2
+rank_of Write = 3
+
+-- the refusal is one of these two answers', and no refusal of theirs comes before it
+pub record IsFirstRefusal {A B : Type 0} (left : Result A RunError) (right : Result B RunError)
+    (e : RunError) : Type 0 where
+  pub one : IsErrOf left e ⊎ IsErrOf right e
+  pub first : (other : RunError) → IsErrOf left other ⊎ IsErrOf right other → rank_of e ≤ rank_of other
+
+-- neither answer is a refusal
+abbrev pub AreThere : {A B : Type 0} → Result A RunError → Result B RunError → Type 0
+AreThere {A} {B} left right = (a : A) × (b : B) × (left ≡ Ok a) × (right ≡ Ok b)
+
+-- ---- what is handed on to a sink
+
+-- a sink refuses a part because memory was refused, or because the part can't be written
+abbrev pub IsRefusalOfSink : RunError → Type 0
+IsRefusalOfSink e = (e ≡ Memory) ⊎ (e ≡ Write)
+
+-- how many parts couldn't be written, of those of a call that ends so
+abbrev pub writes_of : {X : Type 0} → Result X RunError → ℕ
+writes_of (Ok x) = 0
+writes_of (Err Write) = 1
+writes_of (Err Limit) = 0
+writes_of (Err Memory) = 0
+writes_of (Err Spawn) = 0
+
+-- the sink took these parts, one after the other
+abbrev pub TookAll : {K : Type 0} → (took : K → List EntryRecord → K → Type 0) → K → List (List EntryRecord) → K
+    → Type 0
+TookAll took old [] new = new ≡ old
+TookAll {K} took old (part ∷ more) new = (mid : K) × took old part mid × TookAll took mid more new
+
+module _ {K : Type 0} (took : K → List EntryRecord → K → Type 0) {Mind : Type 0} (S : Setting Mind) where
+  -- the sink took the trace, in parts
+  pub record TookTrace (old new : K) : Type 0 where
+    pub parts : List (List EntryRecord)
+    pub took_all : TookAll took old parts new
+    pub is_trace : IsTrace S (end_to_end parts)
+
+  -- The sink took parts whose entries are at the front of every trace, and was handed nothing more; or it took a front
+  -- of one more, which comes next in every trace
+  pub record TookFront (took_front : K → List EntryRecord → K → Type 0) (old new : K) : Type 0 where
+    pub parts : List (List EntryRecord)
+    pub mid : K
+    pub took_all : TookAll took old parts mid
+    pub last : List EntryRecord
+    pub ended : ((last ≡ []) × (new ≡ mid)) ⊎ took_front mid last new
+    pub front : (whole : List EntryRecord) → IsTrace S whole
+        → (rest : List EntryRecord) × (whole ≡ (end_to_end parts ++ last) ++ rest)
+
+  -- The sink took whole parts and was handed nothing more. They have just the entries that every trace has below some
+  -- tick. Which tick that is isn't said; the run hands on the entries of the windows that were closed
+  pub record TookClosed (old new : K) : Type 0 where
+    pub parts : List (List EntryRecord)
+    pub took_all : TookAll took old parts new
+    pub tick : ℕ
+    pub before : All (λ e. e.key.tick < tick) (end_to_end parts)
+    pub after : (whole : List EntryRecord) → IsTrace S whole
+        → (rest : List EntryRecord) × (whole ≡ end_to_end parts ++ rest) × All (λ e. tick ≤ e.key.tick) rest

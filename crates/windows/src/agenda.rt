@@ -5,10 +5,8 @@ ghost use Rattle.trace_laws.specs.Step.{Event as EventPair};
 ghost use Rattle.trace_laws.specs.World.{IsLeast, NoneBelow, joined};
 ghost use Rattle.pending_events.specs.Pending.{IsEmpty, IsLeastTick};
 ghost use Rattle.trace_laws.specs.Taken.{event_of};
-ghost use Rattle.mailboxes.specs.Collected.{HasCollected};
-ghost use Rattle.mailboxes.specs.Mailbox.{soonest_in};
-ghost use Rattle.windows.specs.Inside.Agenda.{all_in, all_ahead, in_box, AreLists, AreOne, IsParted};
-ghost use Rattle.windows.specs.Inside.Filed.{HasFiled};
+ghost use Rattle.mailboxes.specs.Mailboxes.{HasCollected, soonest_in};
+ghost use Rattle.windows.specs.Inside.Agenda.{all_in, all_ahead, in_box, AreLists, AreOne, IsParted, HasFiled};
 ghost use Rattle.windows.specs.Stage.{start_event};
 
 use mailboxes::{Collects, Inbox, earlier};
@@ -57,7 +55,7 @@ struct Inner {
 impl Model for Agenda {
     ghost use Rattle.std.specs.FinMap as events;
     ghost use Rattle.process_api.specs.contracts.message.StepInput as step_input;
-    ghost use Rattle.trace_laws.specs.Codes.{key_code};
+    ghost use Rattle.trace_laws.specs.World.{key_code};
     ghost use Rattle.trace_laws.specs.Step.{Events};
     ghost use Rattle.windows.specs.Inside.Agenda.{AreLists, AreOne, all_ahead, in_box};
 
@@ -164,7 +162,7 @@ impl Parted {
 
 /// The letters of a mailbox are parted as they leave it.
 impl Collects for Parted {
-    ghost use Rattle.windows.specs.Inside.Filed.{HasFiled};
+    ghost use Rattle.windows.specs.Inside.Agenda.{HasFiled};
 
     ghost collected = { HasFiled };
 

@@ -4,9 +4,8 @@ ghost use Rattle.std.specs.List.{All};
 ghost use Rattle.trace_laws.specs.World.{NoneBelow};
 ghost use Rattle.mailboxes.specs.Mailboxes.{mailboxes_of, unused};
 ghost use Rattle.deques.specs.Deques.{deques_of, all_put};
-ghost use Rattle.windows.specs.Refusals.{IsRefusalOfOne};
-ghost use Rattle.windows.specs.Inside.Shared.{AreReady, IsOneTooLong, IsRestIn};
-ghost use Rattle.windows.specs.Inside.Workers.{IsFresh, BringsTogether};
+ghost use Rattle.windows.specs.Stage.{IsRefusalOfOne};
+ghost use Rattle.windows.specs.Inside.Workers.{AreReady, IsOneTooLong, IsRestIn, IsFresh, BringsTogether};
 
 use crate::berth::Berth;
 use crate::gate::Gate;

@@ -1,8 +1,8 @@
 //! The law of windows.
-ghost use Rattle.trace_laws.specs.ScenarioSetting.{setting_of};
+ghost use Rattle.trace_laws.specs.Setting.{setting_of};
 ghost use Rattle.windows.specs.Plan.{IsPlanFor};
 ghost use Rattle.window_laws.specs.Theorems.{AnyOrder, CloseAlike, HasRun, MakeTrace};
-ghost use Rattle.window_laws.specs.Window.{LawBerths};
+ghost use Rattle.window_laws.specs.Machine.{LawBerths};
 
 use crate::plan::Plan;
 use scenario_record::Scenario;

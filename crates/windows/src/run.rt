@@ -1,15 +1,13 @@
 //! A run by windows.
 ghost use Rattle.std.specs.Prelude.{◌≡◌, ◌≤◌, ◌<◌, ◌+◌, ◌-◌, ◌^◌, ◌⊎◌, List, [], length, map, IfErr, IfOk, Ok, OnOk, OnErr, IsErrOf};
-ghost use Rattle.process_api.specs.EntryRecord.{EntryRecord};
-ghost use Rattle.process_api.specs.Numbers.{numbers_to};
+ghost use Rattle.process_api.specs.Order.{EntryRecord};
+ghost use Rattle.process_api.specs.Place.{numbers_to};
 ghost use Rattle.scenario_record.specs.Record.{opening_mind};
-ghost use Rattle.trace_laws.specs.ScenarioSetting.{setting_of};
+ghost use Rattle.trace_laws.specs.Setting.{setting_of};
 ghost use Rattle.trace_laws.specs.World.{IsTrace};
-ghost use Rattle.windows.specs.Inside.Closing.{HasNextWindow, IsNextWindow};
-ghost use Rattle.windows.specs.Inside.Last.{AreParts, HandedOn, TookAllBut, TookFrontOf};
+ghost use Rattle.windows.specs.Inside.Closing.{HasNextWindow, IsNextWindow, AreParts, HandedOn, TookAllBut, TookFrontOf};
 ghost use Rattle.windows.specs.Plan.{IsPlanFor};
-ghost use Rattle.windows.specs.Refusals.{IsOverLimit, IsRefusal};
-ghost use Rattle.windows.specs.Sink.{IsRefusalOfSink, TookTrace, TookFront, TookClosed, writes_of};
+ghost use Rattle.windows.specs.Stage.{IsOverLimit, IsRefusal, IsRefusalOfSink, TookTrace, TookFront, TookClosed, writes_of};
 
 use crate::chore::Chore;
 use crate::gate::Gate;
@@ -77,7 +75,7 @@ struct Handing<'k, K: Sink> {
 
 impl<K: Sink> Chore for Handing<'_, K> {
     ghost use Rattle.std.specs.Prelude.{◌≡◌, ◌<◌, ◌-◌, ◌^◌};
-    ghost use Rattle.windows.specs.Inside.Last.{AreParts, HandedOn};
+    ghost use Rattle.windows.specs.Inside.Closing.{AreParts, HandedOn};
 
     ghost waits = { λ h. AreParts h.left.parts.items × (K.failed h.sink.now < 2 ^ 64 - 1) };
 

@@ -2,17 +2,14 @@
 ghost use Rattle.std.specs.Prelude.{◌≡◌, ◌≤◌, ◌<◌, ◌+◌, ◌++◌, ◌⊎◌, ℕ, List, length, map, min, IfOk, IfErr, OnOk, IsErrOf, vec_len};
 ghost use Rattle.std.specs.List.{All};
 ghost use Rattle.std.specs.Thread.{IsSync};
-ghost use Rattle.process_api.specs.EntryRecord.{EntryRecord};
+ghost use Rattle.process_api.specs.Order.{EntryRecord};
 ghost use Rattle.steps.specs.Seat.{own_of};
 ghost use Rattle.mailboxes.specs.Mailboxes.{IsSlipOf, unused};
 ghost use Rattle.windows.specs.Inside.Closing.{HasNextWindow, IsNextWindow};
 ghost use Rattle.deques.specs.Deques.{deques_of};
 ghost use Rattle.windows.specs.Plan.{IsPlanFor, most_workers};
-ghost use Rattle.windows.specs.Refusals.{IsOverLimit, IsRefusal, IsRefusalOfOne};
-ghost use Rattle.windows.specs.Inside.Shared.{AreReady, IsOneTooLong, IsStart, IsWorkIn, AreAnswers};
-ghost use Rattle.windows.specs.Inside.Shared.{HadWindow};
-ghost use Rattle.windows.specs.Stage.{IsCountOfWorkers, IsStage, IsStageAfter, IsWindowRun, StartedWorkers};
-ghost use Rattle.windows.specs.Inside.Workers.{IsOutcome, RiseBy, given_to};
+ghost use Rattle.windows.specs.Stage.{IsOverLimit, IsRefusal, IsRefusalOfOne, IsCountOfWorkers, IsStage, IsStageAfter, IsWindowRun, StartedWorkers};
+ghost use Rattle.windows.specs.Inside.Workers.{AreReady, IsOneTooLong, IsStart, IsWorkIn, AreAnswers, HadWindow, IsOutcome, RiseBy, given_to};
 
 use crate::berth::Berth;
 use crate::chore::Chore;

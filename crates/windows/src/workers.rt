@@ -7,9 +7,8 @@ ghost use Rattle.mailboxes.specs.Mailboxes.{with_lists};
 ghost use Rattle.process_api.specs.declared.run_error.RunError.TheVariants.{Memory, Spawn};
 ghost use Rattle.windows.specs.Berth.{IsLong};
 ghost use Rattle.windows.specs.Plan.{most_workers};
-ghost use Rattle.windows.specs.Refusals.{rank_of, AreThere, IsFirstRefusal, IsRefusalOfOne};
-ghost use Rattle.windows.specs.Inside.Shared.{ArePosting, IsStart, IsAnswerTo, AreAnswers, RunsOneMore};
-ghost use Rattle.windows.specs.Inside.Workers.{IsReady};
+ghost use Rattle.windows.specs.Stage.{rank_of, AreThere, IsFirstRefusal, IsRefusalOfOne};
+ghost use Rattle.windows.specs.Inside.Workers.{ArePosting, IsStart, IsAnswerTo, AreAnswers, RunsOneMore, IsReady};
 
 use crate::berth::{Berth, run_into};
 use crate::chore::Chore;
@@ -152,7 +151,7 @@ struct WorkAt<'s, M, G> {
 }
 
 impl<'s, M: Process, G: Gate> Promise<Result<Work<M>, RunError>> for WorkAt<'s, M, G> {
-    ghost use Rattle.windows.specs.Inside.Shared.{IsAnswerTo};
+    ghost use Rattle.windows.specs.Inside.Workers.{IsAnswerTo};
 
     ghost kept_by = { λ p r. IsAnswerTo M.mind p.shared.value p.start.value r };
 }

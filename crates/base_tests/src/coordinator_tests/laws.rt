@@ -1,16 +1,13 @@
 //! What a caller has of the laws.
 ghost use Rattle.std.specs.Prelude.{◌≡◌, ◌≤◌, ◌<◌, ◌+◌, ◌*◌, ◌++◌, ◌∷◌, ℕ, true, false, None, Some, List, length, OnOk, IfOk};
 ghost use Rattle.std.specs.FinSet as set;
-ghost use Rattle.process_api.specs.Coordinator.{end_wait, step_coordinator};
-ghost use Rattle.process_api.specs.Rounds.{coordinator as coordinator_of};
+ghost use Rattle.process_api.specs.Coordinator.{end_wait, step_coordinator, coordinator as coordinator_of};
 ghost use Rattle.process_api.specs.declared.action.Action.{Action as ActionData};
 ghost use Rattle.process_api.specs.declared.action.Action.TheVariants as Action;
 ghost use Rattle.process_api.specs.declared.consensus.Estimate.{Estimate as EstimateData};
 ghost use Rattle.process_api.specs.declared.consensus.Phase.TheVariants as Phase;
 ghost use Rattle.process_api.specs.declared.message.Payload.TheVariants as Payload;
-ghost use Rattle.consensus_es.specs.Kept.{by_sender};
-ghost use Rattle.consensus_es.specs.Orderly.{IsOrderly};
-ghost use Rattle.consensus_es.specs.State.{state_of, Does};
+ghost use Rattle.consensus_es.specs.State.{by_sender, state_of, Does, IsOrderly};
 
 use crate::comparisons::{NO_MEMORY, same};
 use consensus_es::{Letters, Membership, Progress, best, law_settled};

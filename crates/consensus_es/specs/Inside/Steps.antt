@@ -3,14 +3,16 @@ use Rattle.std.specs.Prelude.{ℕ, Bool, not, ◌&&◌, nat_eq, Option}
 use Rattle.std.specs.FinSet as set
 use Rattle.process_api.specs.Answer.{Answer, still}
 use Rattle.process_api.specs.Coordinator as definition
-use Rattle.process_api.specs.Coordinator.{Coordinator}
-use Rattle.process_api.specs.Rounds.{coordinator, is_own}
+use Rattle.process_api.specs.Coordinator.{Coordinator, coordinator, is_own}
 use Rattle.process_api.specs.Sets.{Processes}
+use Rattle.process_api.specs.Place.{Place}
+use Rattle.process_api.specs.Mind.{AlgorithmState, Coordinating}
 use Rattle.process_api.specs.declared.membership.Membership.{Membership}
 use Rattle.process_api.specs.declared.message.Payload.{Payload}
 use Rattle.process_api.specs.declared.message.StepInput.{StepInput}
 use Rattle.consensus_es.specs.State.{state_of}
 use Rattle.consensus_es.specs.declared.progress.Progress.{Progress}
+use Rattle.consensus_es.specs.declared.consensus.EsConsensus.{EsConsensus}
 
 module _ (m : Membership) (s : Progress) where
   abbrev pub begun : StepInput → Answer Coordinator
@@ -58,3 +60,15 @@ module _ (m : Membership) (s : Progress) where
   is_by_coordinator sender round =
       is_timely sender round && (nat_eq sender (coordinator m.processes round)
       && not (definition.is_early m.processes m.own (state_of s) sender))
+
+-- ---- the machine as plain data
+
+abbrev pub place_of : EsConsensus → Place
+place_of c = record { own = c.membership.own; processes = c.membership.processes; horizon = c.horizon }
+
+abbrev pub algorithm_of : EsConsensus → AlgorithmState
+algorithm_of c = Coordinating (place_of c) (state_of c.progress)
+
+-- a call has answered Err
+abbrev pub answered_err : EsConsensus → Bool
+answered_err c = c.failed

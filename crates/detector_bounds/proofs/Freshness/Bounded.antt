@@ -4,7 +4,7 @@ use Rattle.std.specs.FinSet as set
 use Rattle.process_api.specs.Freshness.{FreshnessState, opening_freshness, watches, is_stale}
 use Rattle.process_api.specs.declared.message.StepInput.TheVariants as input
 use Rattle.process_api.specs.declared.numbers.DetectorNumbers.TheVariants as numbers
-use Rattle.judges.specs.Meaning.{IsProcess, Suspects}
+use Rattle.judges.specs.Verdicts.{IsProcess, Suspects}
 use Rattle.detector_bounds.proofs.Fates.{delivers}
 use Rattle.detector_bounds.proofs.Verdicts.{pairs_keep}
 use Rattle.detector_bounds.proofs.Added.{Delivers}

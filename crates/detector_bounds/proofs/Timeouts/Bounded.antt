@@ -3,7 +3,7 @@ use Rattle.std.proofs.Common.{◌≡◌, ◌≢◌, ℕ, zero, suc, ◌+◌, ◌
 use Rattle.std.specs.FinSet as set
 use Rattle.detector_bounds.proofs.Words.{suspected_by, EntryRecord, Mind, is_process, is_watched, Timeout, TimeoutNumbers, AreInRange, AreTimeoutInRange, IsInRange, Record, crash, link, fate_of, Delay, setting_of, IsSound, has_crashed, World, NoneBelow, IsTrace, entries, setting_sound, crash_tick, out, detected_at, HasNoMistake, CrashesAt, KeepsBounds, trusts, last_letter, grown, detected_by, longest, Watches, IsReliable, IsTimely, watch_of}
 use Rattle.process_api.specs.Timeout.{watches, opening_timeout}
-use Rattle.judges.specs.Meaning.{IsProcess, IsCorrect, From, Suspects}
+use Rattle.judges.specs.Verdicts.{IsProcess, IsCorrect, From, Suspects}
 use Rattle.detector_bounds.proofs.Ending.{IsKept, IsEnd, ending, holds_at}
 use Rattle.detector_bounds.proofs.Fates.{fate_within, delivers}
 use Rattle.detector_bounds.proofs.Instances.{runs_timeout, timeout_step, timeout_suspects, timeout_seen}

@@ -1,16 +1,14 @@
 -- Where a run of the list stands.
 use Rattle.std.specs.Prelude.{◌≡◌, ℕ, ◌-◌, List, ◌++◌, Some, All, map, slice_get, slice_set}
-use Rattle.process_api.specs.EntryRecord.{EntryRecord}
+use Rattle.process_api.specs.Order.{EntryRecord}
 use Rattle.process_api.specs.Mind.{Mind}
 use Rattle.process_api.specs.declared.key.Key.{Key}
 use Rattle.scenario_record.specs.Record.{Record}
-use Rattle.trace_laws.specs.Setting.{Setting, IsProcess}
+use Rattle.trace_laws.specs.Setting.{Setting, IsProcess, setting_of}
 use Rattle.steps.specs.Posting.{Posted, posted_along, posted_in}
 use Rattle.steps.specs.Seat.{process_of, IsSeated}
-use Rattle.trace_laws.specs.ScenarioSetting.{setting_of}
 use Rattle.trace_laws.specs.Step.{Event, Events, Process, Made, step}
-use Rattle.trace_laws.specs.Reached.{IsReached}
-use Rattle.trace_laws.specs.World.{World, Pair, Run, IsWorld, opening, joined}
+use Rattle.trace_laws.specs.World.{IsReached, World, Pair, Run, IsWorld, opening, joined}
 use Rattle.event_list.specs.declared.list.EventList.{EventList}
 
 module _ {M : Type 0} (S : Setting M) where

@@ -1,10 +1,14 @@
 -- The text of a report, from what was found of a run.
-use Rattle.std.specs.Prelude.{Option, None, Some, [], ◌++◌}
-use Rattle.std.specs.List.{flat_map}
+use Rattle.std.specs.Prelude.{Option, None, Some, [], ◌++◌, ℕ, List, ◌∷◌, decimal}
+use Rattle.std.specs.List.{flat_map, join_with_byte}
 use Rattle.judges.specs.declared.verdicts.Verdicts.{Verdicts}
 use Rattle.scenario_record.specs.declared.algorithm.AlgorithmKind.{AlgorithmKind}
-use Rattle.reporting.specs.ReportText.{Text, report_header, run_text, verdict_text, pair_text, decisions_text}
+use Rattle.reporting.specs.ReportText.{Text, report_header, run_text, verdict_text, pair_text, decisions_text, report_row, report_rows}
+use Rattle.reporting.specs.Rows.{comma}
 use Rattle.reporting.specs.declared.findings.RunFindings.{RunFindings}
+use Rattle.reporting.specs.declared.report_rows.About.{About}
+use Rattle.reporting.specs.declared.values.Value.{Value}
+use Rattle.reporting.specs.declared.values.Value.TheVariants.{Number, Count, Sum, Word}
 
 -- the verdicts on layer 2, where there is a reduction
 abbrev pub second_text : Option Verdicts → Text
@@ -20,3 +24,22 @@ found_text algorithm f =
     ++ (run_text f.summary.entries f.summary.sent f.summary.lost
     ++ (layers_text f
     ++ (flat_map pair_text f.measures.items ++ decisions_text algorithm f.summary.outcomes.items)))
+
+-- ---- the text of a report's value, and of the rows of values
+
+abbrev pub value_text : Value → List ℕ
+value_text (Number number) = decimal number
+value_text (Count count) = decimal count
+value_text (Sum sum) = decimal sum
+value_text (Word word) = word.now
+
+-- the fields that all rows of one subject begin with
+abbrev pub front_of : About → Text
+front_of a = join_with_byte comma (a.section.now ∷ decimal a.layer ∷ decimal a.observer ∷ decimal a.subject ∷ [])
+
+-- the row of a value with its name, and the rows of some
+abbrev pub row_about : About → Text × Text → Text
+row_about a value = report_row a.section.now a.layer a.observer a.subject value
+
+abbrev pub rows_about : About → List (Text × Text) → Text
+rows_about a values = report_rows a.section.now a.layer a.observer a.subject values

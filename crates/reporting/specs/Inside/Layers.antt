@@ -1,15 +1,14 @@
 -- What is kept and told of the pairs on a layer, whatever trace it was that they were fed with.
 use Rattle.std.specs.Prelude.{◌≡◌, ℕ, Bool, true, Option, is_some, List, [], ◌∷◌, ◌++◌}
-use Rattle.process_api.specs.EntryRecord.{EntryRecord}
+use Rattle.process_api.specs.Order.{EntryRecord}
 use Rattle.scenario_record.specs.Record.{Record}
 use Rattle.judges.specs.Verdicts.{verdicts}
 use Rattle.judges.specs.declared.pairs.Pairs.{Pairs}
 use Rattle.judges.specs.declared.verdicts.Verdicts.{Verdicts}
 use Rattle.reporting.specs.Durations.{AreDurations, AreFollowing}
-use Rattle.reporting.specs.Measured.{second_verdicts}
+use Rattle.reporting.specs.Running.{second_verdicts, IsLayer, IsSecond}
 use Rattle.reporting.specs.Measures.{layer_measures, second_measures}
 use Rattle.reporting.specs.LayerPairs.{IsMetering}
-use Rattle.reporting.specs.Running.{IsLayer, IsSecond}
 use Rattle.reporting.specs.declared.durations.Durations.{Durations}
 use Rattle.reporting.specs.declared.layer.Layer.{Layer}
 use Rattle.reporting.specs.declared.pair_measures.PairMeasures.{PairMeasures}

@@ -5,8 +5,7 @@ use Rattle.csv.specs.Writing.{default_writer}
 use Rattle.csv.specs.declared.writer.Writer.{Writer}
 use Rattle.process_api.specs.declared.entry.Kind.{Kind}
 use Rattle.reporting.specs.Inside.Plain.{IsPlain}
-use Rattle.reporting.specs.Kinds.{kind_text}
-use Rattle.reporting.specs.Rows.{IsBetween, row_of, written}
+use Rattle.reporting.specs.Rows.{kind_text, IsBetween, row_of, written}
 use Rattle.reporting.specs.declared.trace_text.Fields.{Fields}
 
 -- in the order of the columns, in a row of this kind's name

@@ -2,8 +2,7 @@
 ghost use Rattle.std.specs.Prelude.{◌≡◌, ◌≤◌, ◌<◌, ◌-◌, ◌==◌, ℕ, [], length, map, IfOk, IfSome};
 ghost use Rattle.std.specs.List.{count_by, flat_map, range_with_len};
 ghost use Rattle.study.specs.Sources.{sources_of};
-ghost use Rattle.study.specs.Combinations.{combinations};
-ghost use Rattle.study.specs.Grid.{runs, turn};
+ghost use Rattle.study.specs.Grid.{combinations, runs, turn};
 ghost use Rattle.sweep.specs.StudyText.{IsStudyText};
 
 use super::studies::seven_points;

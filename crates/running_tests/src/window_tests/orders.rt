@@ -1,5 +1,5 @@
 //! The law at runs in which two workers take turns.
-ghost use Rattle.trace_laws.specs.ScenarioSetting.{setting_of};
+ghost use Rattle.trace_laws.specs.Setting.{setting_of};
 ghost use Rattle.window_laws.specs.Inside.Alternation.{AlternatingIsList, AlternatingIsOneByOne, ListOrderIsAny};
 ghost use Rattle.windows.specs.Plan.{IsPlanFor};
 

@@ -1,7 +1,7 @@
 -- A book of letters, as they are heard of.
 use Rattle.std.specs.Prelude.{◌≡◌, List, ◌++◌, map}
 use Rattle.steps.specs.Posting.{Posted}
-use Rattle.trace_laws.specs.ScenarioSetting.{setting_of}
+use Rattle.trace_laws.specs.Setting.{setting_of}
 use Rattle.runs.specs.Letters.{letter_of}
 use Rattle.runs.specs.declared.book.LetterBook.{LetterBook}
 

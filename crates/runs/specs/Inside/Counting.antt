@@ -1,6 +1,6 @@
 -- Counts of trusts, with more.
 use Rattle.std.specs.Prelude.{ℕ, ◌+◌, ◌==◌, if◌then◌else◌, List}
-use Rattle.runs.specs.Trusts.{AreCounts}
+use Rattle.runs.specs.Finishing.{AreCounts}
 
 -- whatever was counted before, so many times more the observer trusts each subject
 abbrev pub HasCounted : (n observer : ℕ) (more : (p : ℕ) → ℕ) (old new : List ℕ) → Type 0

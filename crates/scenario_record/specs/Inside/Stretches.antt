@@ -2,7 +2,7 @@
 use Rattle.std.specs.Prelude.{◌≡◌, ℕ, List}
 use Rattle.std.specs.List.{list_any}
 use Rattle.std.specs.List.Sorted.{IsNonDecreasingBy}
-use Rattle.scenario_record.specs.Outages.{covers}
+use Rattle.scenario_record.specs.Record.{covers}
 use Rattle.scenario_record.specs.declared.outage.Outage.{Outage}
 
 -- the stretches, by rising begins and rising ends, have just the ticks of the outages

@@ -2,7 +2,7 @@
 use Rattle.std.specs.Prelude.{◌≡◌, ◌++◌, ℕ, List, length, false, Ok, Err}
 use Rattle.study.specs.Grid.{runs}
 use Rattle.study.specs.Placed.{assign_all, is_memory as is_place_memory}
-use Rattle.study.specs.Runs.{IsRefusedFor, is_memory}
+use Rattle.study.specs.Laid.{IsRefusedFor, is_memory}
 use Rattle.study.specs.Sources.{SourcesRecord, sources_of}
 use Rattle.study.specs.declared.assignment.Assignment.{Assignment}
 use Rattle.study.specs.declared.error.PlaceError.{PlaceError}

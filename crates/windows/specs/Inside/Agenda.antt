@@ -5,7 +5,7 @@ use Rattle.std.specs.List.{AllByRecursion}
 use Rattle.process_api.specs.declared.key.Key.{Key}
 use Rattle.process_api.specs.declared.message.Letter.{Letter}
 use Rattle.process_api.specs.declared.message.StepInput.{StepInput}
-use Rattle.mailboxes.specs.Mailbox.{earlier_of}
+use Rattle.mailboxes.specs.Mailboxes.{earlier_of}
 use Rattle.trace_laws.specs.History.{IsIn}
 use Rattle.trace_laws.specs.Step.{Event, Events}
 use Rattle.trace_laws.specs.Taken.{event_of}
@@ -51,3 +51,10 @@ pub record IsParted (end : ℕ) (es : List Event) (p : Parted) : Type 0 where
   pub below : AllByRecursion (λ e. e.0.tick < end) p.due.items
   pub from : AreFrom end p.later.items
   pub next : p.next ≡ first_tick p.later.items
+
+-- ---- letters that are parted with the events of a process
+
+-- these letters were filed: what was parted by the first, and then they, are parted by the second
+abbrev pub HasFiled : (first now : Parted) → List Letter → Type 0
+HasFiled first now letters =
+    (end : ℕ) (es : List Event) → IsParted end es first → IsParted end (es ++ map event_of letters) now

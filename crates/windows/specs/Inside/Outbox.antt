@@ -4,7 +4,7 @@ use Rattle.process_api.specs.Mind.{Mind}
 use Rattle.scenario_record.specs.Record.{Record}
 use Rattle.steps.specs.Seat.{process_of}
 use Rattle.steps.specs.declared.seat.Seat.{Seat}
-use Rattle.trace_laws.specs.ScenarioSetting.{setting_of}
+use Rattle.trace_laws.specs.Setting.{setting_of}
 use Rattle.trace_laws.specs.Step.{Event, Events, Made, step}
 use Rattle.trace_laws.specs.World.{joined}
 use Rattle.window_laws.specs.Machine.{for_self}

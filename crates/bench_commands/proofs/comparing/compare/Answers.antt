@@ -1,5 +1,5 @@
 use Rattle.bench_commands.proofs.Words.{◌≡◌, ◌∙◌, ap, sym, refl, ℕ, List, Bool, true, false, setting_of, one_trace, printed, Both, Record}
-use Rattle.bench_commands.specs.Compare.{IsWritten}
+use Rattle.bench_commands.specs.Answer.{IsWritten}
 use Rattle.bench_commands.proofs.comparing.compare.Goals as goal
 
 -- both ways to run a scenario write the same

@@ -1,5 +1,5 @@
 use Rattle.std.proofs.Common.{◌≡◌, get_or}
-use Rattle.diagnosis.specs.Likeness.{edits}
+use Rattle.diagnosis.specs.Diagnosis.{edits}
 use Rattle.diagnosis.proofs.Likenesses.{no_field, nearer, farther, ended}
 use Rattle.diagnosis.proofs.keys.most_alike.Goals as goal
 use Rattle.diagnosis.proofs.keys.most_alike.Goals.{then-edits-least, else-edits-least}

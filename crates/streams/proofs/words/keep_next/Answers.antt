@@ -1,5 +1,5 @@
 use Rattle.std.proofs.Common.{◌≡◌, ◌+◌, ◌-◌, ◌*◌, ◌<◌, ◌^◌, ℕ, ap, ◌∙◌, arith, rules}
-use Rattle.streams.specs.Words.{stands_at}
+use Rattle.streams.specs.Fate.{stands_at}
 use Rattle.streams.proofs.words.keep_next.Goals as goal
 
 pub loop-row-preserved : goal.loop-row-preserved

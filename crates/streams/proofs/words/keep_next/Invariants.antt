@@ -1,5 +1,5 @@
 use Rattle.std.proofs.Common.{◌≡◌, ◌≤◌, ◌<◌, ◌*◌, ◌^◌, ℕ}
-use Rattle.streams.specs.Words.{AreDrawn, Fits, stands_at}
+use Rattle.streams.specs.Fate.{AreDrawn, Fits, stands_at}
 use Rattle.streams.proofs.words.keep_next.Given as goal
 
 abbrev pub invariant-loop-row : goal.invariant-loop-row

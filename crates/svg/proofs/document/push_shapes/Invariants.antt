@@ -1,5 +1,5 @@
 use Rattle.std.proofs.Common.{◌≡◌, ◌++◌, take, flat_map}
-use Rattle.svg.specs.Elements.{shape_text}
+use Rattle.svg.specs.Document.{shape_text}
 use Rattle.svg.proofs.document.push_shapes.Given as goal
 
 -- the shapes so far

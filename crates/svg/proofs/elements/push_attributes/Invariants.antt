@@ -1,5 +1,5 @@
 use Rattle.std.proofs.Common.{◌≡◌, ◌++◌, take, flat_map}
-use Rattle.svg.specs.Elements.{attribute}
+use Rattle.svg.specs.Document.{attribute}
 use Rattle.svg.proofs.elements.push_attributes.Given as goal
 
 -- the attributes so far

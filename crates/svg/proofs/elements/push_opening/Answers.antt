@@ -1,6 +1,6 @@
 use Rattle.std.proofs.Common.{append_assoc}
 use Rattle.std.proofs.lemmas.List.Folds.{flat_map-map}
-use Rattle.svg.specs.Elements.{attribute}
+use Rattle.svg.specs.Document.{attribute}
 use Rattle.svg.proofs.elements.push_opening.Goals as goal
 
 pub returns : goal.returns

@@ -1,6 +1,5 @@
 use Rattle.std.proofs.Common.{◌≡◌, ℕ, List, [], ◌∷◌, ◌++◌, codes, append_assoc}
-use Rattle.svg.specs.Elements.{anchor_name, opening}
-use Rattle.svg.specs.Escaping.{escaped}
+use Rattle.svg.specs.Document.{anchor_name, opening, escaped}
 use Rattle.svg.proofs.elements.push_text.Goals as goal
 
 joined : (old p q r s t rest : List ℕ) → old ++ p ++ q ++ r ++ s ++ t ++ rest ≡ old ++ (p ++ (q ++ (r ++ (s ++ (t ++ rest)))))

@@ -1,5 +1,5 @@
 use Rattle.std.proofs.Common.{◌≡◌, ◌++◌, take}
-use Rattle.svg.specs.Escaping.{escaped}
+use Rattle.svg.specs.Document.{escaped}
 use Rattle.svg.proofs.escaping.push_escaped.Given as goal
 
 -- the bytes so far

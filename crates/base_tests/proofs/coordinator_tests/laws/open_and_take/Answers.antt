@@ -2,8 +2,7 @@ use Rattle.std.proofs.Common.{length, ap, sym, subst, arith}
 use Rattle.std.proofs.lemmas.List.{length-append}
 use Rattle.std.specs.FinSet as set
 use Rattle.process_api.specs.Coordinator.{Coordinator, step_coordinator}
-use Rattle.consensus_es.specs.Orderly.{IsOrderly}
-use Rattle.consensus_es.specs.State.{state_of}
+use Rattle.consensus_es.specs.State.{IsOrderly, state_of}
 use Rattle.base_tests.proofs.coordinator_tests.laws.open_and_take.Goals as goal
 
 pub returns-clause-orderly : goal.returns-clause-orderly

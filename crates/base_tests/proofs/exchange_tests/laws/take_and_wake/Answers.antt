@@ -11,7 +11,7 @@ use Rattle.process_api.specs.declared.message.StepInput.{StepInput}
 use Rattle.process_api.specs.declared.message.StepInput.TheVariants as input
 use Rattle.process_api.specs.declared.message.Tag.{Tag}
 use Rattle.process_api.specs.declared.message.Tag.TheVariants as tag
-use Rattle.consensus_s.specs.Laws.{RestsSettled, SettlesAlways}
+use Rattle.consensus_s.specs.State.{RestsSettled, SettlesAlways}
 use Rattle.base_tests.specs.Settled.{IsSettled}
 use Rattle.base_tests.proofs.exchange_tests.laws.take_and_wake.Goals as goal
 

@@ -3,7 +3,7 @@ use Rattle.std.specs.FinSet as set
 use Rattle.process_api.proofs.Allowed.{algorithm_allowed}
 use Rattle.process_api.specs.Mind.{Coordinating}
 use Rattle.process_api.specs.React.{react_algorithm}
-use Rattle.consensus_es.specs.Inside.Whole.{place_of, algorithm_of}
+use Rattle.consensus_es.specs.Inside.Steps.{place_of, algorithm_of}
 use Rattle.consensus_es.proofs.Bound.{same_itself, step_few, within}
 use Rattle.consensus_es.proofs.consensus.EsConsensusAlgorithm.take.Goals as goal
 

@@ -1,6 +1,6 @@
 use Rattle.freshness_detector.proofs.Words.{refl, ap, subst, ◌∙◌, place_of, state_by}
 use Rattle.std.specs.FinSet as set
-use Rattle.scenario_record.specs.Numbers.{AreInRange}
+use Rattle.scenario_record.specs.Ranges.{AreInRange}
 use Rattle.freshness_detector.proofs.Points.{opens_with_nobody}
 use Rattle.freshness_detector.proofs.detector.FreshnessDetector.open.Goals as goal
 

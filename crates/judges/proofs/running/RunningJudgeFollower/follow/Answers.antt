@@ -1,4 +1,4 @@
-use Rattle.judges.specs.Judging.{IsJudging}
+use Rattle.judges.specs.Pairs.{IsJudging}
 use Rattle.judges.proofs.Following.{next_followed}
 use Rattle.judges.proofs.running.RunningJudgeFollower.follow.Goals as goal
 

@@ -1,5 +1,5 @@
 use Rattle.std.proofs.Common.{◌≡◌, map}
-use Rattle.process_api.specs.Numbers.{numbers_to}
+use Rattle.process_api.specs.Place.{numbers_to}
 use Rattle.scenario_record.specs.Record.{opening_mind}
 use Rattle.running_tests.proofs.window_tests.refused.boxed_machines.Given as goal
 

@@ -1,5 +1,5 @@
 use Rattle.std.proofs.Common.{◌≡◌, ◌*◌, ℕ, ap, sym, ◌∙◌, rules}
-use Rattle.streams.specs.Words.{stands_at}
+use Rattle.streams.specs.Fate.{stands_at}
 use Rattle.streams.proofs.words.SenderWords.draw.Goals as goal
 
 pub invariant_of-self : goal.invariant_of-self

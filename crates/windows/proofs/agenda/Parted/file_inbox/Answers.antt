@@ -1,5 +1,5 @@
 use Rattle.windows.proofs.Words.{[], sym, subst, append-nil, IsPermutation, IsPermutation-refl, in_box}
-use Rattle.windows.specs.Inside.Filed.{HasFiled}
+use Rattle.windows.specs.Inside.Agenda.{HasFiled}
 use Rattle.windows.proofs.agenda.Parted.file_inbox.Goals as goal
 
 pub returns-in-None-clause-filed : goal.returns-in-None-clause-filed
