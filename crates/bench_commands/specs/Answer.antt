@@ -31,10 +31,6 @@ pub record IsScenarioAt (input : Option (List ℕ)) (path : List ℕ) (s : Recor
 abbrev pub IsTooLong : Record → Type 0
 IsTooLong s = (trace : List EntryRecord) → IsTrace (setting_of s) trace → s.limit < length trace
 
--- what `compare` writes
-abbrev pub IsSameLine : List ℕ → Type 0
-IsSameLine piece = piece ≡ codes "same\n"
-
 module _ (s : Record) where
   -- `list` and `run` answer with the texts of the scenario's trace, which is within its limit
   pub record IsListAnswer (print : PrintChoice) (piece : List ℕ) : Type 0 where
@@ -61,7 +57,7 @@ module _ (s : Record) where
   pub record IsCompareAnswer (piece : List ℕ) : Type 0 where
     pub trace : List EntryRecord
     pub is_within : IsTraceWithin s trace
-    pub text : IsSameLine piece
+    pub text : piece ≡ codes "same\n"
 
   -- The piece is what an order over the scenario asks for. A run by windows goes by any plan that nothing speaks
   -- against, and answers with the texts that `list` answers with

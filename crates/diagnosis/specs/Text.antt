@@ -19,11 +19,8 @@ use Rattle.scenario.specs.declared.place.Section.TheVariants as section
 use Rattle.scenario.specs.declared.fault.UnknownKey.{UnknownKey}
 use Rattle.scenario.specs.declared.fault.WrongKind.{WrongKind}
 use Rattle.scenario.specs.declared.fault.Outside.{Outside}
-use Rattle.scenario.specs.declared.fault.OtherName.{OtherName}
 use Rattle.scenario.specs.declared.fault.ProposalsFault.{ProposalsFault}
 use Rattle.scenario.specs.declared.fault.ProposalsFault.TheVariants as proposals
-use Rattle.scenario.specs.declared.fault.MinAboveMax.{MinAboveMax}
-use Rattle.scenario.specs.declared.fault.BelowLookahead.{BelowLookahead}
 use Rattle.scenario.specs.declared.fault.Fault.{Fault}
 use Rattle.scenario.specs.declared.fault.Fault.TheVariants as fault
 use Rattle.scenario.specs.declared.finding.Finding.{Finding}
@@ -115,9 +112,6 @@ names_text = flat_map (λ name. codes " " <> name.now)
 abbrev pub none_of_text : List ℕ → List (Bor (List ℕ)) → List ℕ
 none_of_text value names = codes ": \"" <> value <> codes "\" is none of" <> names_text names
 
-abbrev pub other_name_text : Place → OtherName → List ℕ
-other_name_text at o = path_text at o.key.now <> none_of_text (printable o.value.now) o.allowed.now
-
 abbrev pub proposals_text : ProposalsFault → List ℕ
 proposals_text proposals.Unasked = codes "proposals: there are some, and no algorithm"
 proposals_text (proposals.Missing processes) =
@@ -127,32 +121,10 @@ proposals_text (proposals.Count number processes) =
 proposals_text (proposals.Outside number value) =
     codes "proposals[" <> decimal number <> codes "]: " <> signed_decimal value <> codes " is not 0 to 4294967295"
 
-abbrev pub min_above_max_text : Place → MinAboveMax → List ℕ
-min_above_max_text at a =
-    place_text at <> codes ": min " <> signed_decimal a.min <> codes " is above max " <> signed_decimal a.max
-
-abbrev pub to_itself_text : Place → ℤ → List ℕ
-to_itself_text at process = place_text at <> codes ": from and to are both " <> signed_decimal process
-
 abbrev pub not_before_text : Place → ℤ → ℤ → List ℕ
 not_before_text at begin until =
     place_text at <> codes ": begin " <> signed_decimal begin <> codes " is not below until "
     <> signed_decimal until
-
-abbrev pub below_text : BelowLookahead → List ℕ
-below_text b =
-    codes "link " <> decimal b.from <> codes " to " <> decimal b.to <> codes ": min " <> decimal b.min
-    <> codes " is below the lookahead " <> decimal b.lookahead
-
-abbrev pub twice_pair_text : (from to : ℤ) → (number earlier : ℕ) → List ℕ
-twice_pair_text from to number earlier =
-    codes "links[" <> decimal number <> codes "]: link " <> signed_decimal from <> codes " to " <> signed_decimal to
-    <> codes " has a table already, links[" <> decimal earlier <> codes "]"
-
-abbrev pub twice_process_text : (process : ℤ) → (number earlier : ℕ) → List ℕ
-twice_process_text process number earlier =
-    codes "crash[" <> decimal number <> codes "]: process " <> signed_decimal process
-    <> codes " has a table already, crash[" <> decimal earlier <> codes "]"
 
 -- ---- all
 
@@ -162,18 +134,27 @@ fault_text at (fault.UnknownKey u) meant = unknown_text at u meant
 fault_text at (fault.MissingKey key) meant = path_text at key.now
 fault_text at (fault.WrongKind w) meant = wrong_kind_text at w
 fault_text at (fault.Outside o) meant = outside_text at o
-fault_text at (fault.OtherName o) meant = other_name_text at o
-fault_text at (fault.MinAboveMax a) meant = min_above_max_text at a
-fault_text at (fault.ToItself process) meant = to_itself_text at process
+fault_text at (fault.OtherName o) meant =
+    path_text at o.key.now <> none_of_text (printable o.value.now) o.allowed.now
+fault_text at (fault.MinAboveMax a) meant =
+    place_text at <> codes ": min " <> signed_decimal a.min <> codes " is above max " <> signed_decimal a.max
+fault_text at (fault.ToItself process) meant =
+    place_text at <> codes ": from and to are both " <> signed_decimal process
 fault_text at (fault.NotBefore n) meant = not_before_text at n.begin n.until
 
 -- what is wrong with a file
 abbrev pub finding_text : Finding → (meant : Option (Bor (List ℕ))) → List ℕ
 finding_text (finding.At at its) meant = fault_text at its meant
 finding_text (finding.Proposals p) meant = proposals_text p
-finding_text (finding.Below b) meant = below_text b
-finding_text (finding.TwicePair from to number earlier) meant = twice_pair_text from to number earlier
-finding_text (finding.TwiceProcess process number earlier) meant = twice_process_text process number earlier
+finding_text (finding.Below b) meant =
+    codes "link " <> decimal b.from <> codes " to " <> decimal b.to <> codes ": min " <> decimal b.min
+    <> codes " is below the lookahead " <> decimal b.lookahead
+finding_text (finding.TwicePair from to number earlier) meant =
+    codes "links[" <> decimal number <> codes "]: link " <> signed_decimal from <> codes " to " <> signed_decimal to
+    <> codes " has a table already, links[" <> decimal earlier <> codes "]"
+finding_text (finding.TwiceProcess process number earlier) meant =
+    codes "crash[" <> decimal number <> codes "]: process " <> signed_decimal process
+    <> codes " has a table already, crash[" <> decimal earlier <> codes "]"
 
 abbrev pub not_toml_text : NotToml → List ℕ
 not_toml_text n =

@@ -96,16 +96,13 @@ pub record Coordinator : Type 0 where
   -- the rounds whose decision was received
   pub seen : Seen
 
-abbrev pub nothing_kept : Kept
-nothing_kept = record { estimates = λ r q. None; proposals = λ r. None; replies = λ r q. None }
-
 -- the opening state of a process with a proposal
 abbrev pub opening_coordinator : ℕ → Coordinator
 opening_coordinator proposal = record {
   round = 0;
   phase = Opening;
   estimate = record { value = proposal; stamp = 0 };
-  kept = nothing_kept;
+  kept = record { estimates = λ r q. None; proposals = λ r. None; replies = λ r q. None };
   seen = none_seen;
 }
 

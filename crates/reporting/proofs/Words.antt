@@ -30,7 +30,7 @@ pub use Rattle.process_api.specs.declared.action.Note.{Note}
 pub use Rattle.scenario_record.specs.Record.{Record}
 pub use Rattle.reporting.specs.Measures.{count_below, count_of_distances, distances, is_next, list_below, over_distances, sum_below, sum_of_distances, delay_after, ends, is_measured, layers, measured, pair_durations, second_measures, starts}
 pub use Rattle.reporting.specs.Durations.{AreCaught, AreDurations, AreFollowing, caught, lengths_so_far, listed, lists_in, pair_at, tally_at, ticks_between}
-pub use Rattle.reporting.specs.Inside.Findings.{second_text, front_of, row_about, rows_about, value_text}
+pub use Rattle.reporting.specs.Inside.Findings.{second_text, front_of, rows_about, value_text}
 unfoldable pub use Rattle.reporting.specs.Inside.Findings.{found_text}
 pub use Rattle.reporting.specs.Inside.Plain.{ArePlain, IsPlain}
 pub use Rattle.reporting.specs.Rows.{kind_text, IsBetweenRows, plain_writer, text_of, written}

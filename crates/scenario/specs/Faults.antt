@@ -180,12 +180,9 @@ pub record IsBelow (s : Record) (b : BelowLookahead) : Type 0 where
 
 -- ---- tables of one pair, or of one process
 
--- the table is of this pair, or of this process
+-- the table is of this pair
 abbrev pub is_of_pair : (from to : ℤ) → Members → Bool
 is_of_pair from to table = has_integer (codes "from") from table && has_integer (codes "to") to table
-
-abbrev pub is_of_process : ℤ → Members → Bool
-is_of_process process table = has_integer (codes "process") process table
 
 -- two tables of an array, of which the second number is that of the earlier one, are so
 pub record AreTwice (tables : List Members) (number earlier : ℕ) (test : Members → Bool) : Type 0 where
@@ -213,7 +210,8 @@ Breaks e file (finding.Below b) = (e ≡ error.BelowLookahead b.from b.to) × Is
 Breaks e file (finding.TwicePair from to number earlier) =
     (e ≡ error.LinkNumbers) × AreTwice (tables_at (array_key array.Links) file) number earlier (is_of_pair from to)
 Breaks e file (finding.TwiceProcess process number earlier) =
-    (e ≡ error.CrashLine) × AreTwice (tables_at (array_key array.Crash) file) number earlier (is_of_process process)
+    (e ≡ error.CrashLine)
+    × AreTwice (tables_at (array_key array.Crash) file) number earlier (has_integer (codes "process") process)
 
 -- the finding of a refusal, if there is one, breaks its rule
 abbrev pub Finds : (file : Members) → (found : Option Finding) → ScenarioError → Type 0

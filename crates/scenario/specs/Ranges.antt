@@ -77,9 +77,6 @@ detector_subject = record (numbers (
           ∷ names (codes "watch") (codes "all" ∷ codes "next" ∷ []) ∷ [];
     }
 
-abbrev pub share_subject : Subject
-share_subject = numbers (ticks (codes "period") ∷ [])
-
 abbrev pub link_subject : Subject
 link_subject = record (numbers delay_ranges) { delays = true }
 
@@ -118,7 +115,7 @@ subject_of error.Limit place.Top file = numbers (range (codes "limit") 1 1000000
 subject_of error.Seed place.Top file = numbers (range (codes "seed") 0 9223372036854775807 ∷ [])
 subject_of error.AlgorithmName place.Top file = algorithm_subject
 subject_of error.DetectorNumbers (place.Section section.Detector) file = detector_subject
-subject_of error.Share (place.Section section.Share) file = share_subject
+subject_of error.Share (place.Section section.Share) file = numbers (ticks (codes "period") ∷ [])
 subject_of error.LinkNumbers (place.Section section.Link) file = link_subject
 subject_of error.LinkNumbers (place.Element array.Links number) file = pair_subject (processes_of file)
 subject_of error.CrashLine (place.Element array.Crash number) file = crash_subject (processes_of file)

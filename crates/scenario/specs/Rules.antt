@@ -58,13 +58,10 @@ are_bad_proposals _ n is_there zs = are_other_than n is_there zs
 abbrev pub has_other_proposals : ℕ → Members → Bool
 has_other_proposals n t = are_other_than n (has_key (codes "proposals") t) (integers_at (codes "proposals") t)
 
--- those of a table don't fit an algorithm and n processes
-abbrev pub has_bad_proposals : Option AlgorithmKind → ℕ → Members → Bool
-has_bad_proposals algorithm n t =
-    are_bad_proposals algorithm n (has_key (codes "proposals") t) (integers_at (codes "proposals") t)
-
+-- those of a table don't fit its algorithm and its processes
 abbrev pub proposals_refused : Members → Bool
-proposals_refused t = has_bad_proposals (algorithm_in t) (processes_of t) t
+proposals_refused t = are_bad_proposals (algorithm_in t) (processes_of t)
+    (has_key (codes "proposals") t) (integers_at (codes "proposals") t)
 
 -- ---- the detector and the reduction
 
@@ -113,12 +110,10 @@ is_bad_pair n l =
 abbrev pub are_bad_pairs : ℕ → List Members → Bool
 are_bad_pairs n tables = list_any (is_bad_pair n) tables || has_repeat same_pair pair_of tables
 
--- the common link of n processes is refused, or the tables of pairs are
-abbrev pub are_bad_links : ℕ → Members → List Members → Bool
-are_bad_links n common tables = is_bad_link common || are_bad_pairs n tables
-
+-- the common link is refused, or the tables of pairs are
 abbrev pub links_refused : Members → Bool
-links_refused t = are_bad_links (processes_of t) (table_or_empty (codes "link") t) (tables_at (codes "links") t)
+links_refused t =
+    is_bad_link (table_or_empty (codes "link") t) || are_bad_pairs (processes_of t) (tables_at (codes "links") t)
 
 -- the pairs of different processes of 1 to n, by from, then to
 abbrev pub pairs_from : ℕ → ℕ → List (ℕ × ℕ)

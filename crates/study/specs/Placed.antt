@@ -93,9 +93,6 @@ set_at (network p) d s = then (network_there s.network) (λ n. then (set_in_file
 abbrev pub set_chosen : Chosen → SourcesRecord → Result SourcesRecord PlaceError
 set_chosen c = set_at c.path (data_of c.value)
 
-abbrev pub set_assigned : Assignment → SourcesRecord → Result SourcesRecord PlaceError
-set_assigned a = set_at (path_of a.key) (view a.value)
-
 -- with all of these set, one after the other
 abbrev pub in_turn : {X : Type 0} → (X → SourcesRecord → Result SourcesRecord PlaceError) → List X → SourcesRecord
     → Result SourcesRecord PlaceError
@@ -106,7 +103,7 @@ abbrev pub set_all : List Chosen → SourcesRecord → Result SourcesRecord Plac
 set_all = in_turn set_chosen
 
 abbrev pub assign_all : List Assignment → SourcesRecord → Result SourcesRecord PlaceError
-assign_all = in_turn set_assigned
+assign_all = in_turn (λ (a : Assignment). set_at (path_of a.key) (view a.value))
 
 -- the files of a run: with the point's settings, the run's and its seed
 abbrev pub sources_of_run : List Chosen → RunRecord → SourcesRecord → Result SourcesRecord PlaceError

@@ -86,16 +86,12 @@ window_text ticks entries =
     else codes "windows of " ++ (decimal ticks ++ (codes " ticks have about " ++ (decimal entries
     ++ codes " entries: run by 4 workers is likely faster\n")))
 
--- an accepted file's line, and what is told behind it
-abbrev pub told_size : (processes horizon entries seconds : ℕ) → List ℕ → List ℕ
-told_size processes horizon entries seconds more =
-    codes "ok: " ++ (decimal processes ++ (codes " processes, horizon " ++ (decimal horizon ++ (codes ", about "
-    ++ (decimal entries ++ (codes " entries in " ++ (decimal seconds ++ (codes " s\n" ++ more))))))))
-
 -- what is told of an accepted file
 abbrev pub accepted_text : (processes horizon limit window entries seconds in_window : ℕ) → List ℕ
 accepted_text processes horizon limit window entries seconds in_window =
-    told_size processes horizon entries seconds (window_text window in_window ++ limit_text limit entries)
+    codes "ok: " ++ (decimal processes ++ (codes " processes, horizon " ++ (decimal horizon ++ (codes ", about "
+    ++ (decimal entries ++ (codes " entries in " ++ (decimal seconds ++ (codes " s\n"
+    ++ (window_text window in_window ++ limit_text limit entries)))))))))
 
 abbrev pub accepted_line : Accepted → List ℕ
 accepted_line a =

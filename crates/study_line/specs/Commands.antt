@@ -19,10 +19,6 @@ path_rule = record (new_rule (codes "path")) { value_names = 1; required = true 
 abbrev pub option_rule : Text → Rule
 option_rule name = record (new_rule name) { long = Some name; value_names = 1 }
 
--- some commands are nothing without seeds
-abbrev pub seeds_rule : (needed : Bool) → Rule
-seeds_rule needed = record (option_rule (codes "seeds")) { required = needed }
-
 -- an option that may be there several times, each time with a value
 abbrev pub repeated_rule : Text → Rule
 repeated_rule name = record (option_rule name) { action = Some Append }
@@ -32,9 +28,9 @@ with_axes app =
     with_rule (with_rule (with_rule app (repeated_rule (codes "vary"))) (repeated_rule (codes "over")))
     (repeated_rule (codes "deal"))
 
--- the runs of a study
+-- the runs of a study: some commands are nothing without seeds
 abbrev pub with_grid : (needed : Bool) → App → App
-with_grid needed app = with_axes (with_rule app (seeds_rule needed))
+with_grid needed app = with_axes (with_rule app (record (option_rule (codes "seeds")) { required = needed }))
 
 -- points count from 1
 abbrev pub point_rule : Rule
@@ -106,12 +102,9 @@ abbrev pub with_scenario : App → App
 with_scenario app =
     with_subcommand (with_subcommand (with_subcommand app check_app.top) letters_app.top) draw_app.top
 
--- the commands about a study
-abbrev pub with_study : App → App
-with_study app = with_subcommand (with_subcommand app show_app.top) sweep_app.top
-
+-- and the commands about a study
 abbrev pub whole_app : App
-whole_app = with_study (with_scenario top_app)
+whole_app = with_subcommand (with_subcommand (with_scenario top_app) show_app.top) sweep_app.top
 
 -- no argument is one of each subcommand too
 abbrev pub IsLocal : Command → Type 0

@@ -27,10 +27,6 @@ use Rattle.study_line.specs.declared.order.WordsError.TheVariants as refusal
 abbrev pub IsTextAt : Text → List Row → Text → Type 0
 IsTextAt id rows text = first_of id rows ≡ Some text
 
--- the text of an argument, or another one where there is none
-abbrev pub text_or_else : Text → List Row → Text → Text
-text_or_else id rows other = unwrap_or (first_of id rows) other
-
 -- the same of an argument that may be missing
 abbrev pub MayBeTextAt : Text → List Row → Option (Bor Text) → Type 0
 MayBeTextAt id rows text = option_map (λ t. t.now) text ≡ first_of id rows
@@ -78,7 +74,7 @@ each_text each.Run = codes "run"
 
 -- what a row tells of, as an argument's text names it; a point where there is none
 abbrev pub IsEachAt : Text → List Row → Each → Type 0
-IsEachAt id rows told = text_or_else id rows (codes "point") ≡ each_text told
+IsEachAt id rows told = unwrap_or (first_of id rows) (codes "point") ≡ each_text told
 
 -- the files that are named, and what is set in them
 pub record AreSourcesAt (rows : List Row) (sources : SourceTexts) : Type 0 where

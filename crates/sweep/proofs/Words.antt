@@ -61,7 +61,7 @@ pub use Rattle.sweep.specs.ColumnTable.{Column, column_names, columns_of_detecti
 unfoldable pub use Rattle.sweep.specs.ColumnTable.{columns_of_runs, standard_error}
 pub use Rattle.sweep.specs.Columns.{AreBounds, AreColumns, AreDecisionSums, AreDoneSums, AreFirstRuns, AreLayerSums, ArePairSums, AreRunCounts, AreTraceSums, AreVerdictCounts, IsAwaited, IsDistribution, SomeAwaited, TellsBound, all_detections, all_durations, all_pairs, detection_bound, does, done_on, finish_of, finished_of, first_after, first_number, has_layer, is_limited, last_decisions, on_layer, over, top_rounds}
 pub use Rattle.sweep.specs.Percentile.{CountsMore, passing, IsPercentile, IsRanked, at_most, greater, greatest}
-pub use Rattle.sweep.specs.StudyText.{AddsRowsOfGroup, AddsRowsOfSums, AreRowsOfSums, IsBetweenLines, text_of, AreRowsOf, HasOneText, HasRowsOf, IsStudyText, IsTextOf, IsTrialOf, ShardsMakeWhole, header_of, lead_names, lead_of, names_of, numbers_of, point_at, run_at, unit_first, unit_point, unit_run, unit_runs, units_in, units_of, values}
+pub use Rattle.sweep.specs.StudyText.{AddsRowsOfGroup, AddsRowsOfSums, AreRowsOfSums, IsBetweenLines, text_of, AreRowsOf, HasOneText, HasRowsOf, IsStudyText, IsTextOf, IsTrialOf, ShardsMakeWhole, header_of, lead_names, lead_of, names_of, numbers_of, point_at, run_at, unit_first, unit_point, unit_runs, units_in, units_of, values}
 pub use Rattle.sweep.specs.Fitting.{AreDecisionsWithin, ArePairsWithin, AreTracesWithin, IsLayerWithin, most_mistakes, most_of, most_runs, most_values}
 pub use Rattle.sweep.specs.GroupWords.{SayBlocks, SayNoBlocks, block_of, block_said, side_said}
 pub use Rattle.sweep.specs.Groups.{group_names, is_in}

@@ -39,9 +39,6 @@ abbrev pub ForMeasured : Record → RunFindings → RunDurations → Trusts → 
 ForMeasured S findings durations trusts P =
     (found : MeasuresRun S findings durations trusts) → P (done_run S found.trace)
 
-abbrev pub IsTrial : Trial → Type 0
-IsTrial t = IsResult t.scenario t.result
-
 -- ---- what a job gives for consecutive numbers, and how threads share them out
 
 module _ {T : Type 0} where

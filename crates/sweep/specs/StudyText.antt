@@ -11,7 +11,7 @@ use Rattle.study.specs.Shard.{ShardRecord, block}
 use Rattle.sweep.specs.ColumnTable.{column_names}
 use Rattle.sweep.specs.Groups.{group_names}
 use Rattle.sweep.specs.Layout.{LayoutRecord, Text, header_text, AreRowsFor, AreRowsOfGroup}
-use Rattle.sweep.specs.Results.{Trial, IsTrial}
+use Rattle.sweep.specs.Results.{Trial, IsResult}
 use Rattle.sweep.specs.Sums.{AreSums, AreUnitSums}
 use Rattle.sweep.specs.declared.group.Group.{Group}
 use Rattle.sweep.specs.declared.layout.Rows.{Rows}
@@ -23,7 +23,7 @@ use Rattle.sweep.specs.declared.unit_sums.UnitSums.{UnitSums}
 -- what became of a run of a point: its scenario is that of the files with the settings of both
 pub record IsTrialOf (sources : SourcesRecord) (settings : List Chosen) (run : RunRecord) (t : Trial) : Type 0 where
   pub scenario : IsScenarioOf (sources_of_run settings run sources) t.scenario
-  pub result : IsTrial t
+  pub result : IsResult t.scenario t.result
 
 -- the settings of the point of this number, from 0
 abbrev pub point_at : GridRecord → ℕ → List Chosen
@@ -61,10 +61,6 @@ unit_runs kind.Runs g run = run_at g (run % length (runs g)) ∷ []
 abbrev pub unit_first : Rows → GridRecord → (unit : ℕ) → ℕ
 unit_first kind.Points g point = 1
 unit_first kind.Runs g run = run % length (runs g) + 1
-
--- one of these runs, from 0
-abbrev pub unit_run : Rows → GridRecord → (unit run : ℕ) → RunRecord
-unit_run rows g unit run = get_or (unit_runs rows g unit) run (record { settings = []; seed = 0 })
 
 -- ---- what a row begins with, before its group's word: what the varied keys are set to; and of a run what its own
 -- ---- keys are set to, its seed and its number

@@ -3,7 +3,7 @@ use Rattle.std.specs.Prelude.{Option, None, Some, [], ◌++◌, ℕ, List, ◌�
 use Rattle.std.specs.List.{flat_map, join_with_byte}
 use Rattle.judges.specs.declared.verdicts.Verdicts.{Verdicts}
 use Rattle.scenario_record.specs.declared.algorithm.AlgorithmKind.{AlgorithmKind}
-use Rattle.reporting.specs.ReportText.{Text, report_header, run_text, verdict_text, pair_text, decisions_text, report_row, report_rows}
+use Rattle.reporting.specs.ReportText.{Text, report_header, run_text, verdict_text, pair_text, decisions_text, report_rows}
 use Rattle.reporting.specs.Rows.{comma}
 use Rattle.reporting.specs.declared.findings.RunFindings.{RunFindings}
 use Rattle.reporting.specs.declared.report_rows.About.{About}
@@ -37,9 +37,6 @@ value_text (Word word) = word.now
 abbrev pub front_of : About → Text
 front_of a = join_with_byte comma (a.section.now ∷ decimal a.layer ∷ decimal a.observer ∷ decimal a.subject ∷ [])
 
--- the row of a value with its name, and the rows of some
-abbrev pub row_about : About → Text × Text → Text
-row_about a value = report_row a.section.now a.layer a.observer a.subject value
-
+-- the rows of values with their names
 abbrev pub rows_about : About → List (Text × Text) → Text
 rows_about a values = report_rows a.section.now a.layer a.observer a.subject values
