@@ -11,8 +11,7 @@ use Rattle.bench_commands.specs.Why.{StopsFor}
 use Rattle.bench_commands.specs.declared.fault.Fault.{Fault}
 use Rattle.bench_commands.specs.declared.fault.Fault.TheVariants.{Form, Run, Words, WordsMemory}
 use Rattle.scenario_record.specs.Record.{Record}
-use Rattle.shell.specs.Ending.{input_path}
-use Rattle.shell.specs.Serving.{Ends, GoesForWords as Goes, IsReason as IsReasonOf}
+use Rattle.shell.specs.Ending.{input_path, Ends, GoesForWords as Goes, IsReason as IsReasonOf}
 
 -- what went out for the words: what they ask for, or what is left where that stops. Of help its text isn't said
 abbrev pub GoesForWords : {O A : Type 0} (told : O → Option (List ℕ)) (failed : O → ℕ) (old new : O) → Option (List ℕ)

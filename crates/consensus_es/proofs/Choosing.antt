@@ -1,6 +1,6 @@
 -- The best estimate has the largest stamp, and of those with that stamp the least sender.
 use Rattle.consensus_es.proofs.Words.{◌≡◌, ◌⊎◌, ℕ, zero, suc, ◌<◌, ◌≤◌, inl, inr, ⊎_elim, refl, sym, ap, ◌∙◌, subst, arith, Option, None, Some, ltb-true, ltb-false, cond_both, none-some, same_Some, better, best_to, Estimate}
-use Rattle.consensus_es.specs.Laws.{IsBest, IsBehind}
+use Rattle.consensus_es.specs.State.{IsBest, IsBehind}
 
 -- the best, or that there is none
 abbrev Is : ℕ → (ℕ → Option Estimate) → Option Estimate → Type 0

@@ -1,5 +1,5 @@
 //! Laws that follow from the definition of the rotating coordinator.
-ghost use Rattle.consensus_es.specs.Laws.{ActsLittle, ChoosesBest, LeavesFewRounds, OpensOrderly, SettlesAlways, SettlesByEnds};
+ghost use Rattle.consensus_es.specs.State.{ActsLittle, ChoosesBest, LeavesFewRounds, OpensOrderly, SettlesAlways, SettlesByEnds};
 
 /// Rotating coordinators, whatever the state and the input. Waits end as long as one can: after an input none is
 /// over, and where one is over its end comes first and then the waits of the state that it leaves. From the opening

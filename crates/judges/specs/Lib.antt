@@ -3,6 +3,5 @@ pub mod Verdicts
 pub mod Outcomes
 pub mod Pairs
 pub mod Track
-pub mod Grid
 pub mod Agreement
 pub mod Inside

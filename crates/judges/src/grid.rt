@@ -2,7 +2,7 @@
 
 ghost use Rattle.std.specs.Prelude.{◌≡◌, ◌<◌, None, Some, if◌then◌else◌};
 ghost use Rattle.judges.specs.Track.{earliest, latest};
-ghost use Rattle.judges.specs.Grid.{column_right, column_suspected, column_trusted, grid_verdicts, place, row_right, row_suspected, row_trusted, counts_as_correct};
+ghost use Rattle.judges.specs.Verdicts.{column_right, column_suspected, column_trusted, grid_verdicts, place, row_right, row_suspected, row_trusted, counts_as_correct};
 
 use crate::pair::Gauge;
 use crate::pairs::Pairs;

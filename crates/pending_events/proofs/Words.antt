@@ -22,8 +22,7 @@ pub use Rattle.trace_laws.proofs.Rising.{less_is}
 pub use Rattle.trace_laws.proofs.Sets.{apart, insert_at, insert_other, inserted, not_None, remove_at, remove_other, removed, tie, tied}
 pub use Rattle.trace_laws.specs.Step.{Event, Events}
 pub use Rattle.trace_laws.specs.World.{IsLeast, joined}
-pub use Rattle.pending_events.specs.Inside.Calendar.{Buckets, IsCleared, IsFull, IsPut, bucket, came, latest, IsCalendar, IsFirst, IsParted, IsTaken, IsVacant, NoneAhead, ahead, all_in, due, found, lane}
+pub use Rattle.pending_events.specs.Inside.Calendar.{Buckets, IsCleared, IsFull, IsPut, bucket, came, latest, IsCalendar, IsFirst, IsParted, IsTaken, IsVacant, NoneAhead, ahead, all_in, due, found, lane, AreWithin, FallsStrictly, IsPlaceOf, IsRow, event_at, events_at, first, no_event, row}
 unfoldable pub use Rattle.pending_events.specs.Inside.Calendar.{due_before}
-pub use Rattle.pending_events.specs.Inside.Order.{AreWithin, FallsStrictly, IsPlaceOf, IsRow, event_at, events_at, first, no_event, row}
 pub use Rattle.pending_events.specs.Pending.{IsEmpty}
 pub use Rattle.pending_events.specs.declared.calendar.Calendar.{Calendar}

@@ -1,3 +1,2 @@
 -- words that private functions and proofs of this crate use alone: no public contract rests on them
 pub mod Calendar
-pub mod Order

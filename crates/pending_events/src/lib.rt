@@ -2,7 +2,7 @@
 //!
 //! Contracts see a [`Pending`] and a [`Row`] as such a set (`specs/Pending.antt`). In memory a [`Pending`] has a bucket
 //! of events for each tick. When the tick of a bucket comes, its events are put in order, in a [`Row`]
-//! (`specs/Inside/Order.antt`). The buckets of the next 1,024 ticks lie in a ring (`specs/Inside/Calendar.antt`).
+//! (`specs/Inside/Calendar.antt`). The buckets of the next 1,024 ticks lie in a ring.
 //!
 //! For example, of the events with keys (2, 1, 2, 1) and (0, 2, 2, 0) that join in this order the second is taken
 //! first.

@@ -4,8 +4,7 @@ pub use Rattle.std.proofs.lemmas.List.{flat_map_more}
 pub use Rattle.std.specs.List.{AllZip, count_by, flat_map, range_with_len}
 pub use Rattle.process_api.specs.Order.{is_before, is_rising}
 pub use Rattle.reporting.specs.Outlet.{Held}
-pub use Rattle.study.specs.Grid.{GridRecord, RunRecord, run_of, runs, turn}
-pub use Rattle.study.specs.Shard.{IsShard, ShardRecord, block}
+pub use Rattle.study.specs.Grid.{GridRecord, RunRecord, run_of, runs, turn, IsShard, ShardRecord, block}
 pub use Rattle.study.specs.Sources.{SourcesRecord, sources_of}
 pub use Rattle.sweep.proofs.Zipped.{range_more, zip_push}
 pub use Rattle.sweep.specs.Outcome.{WroteStudy}

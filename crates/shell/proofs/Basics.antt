@@ -4,5 +4,4 @@ pub use Rattle.std.proofs.lemmas.Grind.{common_steps, flat_map-append}
 pub use Rattle.std.proofs.lemmas.List.{length-take, take-append-drop}
 pub use Rattle.std.specs.Io.KnownBytes.{Consumes}
 pub use Rattle.reporting.specs.Outlet.{Wrote, WroteNothing, WrotePart}
-pub use Rattle.shell.specs.Ending.{End, Goes, HasStatus, IsWhy, LeftAt, MayHaveGone, Puts, Tells, Went, WentPart, begun, cut, untouched, TakesAtMost, most_bytes}
-pub use Rattle.shell.specs.Serving.{Ends, GoesForWords, IsAsked, IsOfOrder, IsReason, Serves}
+pub use Rattle.shell.specs.Ending.{End, Goes, HasStatus, IsWhy, LeftAt, MayHaveGone, Puts, Tells, Went, WentPart, begun, cut, untouched, TakesAtMost, most_bytes, Ends, GoesForWords, IsAsked, IsOfOrder, IsReason, Serves}

@@ -12,7 +12,7 @@
 //! - [`put_bytes`] and [`put_text`] write whole, or answer the failure of a write, and then a front part went out.
 //! - [`ended`] answers the status of a run: 0 where it is done, and nothing is told; else that of its failure, of which
 //!   the line is told. `proofs/Leaving.antt` has what follows for the outlet and the line, status by status. For words
-//!   that state an order or are refused, `specs/Serving.antt` defines how their run ends.
+//!   that state an order or are refused, `specs/Ending.antt` defines how their run ends.
 //! - [`finish`] flushes, and turns 0 into 4 where that fails.
 //!
 //! For example, a run that is refused for its limit answers a failure with status 3 and the line `fdbench: run: Limit`;

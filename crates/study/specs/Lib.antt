@@ -1,4 +1,3 @@
-pub mod Shard
 pub mod Settings
 pub mod Sources
 pub mod Grid

@@ -4,7 +4,7 @@ use Rattle.std.specs.Char.{is_ascii_digit}
 use Rattle.std.specs.List.{list_any, list_all, starts_with, before_first, after_first, slice_split}
 use Rattle.std.specs.Str.Parse.{digits_value, starts_with_minus}
 use Rattle.std.specs.Option.{option_and_then}
-use Rattle.study.specs.Shard.{ShardRecord}
+use Rattle.study.specs.Grid.{ShardRecord}
 use Rattle.study.specs.declared.error.SeedsError.{SeedsError}
 use Rattle.study.specs.declared.error.SeedsError.TheVariants as error
 use Rattle.study.specs.declared.error.ShardError.{ShardError}

@@ -3,8 +3,8 @@
 //! This crate says which runs a study has and what each run's scenario is. A [`Grid`] has points, all combinations of
 //! the values of its varied axes. The runs of a point are all combinations of the values that are added up, each with
 //! each seed. The combinations of the dealt axes' values are dealt to the seeds in turn (`specs/Grid.antt`). The code
-//! finds a point or a run by its number, and lists none. A [`Shard`] is one of several consecutive blocks of the points
-//! (`specs/Shard.antt`).
+//! finds a point or a run by its number, and lists none. A [`Shard`] is one of several consecutive blocks of the
+//! points.
 //!
 //! A study is made of [`Sources`]: the scenario's file, and a network's file where there is one. An [`Assignment`] sets
 //! a key of them for all runs. [`read_run`] reads a run's scenario from the files with the run's values in place of

@@ -1,7 +1,7 @@
 //! Shards of a study.
 ghost use Rattle.std.specs.Prelude.{◌≡◌, ◌≤◌, ◌-◌, ◌↔◌, IsTrue, IsSome, IfSome};
 ghost use Rattle.std.specs.List.{range_with_len};
-ghost use Rattle.study.specs.Shard.{ShardRecord, IsShard, begin_of, end_of, block, AreAll, AreEven};
+ghost use Rattle.study.specs.Grid.{ShardRecord, IsShard, begin_of, end_of, block, AreAll, AreEven};
 
 use std::marker::Model;
 use std::ops::Range;
@@ -14,7 +14,7 @@ pub struct Shard {
 }
 
 impl Model for Shard {
-    ghost use Rattle.study.specs.Shard.{ShardRecord, IsShard};
+    ghost use Rattle.study.specs.Grid.{ShardRecord, IsShard};
 
     ghost Value = { ShardRecord };
 

@@ -3,7 +3,7 @@ use Rattle.study_commands.proofs.Words.{◌≡◌, ℕ, ◌<◌, ◌⊎◌, inl,
 use Rattle.std.specs.List.{All, Contains, range_with_len}
 use Rattle.study_commands.specs.Sweep.{IsFaultOf, IsOfRun, IsSaid, IsSweepAnswer, IsSweepFront}
 use Rattle.study_commands.proofs.Reasons.{stops_so}
-use Rattle.study.specs.Shard.{ShardRecord, end_of as shard_end}
+use Rattle.study.specs.Grid.{ShardRecord, end_of as shard_end}
 use Rattle.study_line.specs.declared.order.StudyTexts.{StudyTexts}
 use Rattle.sweep.specs.Layout.{LayoutRecord}
 use Rattle.sweep.specs.Outcome.{BreaksOff, CantBeRun, IsFirstUnready, WroteStudy, WroteFirst}

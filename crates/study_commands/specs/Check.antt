@@ -6,8 +6,7 @@ use Rattle.promised.specs.Promised.{promised}
 use Rattle.diagnosis.specs.Diagnosis.{entries_in, longest_window}
 use Rattle.diagnosis.specs.declared.answer.Accepted.{Accepted}
 use Rattle.study.specs.Sources.{SourcesRecord}
-use Rattle.study.specs.Grid.{GridRecord, runs}
-use Rattle.study.specs.Shard.{ShardRecord}
+use Rattle.study.specs.Grid.{GridRecord, runs, ShardRecord}
 use Rattle.study_commands.specs.File.{IsScenario}
 use Rattle.study_commands.specs.Sweep.{IsSaid}
 use Rattle.study_commands.specs.declared.checking.TheConstants.{WORTH_FOUR_WORKERS}

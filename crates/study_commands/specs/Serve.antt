@@ -7,7 +7,7 @@ use Rattle.study_commands.specs.Why.{StopsFor}
 use Rattle.study_commands.specs.declared.fault.Fault.{Fault}
 use Rattle.study_commands.specs.declared.fault.Fault.TheVariants.{Form, Words, WordsMemory, Write}
 use Rattle.printable.specs.Printable.{printable, printable_lines}
-use Rattle.shell.specs.Serving.{Ends, GoesForWords as Goes, IsReason as IsReasonOf}
+use Rattle.shell.specs.Ending.{Ends, GoesForWords as Goes, IsReason as IsReasonOf}
 use Rattle.study_line.specs.Order.{AsksHelp, AsksVersion, Explains, States, version_text}
 use Rattle.study_line.specs.declared.order.Order.{Order}
 use Rattle.study_line.specs.declared.order.WordsError.{WordsError}

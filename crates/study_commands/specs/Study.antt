@@ -2,9 +2,8 @@
 use Rattle.std.specs.Prelude.{◌≡◌, ℕ, List, map, Option, Some, None, option_map}
 use Rattle.std.specs.List.{AllZip}
 use Rattle.study.specs.AxisWords.{SaysAxis}
-use Rattle.study.specs.Grid.{GridRecord, NoneApplies, grid_of}
+use Rattle.study.specs.Grid.{GridRecord, NoneApplies, grid_of, ShardRecord}
 use Rattle.study.specs.Words.{seeds_said, Word, shard_said}
-use Rattle.study.specs.Shard.{ShardRecord}
 use Rattle.study.specs.declared.axis.Axis.{Axis}
 use Rattle.study_line.specs.declared.order.Each.{Each}
 use Rattle.study_line.specs.declared.order.Each.TheVariants as each

@@ -7,8 +7,7 @@ use Rattle.study_commands.specs.Study.{IsGrid, IsLayout, IsShardOf, columns_word
 use Rattle.study_commands.specs.declared.fault.Fault.{Fault}
 use Rattle.study_commands.specs.declared.fault.Fault.TheVariants.{Memory, Write}
 use Rattle.shell.specs.Ending.{Goes}
-use Rattle.study.specs.Grid.{GridRecord, points, runs}
-use Rattle.study.specs.Shard.{ShardRecord}
+use Rattle.study.specs.Grid.{GridRecord, points, runs, ShardRecord}
 use Rattle.study_line.specs.declared.order.SourceTexts.{SourceTexts}
 use Rattle.study_line.specs.declared.order.StudyTexts.{StudyTexts}
 use Rattle.sweep.specs.Layout.{LayoutRecord}

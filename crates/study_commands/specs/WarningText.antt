@@ -3,9 +3,8 @@ use Rattle.std.specs.Prelude.{ℕ, ◌+◌, codes, decimal, List, [], ◌∷◌,
 use Rattle.std.specs.List.{AllZip}
 use Rattle.printable.specs.Printable.{printable}
 use Rattle.scenario_record.specs.Record.{Record}
-use Rattle.study.specs.Grid.{GridRecord}
+use Rattle.study.specs.Grid.{GridRecord, ShardRecord}
 use Rattle.study.specs.Settings.{Chosen, given_text, key_text}
-use Rattle.study.specs.Shard.{ShardRecord}
 use Rattle.study.specs.Sources.{SourcesRecord}
 use Rattle.study_commands.specs.Warnings.{IsFirst, Warning, late, lates, outages, unevens, unused, warnings}
 use Rattle.study_commands.specs.declared.late.Late.{Late}

@@ -9,11 +9,10 @@ use Rattle.study_commands.specs.Study.{IsGrid, IsLayout, IsShardOf, columns_word
 use Rattle.study_commands.specs.WordRefusals.{IsOutside, SaysNoGrid, SaysNoLayout, SaysNoShard, SaysNoSources}
 use Rattle.study_commands.specs.declared.fault.Fault.{Fault}
 use Rattle.study_commands.specs.declared.fault.Fault.TheVariants.{Memory, Refused, Words, WordsMemory, Write}
-use Rattle.study.specs.Grid.{GridRecord, points, runs}
+use Rattle.study.specs.Grid.{GridRecord, points, runs, ShardRecord}
 use Rattle.study.specs.Placed.{sources_of_run}
 use Rattle.shell.specs.Ending.{most_bytes}
 use Rattle.study.specs.Laid.{HasNoText, IsRunText, RunSources, is_text_memory}
-use Rattle.study.specs.Shard.{ShardRecord}
 use Rattle.study.specs.declared.error.TextError.{TextError}
 use Rattle.study_line.specs.declared.order.GridTexts.{GridTexts}
 use Rattle.study_line.specs.declared.order.SourceTexts.{SourceTexts}

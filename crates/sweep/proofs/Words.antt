@@ -50,9 +50,8 @@ pub use Rattle.runs.specs.Grounds.{HasGrounds, IsBounded}
 pub use Rattle.runs.specs.declared.trusts.Trusts.{Trusts}
 pub use Rattle.scenario_record.specs.Ranges.{IsInRange}
 pub use Rattle.scenario_record.specs.Record.{Record, crash, link}
-pub use Rattle.study.specs.Grid.{GridRecord, RunRecord, paths_of, points, runs}
+pub use Rattle.study.specs.Grid.{GridRecord, RunRecord, paths_of, points, runs, ShardRecord}
 pub use Rattle.study.specs.Settings.{Chosen, chosen, key_text, path_of}
-pub use Rattle.study.specs.Shard.{ShardRecord}
 pub use Rattle.study.specs.Sources.{SourcesRecord, sources_of}
 pub use Rattle.study.specs.Words.{Word, after, before}
 pub use Rattle.trace_laws.proofs.Joining.{joined_then, none_joined}
@@ -66,8 +65,7 @@ pub use Rattle.sweep.specs.Fitting.{AreDecisionsWithin, ArePairsWithin, AreTrace
 pub use Rattle.sweep.specs.GroupWords.{SayBlocks, SayNoBlocks, block_of, block_said, side_said}
 pub use Rattle.sweep.specs.Groups.{group_names, is_in}
 pub use Rattle.sweep.specs.Inside.Adding.{bounds_plus, decisions_plus, differ, first_of, first_with, is_above, layer_plus, of_bound, of_outcome, of_verdicts, pairs_plus, plus, plus_few, tick_or_zero, traces_plus, AreOwnSums, IsPair}
-pub use Rattle.sweep.specs.Inside.Progress.{AreUnderWay, TellsOn, next_counted, numbers_in, AreAdded, GoesOn, HeaderFails, IsUnderWay, StopsBelow, StopsInPoints, WroteFrontUpTo, WroteUpTo, next_run}
-pub use Rattle.sweep.specs.Inside.Numbering.{AreNumbersAt, AreNumbersFrom, IsAnswerAt, IsFirstRefusal, IsReadyAt, IsRefusalAt, runs_each, unit_count}
+pub use Rattle.sweep.specs.Inside.Progress.{AreUnderWay, TellsOn, next_counted, numbers_in, AreAdded, GoesOn, HeaderFails, IsUnderWay, StopsBelow, StopsInPoints, WroteFrontUpTo, WroteUpTo, next_run, AreNumbersAt, AreNumbersFrom, IsAnswerAt, IsFirstRefusal, IsReadyAt, IsRefusalAt, runs_each, unit_count}
 pub use Rattle.sweep.specs.Layout.{IsNearest, IsRefusal, IsUnknown, LayoutRecord, TellsOf, place_of, AreRowsFor, AreRowsOfGroup, Text, header_text, layer_fields, line_text, number_text, picked}
 pub use Rattle.sweep.specs.OneRun.{Finished, bound_after, bounds, bounds_of, bounds_on, counted_of, counted_pairs, counts_on, decided_value, deciding, deciding_of, decision_tick, detection_time, detections, do_all_decide, do_differ, do_disagree, durations, has_decided, has_mistake, is_to_decide, is_to_detect, is_undecided, is_undetected, last_decision, mistakes, noted_round, pair_ticks, run_outcomes, times_of, top_round}
 pub use Rattle.sweep.specs.Results.{AreAnswers, ArePlaces, IsPlaced, with_answers, with_columns, IsResult, RunResult, Trial, done_run, finished, limited, limited_run}

@@ -1,4 +1,3 @@
 -- words that private functions and proofs of this crate use alone: no public contract rests on them
 pub mod Adding
-pub mod Numbering
 pub mod Progress

@@ -4,10 +4,9 @@ use Rattle.std.specs.List.{AllZip, count_by, filter}
 use Rattle.study.specs.Sources.{SourcesRecord}
 use Rattle.reporting.specs.Outlet.{Wrote, WrotePart, WroteNothing}
 use Rattle.scenario_record.specs.Record.{Record}
-use Rattle.study.specs.Grid.{GridRecord, runs}
+use Rattle.study.specs.Grid.{GridRecord, runs, ShardRecord}
 use Rattle.study.specs.Placed.{sources_of_run}
 use Rattle.study.specs.Laid.{IsScenarioOf, IsRefusedFor, is_memory}
-use Rattle.study.specs.Shard.{ShardRecord}
 use Rattle.study.specs.declared.error.ReadError.{ReadError}
 use Rattle.trace_laws.specs.Taken.{HaveJoined}
 use Rattle.sweep.specs.Groups.{first_above}

@@ -4,10 +4,9 @@ use Rattle.std.specs.List.{AllZip, flat_map, range_with_len}
 use Rattle.csv.specs.Writing.{default_writer, writer_setup, fields_written, has_written, writer_under, writer_pending}
 use Rattle.study.specs.Sources.{SourcesRecord}
 use Rattle.study.specs.Settings.{Path, Chosen, key_text, given_text}
-use Rattle.study.specs.Grid.{GridRecord, RunRecord, points, keys, runs}
+use Rattle.study.specs.Grid.{GridRecord, RunRecord, points, keys, runs, ShardRecord, block}
 use Rattle.study.specs.Placed.{sources_of_run}
 use Rattle.study.specs.Laid.{IsScenarioOf}
-use Rattle.study.specs.Shard.{ShardRecord, block}
 use Rattle.sweep.specs.ColumnTable.{column_names}
 use Rattle.sweep.specs.Groups.{group_names}
 use Rattle.sweep.specs.Layout.{LayoutRecord, Text, header_text, AreRowsFor, AreRowsOfGroup}

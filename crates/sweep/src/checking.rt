@@ -5,7 +5,7 @@ ghost use Rattle.trace_laws.specs.Taken.{HaveJoined};
 ghost use Rattle.study.specs.Sources.{sources_of};
 ghost use Rattle.study.specs.Grid.{points, runs};
 ghost use Rattle.study.specs.Laid.{is_memory};
-ghost use Rattle.sweep.specs.Inside.Numbering.{point_of, ArePointsReady, IsLack, IsReadyAt, IsRefusalAt, IsFirstRefusal};
+ghost use Rattle.sweep.specs.Inside.Progress.{point_of, ArePointsReady, IsLack, IsReadyAt, IsRefusalAt, IsFirstRefusal};
 ghost use Rattle.sweep.specs.Groups.{first_above};
 ghost use Rattle.sweep.specs.Outcome.{AreReady, CantBeRun};
 

@@ -5,7 +5,7 @@ ghost use Rattle.study.specs.Grid.{runs};
 ghost use Rattle.sweep.specs.Groups.{groups_of as groups_in};
 ghost use Rattle.sweep.specs.Layout.{place_of as place_in};
 ghost use Rattle.sweep.specs.Layout.{ArePicks, IsNearest, TellsOf, IsRefusal, IsNoLayout};
-ghost use Rattle.sweep.specs.Inside.Numbering.{runs_each as runs_of_unit, unit_count};
+ghost use Rattle.sweep.specs.Inside.Progress.{runs_each as runs_of_unit, unit_count};
 ghost use Rattle.sweep.specs.StudyText.{names_of as names_in, unit_first};
 
 use crate::error::LayoutError;

@@ -2,7 +2,7 @@
 ghost use Rattle.std.specs.Prelude.{◌+◌, ◌*◌, ◌^◌, ◌<◌, ◌≤◌, length, IfOk};
 ghost use Rattle.study.specs.Sources.{sources_of};
 ghost use Rattle.study.specs.Grid.{points, runs};
-ghost use Rattle.sweep.specs.Inside.Numbering.{point_of, IsAnswerAt, AreNumbersFrom};
+ghost use Rattle.sweep.specs.Inside.Progress.{point_of, IsAnswerAt, AreNumbersFrom};
 ghost use Rattle.sweep.specs.Results.{RunResult, IsResult};
 ghost use Rattle.sweep.specs.Sums.{AreNumbers};
 

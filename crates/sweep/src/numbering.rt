@@ -4,7 +4,7 @@ ghost use Rattle.std.specs.List.{range_with_len};
 ghost use Rattle.study.specs.Sources.{sources_of};
 ghost use Rattle.study.specs.Grid.{points, runs};
 ghost use Rattle.study.specs.Laid.{IsScenarioOf, IsRefusedFor, is_memory};
-ghost use Rattle.sweep.specs.Inside.Numbering.{point_of, table_at};
+ghost use Rattle.sweep.specs.Inside.Progress.{point_of, table_at};
 ghost use Rattle.sweep.specs.StudyText.{numbers_of};
 
 use scenario::Scenario;

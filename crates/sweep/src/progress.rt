@@ -2,7 +2,7 @@
 ghost use Rattle.std.specs.Prelude.{◌≡◌, ◌+◌, ◌-◌, ◌*◌, ◌^◌, ◌<◌, ◌≤◌, [], ◌∷◌, length, IfOk, OnOk, IfErr};
 ghost use Rattle.study.specs.Sources.{SourcesRecord};
 ghost use Rattle.study.specs.Grid.{points, runs};
-ghost use Rattle.sweep.specs.Inside.Numbering.{runs_each};
+ghost use Rattle.sweep.specs.Inside.Progress.{runs_each};
 
 use crate::error::SweepError;
 use crate::layout::Layout;
