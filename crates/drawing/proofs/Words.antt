@@ -8,7 +8,8 @@ pub use Rattle.std.proofs.lemmas.List.Folds.{flat_map-map, list_all-append}
 pub use Rattle.std.proofs.lemmas.List.Sums.{count_by-le-length, fold-append, length-filter, sum_by_push}
 pub use Rattle.std.proofs.lemmas.Result.{IfOk-weaker, MatchResult-weaker}
 pub use Rattle.judges.proofs.Outcoming.{length-outcomes, outcomes-at}
-pub use Rattle.judges.specs.Pairs.{AreUntil, noted_turns, turns}
+pub use Rattle.judges.specs.Turns.{noted_turns, turns}
+pub use Rattle.judges.specs.Pairs.{AreUntil}
 pub use Rattle.judges.specs.declared.outcomes.Outcome.{Outcome}
 pub use Rattle.process_api.specs.Order.{EntryRecord}
 pub use Rattle.process_api.specs.Place.{numbers_to, others}

@@ -2,7 +2,7 @@
 -- holds.
 use Rattle.std.specs.Prelude.{ℕ, ◌+◌, ◌-◌, ◌==◌, max, min, nat_lt, Bool, not, ◌&&◌, ◌||◌, Option, None, Some, List, [], ◌∷◌, ◌++◌, filter, map, flat_map, length, codes, decimal, ◌≡◌, suc, ◌<◌, ◌≤◌, ◌↔◌, true, false, Contains}
 use Rattle.std.specs.List.{AllPairs}
-use Rattle.judges.specs.Pairs.{end_tick}
+use Rattle.judges.specs.Turns.{end_tick}
 use Rattle.judges.specs.Out.{suspects}
 use Rattle.judges.specs.Outcomes.{outcome}
 use Rattle.judges.specs.declared.outcomes.Answer.{Answer}

@@ -1,6 +1,6 @@
 //! The bars of a pair, as its notes go by.
 ghost use Rattle.std.specs.Prelude.{◌≡◌, ◌≤◌, ℕ, Bool, false, [], ◌∷◌, max, OnOk, IfOk};
-ghost use Rattle.judges.specs.Pairs.{entry_turns, noted_turns, turn_of, turns_at};
+ghost use Rattle.judges.specs.Turns.{entry_turns, noted_turns, turn_of, turns_at};
 
 use crate::bars::Bar;
 use judges::turn_of;

@@ -7,7 +7,7 @@ use Rattle.judges.specs.declared.verdicts.Verdicts.{Verdicts}
 use Rattle.scenario_record.specs.Record.{Record}
 use Rattle.judges.specs.Out.{is_up, is_crashed, is_correct, suspects, crash_tick, out}
 use Rattle.judges.specs.Track.{all_below, any_below, all_from, least_below, suspected_from, trusted_from, latest_below, earliest_below}
-use Rattle.judges.specs.Pairs.{opened, kept_at}
+use Rattle.judges.specs.Turns.{opened, kept_at}
 use Rattle.judges.specs.declared.pair.Pair.{Pair}
 use Rattle.judges.specs.declared.pairs.Pairs.{Pairs}
 use Rattle.judges.specs.declared.track.Track.{Track}

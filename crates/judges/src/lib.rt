@@ -24,7 +24,7 @@
 //! [`Pairs`] is the machinery of the judge, and of other crates that count what detectors do. It keeps a [`Gauge`] of
 //! each pair of processes on a layer, which its owner chooses. It moves the gauge where a note of the observer begins
 //! or ends the suspicion of the subject. Whatever the gauge, [`grid_verdicts`] sees a [`Track`] in it. The gauge that
-//! is kept is the opened one, moved by the turns of the pair in the trace (`specs/Pairs.antt`);
+//! is kept is the opened one, moved by the turns of the pair in the trace (`specs/Turns.antt`);
 //! `proofs/Standing.antt` says what it then knows of the ticks.
 //!
 //! No contract speaks of work and memory. The code goes over the entries once. For each pair of processes it keeps the

@@ -2,7 +2,7 @@
 ghost use Rattle.std.specs.Prelude.{◌≡◌, ℕ, ◌+◌, ◌*◌, ◌<◌, ◌≤◌, [], ◌==◌, if◌then◌else◌, Some, length, vec_len, get_or, IfOk};
 ghost use Rattle.process_api.specs.Place.{most_processes};
 ghost use Rattle.scenario_record.specs.Record.{Record};
-ghost use Rattle.judges.specs.Pairs.{opened_at, AreTurned, noted_turns, turn_of, turns_at};
+ghost use Rattle.judges.specs.Turns.{opened_at, AreTurned, noted_turns, turn_of, turns_at};
 ghost use Rattle.judges.specs.declared.pair.Pair.{Pair};
 
 use crate::ends::end_ticks;

@@ -18,7 +18,8 @@ pub use Rattle.judges.proofs.Entering.{fed_more, pairs_quiet}
 pub use Rattle.judges.proofs.Standing.{IsKeeping, IsKnown, fed_known, shown, shown_all}
 pub use Rattle.judges.proofs.Turns.{in_order_more, turns_late, turns_other, turns_own, turns_quiet}
 pub use Rattle.judges.specs.Out.{crash_tick, end_of, suspects}
-pub use Rattle.judges.specs.Pairs.{all_turned, kept_at, opened, turned, AreFrom, ArePairs, fed, Turn, entry_turns, noted_turns, turn_of, turns, turns_at}
+pub use Rattle.judges.specs.Turns.{all_turned, kept_at, opened, turned, Turn, entry_turns, noted_turns, turn_of, turns, turns_at}
+pub use Rattle.judges.specs.Pairs.{AreFrom, ArePairs, fed}
 pub use Rattle.judges.specs.Verdicts.{verdicts}
 pub use Rattle.judges.specs.declared.pair.Pair.{Pair}
 pub use Rattle.judges.specs.declared.pairs.Pairs.{Pairs}

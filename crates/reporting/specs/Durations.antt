@@ -3,7 +3,8 @@ use Rattle.std.specs.Prelude.{◌≡◌, ℕ, suc, ◌+◌, ◌-◌, ◌*◌, �
 use Rattle.std.specs.Global.{Vec}
 use Rattle.process_api.specs.Order.{EntryRecord}
 use Rattle.scenario_record.specs.Record.{Record}
-use Rattle.judges.specs.Pairs.{kept_at, opened, fed}
+use Rattle.judges.specs.Turns.{kept_at, opened}
+use Rattle.judges.specs.Pairs.{fed}
 use Rattle.judges.specs.declared.pair.Pair.{Pair}
 use Rattle.judges.specs.declared.pairs.Pairs.{Pairs}
 use Rattle.reporting.specs.Measures.{pair_durations}

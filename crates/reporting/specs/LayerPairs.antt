@@ -3,7 +3,8 @@ use Rattle.std.specs.Prelude.{ℕ, suc, ◌+◌, ◌-◌, ◌*◌, List, map, fl
 use Rattle.process_api.specs.Place.{numbers_to, others}
 use Rattle.process_api.specs.Order.{EntryRecord}
 use Rattle.scenario_record.specs.Record.{Record}
-use Rattle.judges.specs.Pairs.{opened, ArePairs}
+use Rattle.judges.specs.Turns.{opened}
+use Rattle.judges.specs.Pairs.{ArePairs}
 use Rattle.judges.specs.declared.pair.Pair.{Pair}
 use Rattle.judges.specs.declared.pairs.Pairs.{Pairs}
 use Rattle.reporting.specs.Meter.{closed, crash_between}

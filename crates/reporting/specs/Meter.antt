@@ -3,7 +3,8 @@ use Rattle.std.specs.Prelude.{ℕ, false, ◌&&◌, ◌==◌, nat_lt, if◌then�
 use Rattle.process_api.specs.Order.{EntryRecord}
 use Rattle.scenario_record.specs.Record.{Record}
 use Rattle.judges.specs.Out.{crash_tick, end_of}
-use Rattle.judges.specs.Pairs.{kept_at, AreFrom, AreUntil, fed}
+use Rattle.judges.specs.Turns.{kept_at}
+use Rattle.judges.specs.Pairs.{AreFrom, AreUntil, fed}
 use Rattle.reporting.specs.Measures.{is_measured}
 use Rattle.reporting.specs.Tally.{counted, new_tally, told}
 use Rattle.reporting.specs.declared.meter.Meter.{Meter}

@@ -1,6 +1,6 @@
 -- Stretches as they are found, tick by tick.
 use Rattle.std.specs.Prelude.{◌≡◌, ℕ, zero, suc, ◌+◌, ◌-◌, ◌≤◌, nat_le, nat_lt, max, Bool, true, false, if◌then◌else◌, Option, None, Some, List, [], ◌∷◌, ◌++◌, fold}
-use Rattle.judges.specs.Pairs.{Turn}
+use Rattle.judges.specs.Turns.{Turn}
 use Rattle.drawing.specs.declared.bars.Bar.{Bar}
 use Rattle.drawing.specs.declared.sweep.Sweep.{Sweep}
 
