@@ -44,8 +44,7 @@ module _ (s : Record) where
     pub is_trace : IsTrace (setting_of s) trace
     pub text : piece ≡ printed print s trace
 
-  -- a run by windows that is refused has left the header and the rows of the trace's first entries, where the trace is
-  -- asked for
+  -- where a refused run by windows is asked for the trace, it has left its header and the rows of its first entries
   pub record IsRunFront (print : PrintChoice) (piece : List ℕ) : Type 0 where
     pub asked : IsTrue (prints_trace print)
     pub first : List EntryRecord
@@ -59,8 +58,7 @@ module _ (s : Record) where
     pub is_within : IsTraceWithin s trace
     pub text : piece ≡ codes "same\n"
 
-  -- The piece is what an order over the scenario asks for. A run by windows goes by any plan that nothing speaks
-  -- against, and answers with the texts that `list` answers with
+  -- what an order over the scenario is answered with; a run by windows answers as `list`, if its plan isn't refused
   abbrev pub AnswersOver : Order → List ℕ → Type 0
   AnswersOver (order.Check path) piece = piece ≡ codes "ok\n"
   AnswersOver (order.List path print) piece = IsListAnswer print piece
@@ -131,15 +129,11 @@ abbrev pub AsksRun : Order → Type 0
 AsksRun (order.Check path) = ⊥
 AsksRun _ = Unit {0}
 
--- ---- what is compared
-
 -- the bytes are both texts of the scenario's trace, which is within its limit
 pub record IsWritten (S : Record) (bytes : List ℕ) : Type 0 where
   pub trace : List EntryRecord
   pub is_within : IsTraceWithin S trace
   pub text : bytes ≡ printed Both S trace
-
--- ---- how a run takes its events
 
 -- windows are no longer than the scenario's lookahead
 abbrev pub IsModeFor : Record → Mode → Type 0

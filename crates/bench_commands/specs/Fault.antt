@@ -12,8 +12,7 @@ use Rattle.windows.specs.Plan.{IsFirst}
 use Rattle.windows.specs.declared.error.PlanError.{PlanError}
 use Rattle.windows.specs.declared.error.PlanError.TheVariants as plan
 
--- 1: the scenario or its file is refused, 2: the words are, 3: the plan or the run is, or two runs differ, 4: writing
--- failed
+-- 1: the scenario or its file is refused; 2: the words are; 3: the plan or run is, or runs differ; 4: a write failed
 abbrev pub status_of : Fault → ℕ
 status_of Form = 2
 status_of WordsMemory = 2

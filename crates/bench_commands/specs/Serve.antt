@@ -32,8 +32,6 @@ pub record IsRunAsked (input : Option (List ℕ)) (words : List (List ℕ)) : Ty
 abbrev pub NamesNoInput : List (List ℕ) → Type 0
 NamesNoInput words = (asked : Order) → States words asked → path_of asked ≢ input_path
 
--- ---- the line that is told
-
 -- the fault of words that state no order. Help is told well, unless it can't be written
 abbrev pub TellsOf : WordsError → Fault → Type 0
 TellsOf (refusal.Help text) fault = fault ≡ Run Write

@@ -72,8 +72,6 @@ pub record States (words : List Text) (asked : Order) : Type 0 where
   pub met : subcommand_of (app_with prints) words ≡ Some found
   pub stated : StatesIn found.0 found.1 asked
 
--- ---- why words state no order
-
 -- the subcommand of this name and its arguments are no whole order
 abbrev pub StatesNothingIn : Text → List Row → Type 0
 StatesNothingIn name rows = (asked : Order) → StatesIn name rows asked → ⊥

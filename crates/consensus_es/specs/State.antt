@@ -1,5 +1,4 @@
--- A process's progress seen as the definition's state, and what its functions do. Tables of letters and proposals, seen
--- by round and sender. The rounds whose decision was received, seen as a test, and how a decision is passed on.
+-- A process's progress, its letters and proposals as the definition's state, and what its functions do.
 use Rattle.std.specs.Prelude.{◌≡◌, ◌++◌, ℕ, Bool, true, false, Option, None, Some, List, unwrap_or, if◌then◌else◌, [], ◌+◌, ◌<◌, nat_eq, ◌⊎◌, ◌*◌, ◌≤◌, length}
 use Rattle.std.specs.FinSet as set
 use Rattle.std.specs.Ordering.{nat_cmp}
@@ -132,8 +131,7 @@ LeavesFewRounds = (n own : ℕ) → 1 ≤ own → own ≤ n → (is_suspected : 
     → (input : StepInput) (s : Coordinator) → IsOrderly n own s
     → (step_coordinator n own is_suspected input s).state.round ≤ s.round + n
 
--- the estimate d of process p is behind the estimate e of process q: its stamp is smaller, or the same and its sender
--- no less
+-- estimate d of process p is behind estimate e of q: its stamp is smaller, or the same and its sender no less
 abbrev pub IsBehind : Estimate → ℕ → ℕ → Estimate → Type 0
 IsBehind e q p d = (d.stamp < e.stamp) ⊎ ((d.stamp ≡ e.stamp) × (q ≤ p))
 

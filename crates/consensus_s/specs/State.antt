@@ -41,8 +41,6 @@ stepped o suspects input e = step_exchange o.processes o.own (set.contains suspe
 abbrev pub IsOrderly : ℕ → Exchange → Type 0
 IsOrderly own s = (r : ℕ) → s.round < r → s.kept r own ≡ None
 
--- ---- waits end as long as one can
-
 -- after an input no wait is over
 abbrev pub SettlesAlways : Type 0
 SettlesAlways = (n own : ℕ) (is_suspected : ℕ → Bool) (input : StepInput) (s : Exchange)

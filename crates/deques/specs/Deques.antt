@@ -35,8 +35,7 @@ pub record HandView (T : Type 0) : Type 0 where
   pub known : List T
   pub taken : List T
 
--- what the starter has of the deques after the workers: how many workers' permits are out, and what was taken by those
--- that are back
+-- what the starter has after the workers: how many permits are out, and what was taken by those that are back
 pub record RestView (T : Type 0) : Type 0 where
   pub own : List (Dealt T)
   pub out : ℕ

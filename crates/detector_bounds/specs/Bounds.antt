@@ -33,8 +33,7 @@ module _ (S : Record) (trace : List EntryRecord) where
     pub accurate : (q p : ℕ) → Watches S q p → IsReliable S p q → HasNoMistake q p
     -- where all links that are watched are reliable, nobody makes one
     pub all_accurate : ((q p : ℕ) → Watches S q p → IsReliable S p q) → strong_accuracy S trace 1 ≡ true
-    -- where all watch all, and each crash is detected by all correct ones by a tick below the horizon, completeness
-    -- comes by that tick
+    -- where all watch all, and all correct ones detect each crash by tick t below the horizon, completeness comes by t
     pub complete : watch_of S.detector ≡ All → (t : ℕ) → t < S.horizon
         → ((q p c : ℕ) → IsCorrect S q → CrashesAt p c → detected_at q p c ≤ t)
         → (u : ℕ) × (strong_completeness S trace 1 ≡ Some u) × (u ≤ t)

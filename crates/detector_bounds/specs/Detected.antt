@@ -55,8 +55,7 @@ longest (Timeout its) link trusts (suc before) = link.max + grown its trusts + i
 longest (Freshness its) link trusts zero = its.eta + its.delta
 longest (Freshness its) link trusts (suc before) = its.eta + its.delta - 1
 
--- ---- who watches whom, and over which links
-
+-- who watches whom, and over which links
 abbrev pub watch_of : DetectorNumbers → Watch
 watch_of (Timeout its) = its.watch
 watch_of (Freshness its) = its.watch

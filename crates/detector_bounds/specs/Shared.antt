@@ -7,8 +7,7 @@ use Rattle.judges.specs.Verdicts.{IsCorrect, From, Suspects}
 use Rattle.detector_bounds.specs.Bounds.{CrashesAt, detected_at}
 use Rattle.detector_bounds.specs.Detected.{last_before, multiple_from, Watches}
 
--- the tick from which, at the latest, no set comes over a link whose sender's last share had this number; 0 where it
--- shared none
+-- from this tick at the latest no set comes over a link whose sender's last share had this number; 0 where it had none
 abbrev pub silent_from : (period : ℕ) → Link → (last : ℕ) → ℕ
 silent_from period link zero = 0
 silent_from period link (suc before) = suc before * period + link.max + 1
@@ -35,8 +34,7 @@ module _ (S : Record) where
         (max (detected_at S trace w p c + 1)
         (silent_from period (link S p r) (last_before period c) - least_delay w r))
 
-    -- once that share has come, each correct r that hears of a correct w suspects whom w watches and who crashed, up to
-    -- the horizon
+    -- from then on each correct r that hears of a correct w suspects whom w watches and who crashed, up to the horizon
     abbrev pub SharesDetection : Type 0
     SharesDetection = (period w p r c : ℕ) → S.share ≡ Some period → IsCorrect S w → Watches S w p
         → CrashesAt S trace p c → IsCorrect S r → LosesNothing w r

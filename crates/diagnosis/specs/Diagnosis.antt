@@ -1,5 +1,4 @@
--- What a diagnosis says of a file. Places in a text, by the bytes before them. Which key is perhaps meant by one that
--- isn't a table's.
+-- What a diagnosis says of a file: places in its text, by the bytes before them, and which key is perhaps meant.
 use Rattle.std.specs.Prelude.{◌≡◌, ℕ, ◌≤◌, ◌*◌, ◌/◌, min, List, length, take, false, Option, Some, None, string_bytes, ◌+◌, [], ◌∷◌, Bool, if◌then◌else◌, ◌==◌, ◌<◌, max, nat_eq, true}
 use Rattle.std.specs.Borrow.{Bor}
 use Rattle.toml.specs.Data.{Members}
@@ -96,8 +95,6 @@ pub record Describes (s : Record) (a : Accepted) : Type 0 where
   pub window : a.window ≡ longest_window s
   pub in_window : a.estimate.in_window ≡ entries_in (longest_window s) a.estimate.entries s.horizon
 
--- ---- a file's bytes
-
 -- the file is accepted, and described
 pub record AcceptsAs (bytes : List ℕ) (a : Accepted) : Type 0 where
   pub stands_for : Record
@@ -128,8 +125,6 @@ pub record RefusesFor (bytes : List ℕ) (r : Refused) : Type 0 where
 abbrev pub IsDiagnosisOf : List ℕ → Diagnosis → Type 0
 IsDiagnosisOf bytes (diagnosis.Accepted a) = AcceptsAs bytes a
 IsDiagnosisOf bytes (diagnosis.Refused r) = RefusesFor bytes r
-
--- ---- a file's table
 
 -- no refusal applies, and the record is described for which the table stands
 pub record AcceptsTableAs (file : Members) (a : Accepted) : Type 0 where

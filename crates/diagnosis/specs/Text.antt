@@ -1,5 +1,4 @@
--- What is said of a refused file, in words: the refusal's name, the place, and what is wrong with what is there. A
--- quote from the file is printed on one line, without control characters.
+-- What is said of a refused file, in words. A quote from it is printed on one line, without control characters.
 use Rattle.std.specs.Prelude.{ℕ, ℤ, List, [], ◌++◌, Bool, true, false, ◌&&◌, ◌||◌, Option, Some, None, if◌then◌else◌, codes, decimal, string_bytes}
 use Rattle.std.specs.Borrow.{Bor}
 use Rattle.std.specs.List.{flat_map}
@@ -37,8 +36,6 @@ a <> b = a ++ b
 abbrev pub path_text : Place → List ℕ → List ℕ
 path_text place.Top key = key
 path_text at key = place_text at <> codes "." <> key
-
--- ---- one fault
 
 abbrev pub suggestion_text : Place → Option (Bor (List ℕ)) → List ℕ
 suggestion_text at None = []
@@ -125,8 +122,6 @@ abbrev pub not_before_text : Place → ℤ → ℤ → List ℕ
 not_before_text at begin until =
     place_text at <> codes ": begin " <> signed_decimal begin <> codes " is not below until "
     <> signed_decimal until
-
--- ---- all
 
 -- what is wrong with the table at a place
 abbrev pub fault_text : Place → Fault → (meant : Option (Bor (List ℕ))) → List ℕ

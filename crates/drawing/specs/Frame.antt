@@ -1,5 +1,4 @@
--- What a picture has besides its marks: a title, a legend, labels, and the lines of its axis of ticks. Where marks
--- stand in a picture, in whole user units from its top left corner.
+-- A picture's title, legend, labels and axis of ticks, and where marks stand, in whole user units from the top left.
 use Rattle.std.specs.Prelude.{◌≡◌, ◌⊎◌, ℕ, ◌+◌, ◌≤◌, max, nat_lt, Bool, true, false, ◌||◌, List, ◌++◌, map, Contains, codes, decimal, not, ◌-◌, ◌*◌, ◌/◌, min, nat_le, ◌&&◌, if◌then◌else◌, Option, None, Some, filter, length, sum_by}
 use Rattle.std.specs.List.{list_all}
 use Rattle.process_api.specs.Place.{numbers_to, others}
@@ -28,8 +27,7 @@ abbrev pub point : (x y : ℕ) → Point
 point x y = record { x = x; y = y }
 
 module _ (from until : ℕ) where
-  -- where a tick begins, from the left: the ticks asked for go evenly through the width. Other ticks stand at the
-  -- edges
+  -- where a tick begins, from the left: those asked for go evenly through the width, others stand at the edges
   unfoldable pub x_of : (tick : ℕ) → ℕ
   x_of tick = left_room + ((min tick until - from) * axis_width) / (until - from)
 
@@ -41,9 +39,7 @@ abbrev pub shown : (from end : ℕ) → Option ℕ → Option ℕ
 shown from end None = None
 shown from end (Some tick) = if nat_le from tick && nat_lt tick end then Some tick else None
 
--- ---- who suspects whom: each process q has a row for itself and, below it, one for each other process p of which a
--- test tells
-
+-- who suspects whom: each process q has a row and, below it, one for each other process p of which a test tells
 module _ (has_row : (q p : ℕ) → Bool) where
   -- of the first n processes those that have a row of process q
   abbrev pub subjects : (n q : ℕ) → List ℕ
@@ -66,8 +62,7 @@ module _ (has_row : (q p : ℕ) → Bool) where
   left_out processes =
       sum_by (λ q. length (filter (λ p. not (has_row q p)) (others processes q))) (numbers_to processes)
 
--- ---- letters: each process has a room, in which there is place for a text of each other process above its row
-
+-- letters: each process has a room, with place above its row for a text of each other process
 abbrev pub lane_height : (processes : ℕ) → ℕ
 lane_height processes = processes * 9 + 36
 

@@ -24,8 +24,6 @@ use Rattle.drawing.specs.declared.bars.Bar.{Bar}
 use Rattle.drawing.specs.declared.error.DrawError.{DrawError}
 use Rattle.drawing.specs.declared.error.DrawError.TheVariants.{TooManyProcesses, Ticks, TooManyLetters, Memory}
 
--- ---- letters
-
 -- a letter is of some processes where its sender or its receiver is one of them; where none is named, all letters are
 abbrev pub is_of : (of : List ℕ) → Letter → Bool
 is_of of l = length of == 0 || (list_any (λ p. p == l.sender) of || list_any (λ p. p == l.receiver) of)
@@ -54,8 +52,7 @@ module _ (processes from until : ℕ) where
   abbrev pub place : (tick p : ℕ) → Point
   place tick p = point (x_of from until tick) (line_of processes p)
 
-  -- a letter that is lost ends in a room beside its sender's line: of n processes, at one n-th of the way down or up to
-  -- its receiver, so that letters to different receivers end at different heights
+  -- a lost letter of n processes ends one n-th of the way to its receiver's line, at another height for each receiver
   abbrev pub lost : Letter → Shape
   lost l =
       shape.Stub class.Lost (place l.sent l.sender)
@@ -84,8 +81,6 @@ module _ (processes from until : ℕ) where
   abbrev pub arrows : (of : List ℕ) → List Letter → List Shape
   arrows of letters = map (λ l. ending l l.due) (sent_among of from until letters)
 
--- ---- marks on the lines
-
 -- the upper layer of detectors that a scenario has
 abbrev pub upper_layer : (share : Option ℕ) → ℕ
 upper_layer None = 1
@@ -113,8 +108,6 @@ module _ (from until : ℕ) where
       turn_shapes style line (codes "+") p (shown from end (Some b.begin))
       ++ turn_shapes style line (codes "-") p (shown from end (Some b.end))
 
--- ---- the picture
-
 module _ (S : Record) (trace : List EntryRecord) (from until : ℕ) where
   -- the bands of process q: where a link from it is in an outage
   unfoldable pub line_bands : (q : ℕ) → List Shape
@@ -135,9 +128,8 @@ module _ (S : Record) (trace : List EntryRecord) (from until : ℕ) where
         ++ (arrows S.processes from until of letters ++ flat_map mark_shapes (numbers_to S.processes))
 
 module _ (S : Record) (trace : List EntryRecord) (letters : List Letter) (of : List ℕ) (from until : ℕ) where
-  -- the text is a picture of these letters, of them those of some processes, in which the marks are where the stretches
-  -- of suspicion begin and end: the maximal ones from tick 0 to the end of the observer's line, on the upper layer. It
-  -- tells how many letters of others are left out
+  -- the text pictures these letters of some processes, with marks where the maximal stretches of suspicion on the upper
+  -- layer, from tick 0 to the observer's line's end, begin and end; it tells how many letters of others are left out
   pub record DrawsLetters (text : List ℕ) : Type 0 where
     pub bars : (q p : ℕ) → List Bar
     pub are_bars : (q p : ℕ) → AreBars (suspects (upper_layer S.share) trace q p) 0 (row_end S until q) (bars q p)
@@ -145,8 +137,6 @@ module _ (S : Record) (trace : List EntryRecord) (letters : List Letter) (of : L
         IsPicture (lanes_bottom S.processes) (count_others of from until letters)
         (flat_map (line_bands S trace from until) (numbers_to S.processes))
         (letters_shapes S trace from until bars of letters) text
-
--- ---- why nothing is drawn
 
 -- the most processes and letters that are drawn
 abbrev pub most_drawn : ℕ

@@ -1,5 +1,4 @@
--- The marks that both pictures have, and the picture of who suspects whom. The stretches of ticks at which a test
--- holds.
+-- The marks of both pictures, the stretches of ticks at which a test holds, and the picture of who suspects whom.
 use Rattle.std.specs.Prelude.{ℕ, ◌+◌, ◌-◌, ◌==◌, max, min, nat_lt, Bool, not, ◌&&◌, ◌||◌, Option, None, Some, List, [], ◌∷◌, ◌++◌, filter, map, flat_map, length, codes, decimal, ◌≡◌, suc, ◌<◌, ◌≤◌, ◌↔◌, true, false, Contains}
 use Rattle.std.specs.List.{AllPairs}
 use Rattle.judges.specs.Turns.{end_tick}
@@ -19,8 +18,7 @@ use Rattle.drawing.specs.Frame.{IsPicture, said, point, left_room, row_height, x
 use Rattle.drawing.specs.declared.bars.Bar.{Bar}
 
 module _ (test : ℕ → Bool) (from until : ℕ) where
-  -- the test holds at all ticks from b.begin to b.end - 1, and among the ticks from `from` to until - 1 the stretch
-  -- can't be longer on either side
+  -- the test holds at ticks b.begin to b.end - 1, which can't be longer on either side among `from` to until - 1
   pub record IsMaximal (b : Bar) : Type 0 where
     pub low : from ≤ b.begin
     pub some : b.begin < b.end
@@ -77,8 +75,6 @@ own_at S trace from until top q =
     ∷ life_line from until class.Life (top + 8) (row_end S until q)
     ∷ decision_shapes from until top (shown from until (decided (outcome trace q).value (outcome trace q).tick))
     ++ crash_shapes from until top (shown from until (crash S q))
-
--- ---- who suspects whom
 
 -- where the bars of the base detector begin, below the top of their row: in the middle, or above those of a reduction
 abbrev pub first_top : Option ℕ → ℕ

@@ -1,5 +1,4 @@
--- Whom a process suspects, read from the notes of a trace. Chen, Toueg and Aguilera (IEEE Transactions on Computers,
--- 2002) call this the output of a detector.
+-- Whom a process suspects by a trace's notes: a detector's output (Chen, Toueg, Aguilera, IEEE Trans. Computers, 2002).
 use Rattle.std.specs.Prelude.{ℕ, Bool, true, false, ◌&&◌, ◌==◌, nat_le, if◌then◌else◌, List, [], ◌∷◌, ◌++◌, fold, ◌≡◌, ◌≤◌, suc, min, nat_lt, not, unwrap_or}
 use Rattle.process_api.specs.Order.{EntryRecord, is_before}
 use Rattle.process_api.specs.declared.action.Note.{Note}
@@ -45,21 +44,17 @@ module _ (layer : ℕ) where
   abbrev pub suspects : List EntryRecord → (q p : ℕ) → (t : ℕ) → Bool
   suspects trace q p t = out trace q t p
 
--- ---- what a suspicion of layer 2 rests on: somebody's base detector had suspected before
-
 -- some entry notes that its process suspects p on layer 1, at tick t or before
 abbrev pub IsBlamedBy : List EntryRecord → (p t : ℕ) → Type 0
 IsBlamedBy trace p t = (e : EntryRecord) × IsIn e trace × (e.key.tick ≤ t) × IsIn (Suspect 1 p) e.notes
 
--- each entry that notes a suspicion of layer 2 has an earlier one, in the order of keys, that notes a suspicion of the
--- same process on layer 1
+-- each entry that notes a suspicion of layer 2 has an earlier one, by key, that notes one of its process on layer 1
 abbrev pub SharesSuspicions : List EntryRecord → Type 0
 SharesSuspicions trace = (e : EntryRecord) → IsIn e trace → (p : ℕ) → IsIn (Suspect 2 p) e.notes
     → (earlier : EntryRecord) × IsIn earlier trace × (is_before earlier.key e.key ≡ true)
     × IsIn (Suspect 1 p) earlier.notes
 
--- ---- who has crashed, and when a suspicion is a mistake
-
+-- who has crashed, and when a suspicion is a mistake
 module _ (s : Record) where
   -- a process that never crashes counts as one that crashes after the horizon
   abbrev pub crash_tick : ℕ → ℕ

@@ -1,5 +1,4 @@
--- The steps of a track, and what it knows of a pair whose suspicion is given tick by tick. Quantifiers over the ticks
--- (or other numbers) below an end.
+-- The steps of a track, what it knows of a pair whose suspicion is given tick by tick, and quantifiers below an end.
 use Rattle.std.specs.Prelude.{◌≡◌, ℕ, zero, suc, ◌-◌, ◌<◌, ◌≤◌, min, max, Bool, false, not, ◌&&◌, ◌||◌, if◌then◌else◌, nat_lt, nat_le, Option, None, Some, true}
 use mathlib.Core.Bool.{beq}
 use Rattle.judges.specs.declared.track.Track.{Track}

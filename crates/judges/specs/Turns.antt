@@ -1,5 +1,4 @@
--- The turns of a pair of processes: where its observer's notes say that suspicion of its subject begins, or ends. What
--- is kept of a pair: how it opens, and what its turns make of it.
+-- The turns of a pair, where its observer's notes say that suspicion begins or ends, and what is kept of it.
 use mathlib.Core.Bool.{beq}
 use Rattle.std.specs.Prelude.{◌≡◌, ℕ, suc, ◌+◌, ◌*◌, ◌<◌, Bool, List, [], ◌∷◌, get_or, false, if◌then◌else◌, length, fold, true, ◌&&◌, ◌==◌, nat_lt, Option, None, Some, flat_map, ◌/◌, ◌%◌, min, slice_index}
 use Rattle.process_api.specs.Order.{EntryRecord}
@@ -69,8 +68,7 @@ module _ {K : Type 0} (passed : (until : ℕ) → (suspected : Bool) → (end : 
     pub each : (i j : ℕ) (d : Pair K) → i < n → j < n
         → get_or new (i * n + j) d ≡ all_turned (get_or old (i * n + j) d) (turns (suc i) (suc j))
 
--- ---- up to which tick a process is up, cut at the horizon
-
+-- up to which tick a process is up, cut at the horizon
 abbrev pub end_tick : Record → (p : ℕ) → ℕ
 end_tick S p = min (crash_tick S p) S.horizon
 

@@ -1,5 +1,4 @@
--- The verdicts on a layer: completeness and accuracy of Chandra and Toueg (Journal of the ACM 43(2), 1996), cut at the
--- horizon.
+-- Verdicts on a layer: completeness and accuracy (Chandra, Toueg, Journal of the ACM 43(2), 1996), cut at the horizon.
 use Rattle.std.specs.Prelude.{ℕ, suc, Bool, true, not, ◌&&◌, if◌then◌else◌, Option, List, ◌≡◌, ◌<◌, ◌≤◌, None, Some, ◌+◌, ◌*◌, ◌==◌, get_or}
 use Rattle.std.specs.Bool.{Decides}
 use Rattle.process_api.specs.Order.{EntryRecord}

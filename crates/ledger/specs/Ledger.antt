@@ -10,8 +10,6 @@ module _ {T : Type 0} where
   abbrev pub account : ℕ → ℕ → List T → List T → Option (List T) → Account T
   account made parts put taken told = record { made = made; parts = parts; put = put; taken = taken; told = told }
 
-  -- ---- the steps
-
   -- the first pass of an empty queue, once it counts
   abbrev pub first_pass : Account T
   first_pass = account 1 1 [] [] None
@@ -61,8 +59,6 @@ module _ {T : Type 0} where
   abbrev pub IsBalanced : Account T → List T → Type 0
   IsBalanced a items = IsPermutation a.put (a.taken ++ items)
 
-  -- ---- the rule
-
   -- only the first pass counts the passes that were made
   abbrev pub FirstCounts : List (Account T) → Type 0
   FirstCounts passes = (port : ℕ) (a : Account T) → get_elem? passes port ≡ some a → port ≢ 0 → a.made ≡ 0
@@ -98,8 +94,6 @@ module _ {T : Type 0} where
     pub alike : AreToldAlike passes
     pub told : IsToldRight passes
     pub same : IsPermutation (put_by_all passes) (taken_by_all passes ++ items)
-
--- ---- lists that are changed place by place
 
 -- each element is changed by the row at its place, as far as there are rows
 abbrev pub each_with : {H R : Type 0} → (H → R → H) → List H → List R → List H

@@ -1,5 +1,4 @@
--- What contracts see of mailboxes and slips. There is a mailbox for each receiver, 1 to n. What is seen of one
--- mailbox's tickets and of its owner's pass.
+-- What contracts see of mailboxes, one for each receiver 1 to n, of slips, of tickets and of an owner's pass.
 use Rattle.std.specs.Coded.{Coded, code_by, coded×, coded_list, coded_ℕ}
 use Rattle.std.specs.Prelude.{◌≡◌, refl, ℕ, ◌-◌, List, [], ◌∷◌, ◌++◌, length, map, replicate, slice_index_or, slice_set, ◌+◌, Option, Some, None, min}
 use Rattle.std.specs.Global.{Vec, Global}
@@ -68,9 +67,7 @@ abbrev pub soonest_in : List Letter → Option ℕ
 soonest_in [] = None
 soonest_in (x ∷ letters) = earlier_of (Some x.key.tick) (soonest_in letters)
 
--- ---- letters that are given to one who collects them
-
--- by this relation the new one is the old one after it was given these letters, in this order
+-- by this relation the new collector is the old one after it was given these letters, in this order
 abbrev pub WasGiven : {T : Type 0} → (T → T → List Letter → Type 0) → (old new : T) → List Letter → Type 0
 WasGiven {T} collected old new letters =
     (first : T) (so_far : List Letter) → collected first old so_far → collected first new (so_far ++ letters)

@@ -1,5 +1,4 @@
--- The outages of all sources of a network, in their order. The outages of a record that is played again and again. The
--- episodes of a source: gaps and lengths in turn, up to the horizon. How many ticks a draw of a gap or a length gives.
+-- The outages of all sources of a network: records that are played again and again, and gaps and lengths in turn.
 use Rattle.std.specs.Prelude.{◌≡◌, ℕ, ◌<◌, Result, Err, List, [], ◌∷◌, ◌++◌, map, filter, length, true, false, ◌+◌, ◌-◌, ◌*◌, ◌/◌, ◌%◌, min, nat_lt, if◌then◌else◌, zero, suc, ◌^◌, Bool, slice_index}
 use Rattle.std.specs.List.{range_with_len, flat_map, enumerate_from, take_while}
 use Rattle.scenario_record.specs.declared.outage.Outage.{Outage}
@@ -23,9 +22,8 @@ use Rattle.network.specs.declared.rhythm.Rhythm.{Rhythm}
 use Rattle.network.specs.declared.spell.Spell.{Spell}
 use Rattle.network.specs.declared.spell.Spell.TheVariants.{Ticks, Values, Mean}
 
--- ---- a geometric number of a mean: 1 plus its binary digits, which are independent. Digit i is 1 with the odds r_i to
+-- a geometric number of a mean: 1 plus its binary digits, which are independent. Digit i is 1 with the odds r_i to
 -- 2^32, where r_0 is (mean - 1) / mean and each next one the square of the one before, all in units of 2^-32
-
 unfoldable pub odds : (mean : ℕ) → ℕ → ℕ
 odds mean zero = 2 ^ 32 * (mean - 1) / mean
 odds mean (suc i) = odds mean i * odds mean i / 2 ^ 32
@@ -46,9 +44,7 @@ digits_drawn = 28
 unfoldable pub geometric : (mean : ℕ) → Words → ℕ
 geometric mean words = 1 + digits mean words digits_drawn
 
--- ---- a gap or a length
-
--- how many ticks it is
+-- how many ticks a gap or a length is
 unfoldable pub ticks_of : Spell → Words → ℕ
 ticks_of (Ticks number) words = number
 ticks_of (Values values) words = slice_index values.items (words 0 % length values.items)
@@ -60,9 +56,8 @@ words_taken (Ticks number) = 0
 words_taken (Values values) = 1
 words_taken (Mean mean) = digits_drawn
 
--- ---- the first gap, cut so that sources don't begin together: a run begins at some tick of a gap. A geometric gap has
--- no memory, so what is left of it is as long as a whole one
-
+-- the first gap, cut so that sources don't begin together: a run begins at some tick of a gap. A geometric gap has no
+-- memory, so what is left of it is as long as a whole one
 unfoldable pub first_ticks_of : Spell → Words → ℕ
 first_ticks_of (Ticks number) words = words 0 % number
 first_ticks_of (Values values) words = words 1 % slice_index values.items (words 0 % length values.items)
@@ -102,14 +97,12 @@ module _ (its : Rhythm) where
   abbrev pub cut_at : (horizon : ℕ) → Coming → Outage
   cut_at horizon e = record { begin = e.begin; until = min (until e) horizon }
 
-  -- the episodes that begin below the horizon, each cut there. Each begins after the one before it, so there are no
-  -- more than the horizon has ticks
+  -- the episodes that begin below the horizon, each cut there and after the one before, so no more than there are ticks
   unfoldable pub episodes : Words → (horizon : ℕ) → List Outage
   episodes words horizon =
       map (cut_at horizon) (take_while (λ e. nat_lt e.begin horizon) (map (coming words) (range_with_len 0 horizon)))
 
--- an outage of the record in a turn of it that began at `turn` ticks minus `place`: what is of it from tick 0 to the
--- horizon
+-- what is of an outage of the record, in a turn that began at `turn` ticks minus `place`, from tick 0 to the horizon
 abbrev pub in_turn : (turn place horizon : ℕ) → Outage → Outage
 in_turn turn place horizon o =
     record { begin = o.begin + turn - place; until = min (o.until + turn - place) horizon }
@@ -148,8 +141,7 @@ outage_on o link = record { from = link.from; to = link.to; begin = o.begin; unt
 unfoldable pub on_each : List Ends → List Outage → List LinkOutage
 on_each links its = flat_map (λ o. map (outage_on o) links) its
 
--- the outages of all tables of a kind, in their order. `of_one` gives those of a table by how many of its kind stand
--- before it
+-- the outages of all tables of a kind, in order; `of_one` gives a table's by how many of its kind stand before it
 abbrev pub of_each : {T : Type 0} → (ℕ → T → List LinkOutage) → List T → List LinkOutage
 of_each of_one tables = flat_map (λ numbered. of_one numbered.0 numbered.1) (enumerate_from 0 tables)
 

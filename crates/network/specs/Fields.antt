@@ -20,8 +20,6 @@ use Rattle.network.specs.declared.field.Shape.TheVariants as shape
 use Rattle.network.specs.declared.refusal.ValueFault.{ValueFault}
 use Rattle.network.specs.declared.refusal.ValueFault.TheVariants as fault
 
--- ---- keys
-
 -- the key of a kind's array of tables
 abbrev pub key_of : TableKind → List ℕ
 key_of Links = codes "links"

@@ -54,8 +54,7 @@ pub record IsReplay (its : Replay) : Type 0 where
   pub outages : All (IsWithin its.lasts) its.outages.items
   pub in_order : IsSorted outage_cmp its.outages.items
 
--- the rhythms and the records are in their ranges, and of each kind there are no more tables than have streams. It
--- says nothing of tables of `links`, of which nothing is drawn, nor of the members of groups
+-- rhythms and records are in their ranges, and no kind has more tables than streams; `links` and members aren't judged
 pub record IsNetwork (its : Network) : Type 0 where
   pub bursts : All (λ (b : Burst). IsRhythm b.rhythm) its.bursts.items
   pub few_bursts : length its.bursts.items ≤ most_tables

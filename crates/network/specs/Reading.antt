@@ -29,8 +29,6 @@ use Rattle.network.specs.declared.network.Pause.{Pause}
 use Rattle.network.specs.declared.network.Replay.{Replay}
 use Rattle.network.specs.declared.network.Network.{Network}
 
--- ---- numbers
-
 -- the integer of a value; 0 of another one
 abbrev pub integer_of : Data → ℤ
 integer_of d = unwrap_or (as_integer d) (pos 0)
@@ -47,8 +45,6 @@ number_at key t = option_map_or number_of (get_member key t) 0
 abbrev pub each : {T : Type 0} → (Data → T) → Items → List T
 each says no_items = []
 each says (item d ds) = says d ∷ each says ds
-
--- ---- groups and links
 
 -- the process that a value says, if it says one
 abbrev pub process_of : Data → Option ℕ
@@ -82,9 +78,7 @@ both_in t = unwrap_or (option_and_then as_bool (get_member (codes "both") t)) fa
 abbrev pub links_in : Members → LinkSet
 links_in t = record { from = group_at (codes "from") t; to = group_at (codes "to") t; both = both_in t }
 
--- ---- gaps and lengths
-
--- what is said of one: the ticks, one of these values, or the mean
+-- what is said of a gap or a length: the ticks, one of these values, or the mean
 pub data Said : Type 0 where
   ticks : ℕ → Said
   values : List ℕ → Said
@@ -111,8 +105,6 @@ pub record SaysRhythm (t : Members) (its : Rhythm) : Type 0 where
   pub gap : said_of its.gap ≡ said_at (codes "gap") t
   pub length : said_of its.length ≡ said_at (codes "length") t
 
--- ---- records
-
 -- the outage of an array of two numbers
 abbrev pub outage_of : Data → Outage
 outage_of d =
@@ -123,8 +115,6 @@ outages_in t = option_map_or (λ d. each outage_of (items_in d)) (get_member (co
 
 abbrev pub lasts_in : Members → ℕ
 lasts_in t = number_at (codes "lasts") t
-
--- ---- the tables
 
 abbrev pub link_in : Members → Link
 link_in t =

@@ -24,8 +24,7 @@ use Rattle.network.specs.declared.refusal.ValueFault.{ValueFault}
 use Rattle.network.specs.declared.refusal.NetworkError.{NetworkError}
 use Rattle.network.specs.declared.refusal.NetworkError.TheVariants as error
 
--- ---- values that don't fit each other
-
+-- values that don't fit each other
 unfoldable pub link_fault : Members → Option TableFault
 link_fault t =
     if nat_lt (link_in t).max (link_in t).min then Some (fault.MinAboveMax (link_in t).min (link_in t).max) else None
@@ -56,8 +55,6 @@ fault_of Cuts t = cut_fault t
 fault_of Pauses t = None
 fault_of Replays t = replay_fault t
 
--- ---- network files
-
 -- a table of a kind is as it should be
 pub record IsTableOf (k : TableKind) (t : Members) : Type 0 where
   pub known : has_unlisted (keys_in k) t ≡ false
@@ -79,8 +76,6 @@ pub record IsNetworkOf (file : Members) (its : Network) : Type 0 where
   pub is_file : IsNetworkFile file
   pub says : SaysNetwork file its
   pub ranges : IsNetwork its
-
--- ---- refusals
 
 -- the table has a key that is none of these
 pub record HasOther (keys : List (List ℕ)) (t : Members) (key : List ℕ) : Type 0 where

@@ -29,9 +29,7 @@ to_all n what = map (λ q. action.Send q what) (numbers_to n)
 abbrev pub to_others : ℕ → ℕ → Payload → List Action
 to_others n p what = map (λ q. action.Send q what) (others n p)
 
--- ---- followers that are put together of others
-
--- one that may be there is there to the end, or never
+-- a follower that may be there is there to the end, or never
 abbrev pub HasFollowedWhere : {F : Type 0} (followed : F → F → List EntryRecord → Type 0)
     → (first now : Option F) → List EntryRecord → Type 0
 HasFollowedWhere followed None None told = Unit {0}
@@ -45,8 +43,6 @@ IsWhere true is (Some x) = is x
 IsWhere true is None = ⊥
 IsWhere false is (Some x) = ⊥
 IsWhere false is None = Unit {0}
-
--- ---- what holds of a step's actions
 
 -- receivers are among 1 to n, and pauses are at least 1
 abbrev pub IsAllowed : ℕ → Action → Type 0

@@ -1,5 +1,4 @@
--- The laws of a base detector, whichever kind it is. All that stands above a base detector rests on these, and not on
--- the definition of any kind.
+-- The laws of a base detector of whichever kind: what stands above it rests on these, not on the definition of a kind.
 use Rattle.std.specs.Prelude.{◌≡◌, ◌⊎◌, ℕ, ◌+◌, ◌≤◌, Bool, true, false, IsTrue, List, length}
 use Rattle.std.specs.List.{AllByRecursion}
 use Rattle.std.specs.FinSet as set
@@ -52,8 +51,6 @@ pub record IsDetectorStep (place : Place) (before after : Processes) (was_paced 
   pub paced : is_paced ≡ was_paced
   -- it does little: no more than a letter to each, or a note of each, and two wakes
   pub few : length actions ≤ place.processes + 2
-
--- ---- what every base detector keeps to, whichever its kind and its numbers
 
 -- it opens with no suspects
 abbrev pub OpensTrusting : Type 0

@@ -1,7 +1,6 @@
 -- Consensus with a detector of class eventually-S, by rotating coordinators (Chandra and Toueg, Journal of the ACM
--- 43(2), 1996): what one input makes of it, and what it does. Decisions spread by diffusion, which is reliable
--- broadcast (Chandra and Toueg, Journal of the ACM 43(2), 1996): who receives one for the first time passes it on.
--- Rounds, each with its coordinator, and majorities.
+-- 43(2), 1996): what one input makes of it, and what it does. Decisions spread by diffusion, their reliable broadcast:
+-- who receives one for the first time passes it on.
 use Rattle.std.specs.Prelude.{ℕ, zero, suc, ◌+◌, ◌-◌, ◌*◌, Bool, true, false, not, ◌&&◌, nat_eq, nat_le, nat_lt, if◌then◌else◌, [], ◌∷◌, ◌++◌, Option, None, Some, is_some, unwrap_or, List, ◌/◌, ◌%◌}
 use Rattle.process_api.specs.Answer.{Answer, still, after, to_all}
 use Rattle.process_api.specs.Rows.{keep_one}
@@ -55,8 +54,7 @@ broadcast n round value = to_all n (payload.Decide round value)
 abbrev pub relay : (n own : ℕ) → ℕ → ℕ → List Action
 relay n own round value = if is_own n own round then [] else broadcast n round value
 
--- of the estimates of 1 to n the one with the largest stamp, of these the least sender's: a later sender's is taken
--- only where its stamp is larger
+-- of the estimates of 1 to n that with the largest stamp, of these the least sender's: a later one needs a larger stamp
 abbrev pub better : Option Estimate → Option Estimate → Option Estimate
 better (Some a) (Some b) = if nat_lt a.stamp b.stamp then Some b else Some a
 better (Some a) None = Some a
@@ -81,8 +79,7 @@ is_running Await = true
 is_running Tally = true
 is_running _ = false
 
--- the first letters of the rounds that are not yet left, by round and sender. A proposal comes from its round's
--- coordinator alone
+-- first letters of rounds that aren't left, by round and sender; a proposal comes from its round's coordinator alone
 pub record Kept : Type 0 where
   pub estimates : (round sender : ℕ) → Option Estimate
   pub proposals : (round : ℕ) → Option ℕ

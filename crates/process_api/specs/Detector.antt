@@ -1,5 +1,4 @@
--- A base detector, of any kind: how it opens, whom it suspects, and what one input makes of it. Each kind has a
--- definition of its own.
+-- A base detector, of a kind that is defined elsewhere: how it opens, whom it suspects, what one input makes of it.
 use Rattle.std.specs.Prelude.{ℕ, Bool, true, false, ◌&&◌, nat_le}
 use Rattle.process_api.specs.Sets.{Processes}
 use Rattle.process_api.specs.Place.{Place}

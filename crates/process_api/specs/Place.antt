@@ -13,8 +13,6 @@ pub record Place : Type 0 where
 abbrev pub same_place : Place → Place → Bool
 same_place a b = nat_eq a.own b.own && (nat_eq a.processes b.processes && nat_eq a.horizon b.horizon)
 
--- ---- processes by number
-
 -- 1 to n, in order
 abbrev pub numbers_to : ℕ → List ℕ
 numbers_to zero = []
@@ -32,8 +30,7 @@ is_process n q = nat_le 1 q && nat_le q n
 abbrev pub change : {X : Type 0} → (ℕ → X) → ℕ → X → ℕ → X
 change f p v = λ q. if nat_eq q p then v else f q
 
--- ---- whom a detector watches: for process `own` of n
-
+-- whom a detector of process `own` of n watches
 module _ (own n : ℕ) where
   -- q is another of 1 to n
   abbrev pub is_other : ℕ → Bool

@@ -22,8 +22,7 @@ abbrev pub opening_reduction : ℕ → ReductionState
 opening_reduction period = record { period = period; output = set.empty }
 
 module _ (place : Place) where
-  -- what is suspected after a letter: the union, without the sender, which is alive, and without oneself. Members above
-  -- n are left out
+  -- the union after a letter, without the sender, which is alive, and without oneself; members above n are left out
   abbrev pub gathered : Processes → ℕ → Processes → Processes
   gathered output sender shared =
       set.remove (set.remove (set.union output (up_to place.processes shared)) sender) place.own

@@ -17,8 +17,6 @@ cell_of cells (suc before) = get_or cells before None
 abbrev pub AreSenders : {X : Type 0} → Processes → List (Option X) → Type 0
 AreSenders senders cells = (q : ℕ) → set.contains senders q ≡ is_some (cell_of cells q)
 
--- ---- vectors of proposals
-
 -- for each process its proposal, where that is known: process k has cell k, from 1
 abbrev pub Vector : Type 0
 Vector = List (Option ℕ)

@@ -35,8 +35,6 @@ is_same_entry =
 abbrev pub are_same_entries : List EntryRecord → List EntryRecord → Bool
 are_same_entries = pointwise is_same_entry
 
--- ---- the laws
-
 both : (b c : Bool) → (b && c) ≡ (c && b)
 both true true = refl
 both true false = refl

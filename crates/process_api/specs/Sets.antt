@@ -36,8 +36,6 @@ gone n from to = filter (λ q. set.contains from q && not (set.contains to q)) (
 abbrev pub changes : (layer n : ℕ) → Processes → Processes → List Note
 changes layer n old new = map (note.Suspect layer) (gone n new old) ++ map (note.Trust layer) (gone n old new)
 
--- ---- the members of a set of processes in rising order
-
--- those of all processes that are in the set
+-- the members of a set of processes, in rising order
 unfoldable pub in_order : Processes → List ℕ
 in_order s = filter (set.contains s) (numbers_to most_processes)

@@ -37,8 +37,7 @@ module _ (place : Place) (numbers : TimeoutNumbers) where
   abbrev pub next_check : List Action
   next_check = action.Wake numbers.check tag.Check ∷ []
 
-  -- q is overdue: it is watched, not yet suspected, and was silent for its bound or longer. A difference below 0 counts
-  -- as 0
+  -- q is overdue: watched, not yet suspected, and silent for its bound or longer; a difference below 0 counts as 0
   abbrev pub is_overdue : TimeoutState → ℕ → ℕ → Bool
   is_overdue s now q = watches q && (not (set.contains s.suspects q) && nat_le (s.bound q) (now - s.last_heard q))
 

@@ -27,8 +27,6 @@ caught t lengths =
 abbrev pub listed : (until : ℕ) → (suspected : Bool) → (end : ℕ) → Tally × List ℕ → Tally × List ℕ
 listed until suspected end k = (counted until suspected end k.0, caught (counted until suspected end k.0) k.1)
 
--- ---- of all pairs of a layer
-
 -- what is counted of the pair at a place, so far or as no entry follows
 abbrev pub pair_at : Pairs Tally → (place : ℕ) → Pair Tally
 pair_at pairs place = get_or pairs.pairs.items place (opened 0 new_tally)

@@ -1,6 +1,5 @@
--- The measures of each pair of processes: the quality of service of a failure detector after Chen, Toueg and Aguilera
--- (IEEE Transactions on Computers 51(5), 2002). Where they take means over runs without end, these are sums and counts
--- over the ticks of one run, cut at its horizon. Sums and counts over the ticks (or other numbers) below an end.
+-- The quality of service of each pair (Chen, Toueg and Aguilera, IEEE Transactions on Computers 51(5), 2002): where
+-- they take means over runs without end, these are sums and counts over the ticks of one run, cut at its horizon.
 use Rattle.std.specs.Prelude.{ℕ, ◌-◌, Bool, not, ◌&&◌, if◌then◌else◌, Option, None, Some, is_some, List, [], ◌∷◌, map, flat_map, zero, suc, ◌+◌, ◌||◌, nat_lt, nat_le, ◌++◌}
 use Rattle.process_api.specs.Place.{numbers_to, others}
 use Rattle.process_api.specs.Order.{EntryRecord}
@@ -24,8 +23,7 @@ count_below test end = sum_below (λ t. if test t then 1 else 0) end
 abbrev pub is_next : (ℕ → Bool) → (s t : ℕ) → Bool
 is_next test s t = (nat_lt s t && test t) && all_below (λ u. nat_le u s || not (test u)) t
 
--- over all ticks s and t below end such that s passes the first test and t is the next tick after s that passes the
--- second: the sum of an amount of t - s
+-- the sum of an amount of t - s over all s that pass the first test and the next t that passes the second, below end
 abbrev pub over_distances : (ℕ → ℕ) → (from to : ℕ → Bool) → (end : ℕ) → ℕ
 over_distances amount from to end =
     sum_below (λ t. sum_below (λ s. if from s && is_next to s t then amount (t - s) else 0) t) end

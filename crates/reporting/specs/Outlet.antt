@@ -2,8 +2,7 @@
 use Rattle.std.specs.Prelude.{ℕ, ◌≤◌, ◌&&◌, not, nat_eq, List, length, take, Option, Result, Ok, Err, if◌then◌else◌, ◌≡◌, ◌+◌}
 use Rattle.std.specs.Io.KnownBytes.{Appends}
 
--- how many failures a put of the piece counts: one where it answered an error, or took nothing of a piece that isn't
--- empty
+-- failures that a put of the piece counts: one where it answered an error, or took nothing of a piece that isn't empty
 abbrev pub failures_of : {E : Type 0} → Result ℕ E → List ℕ → ℕ
 failures_of (Ok taken) piece = if nat_eq taken 0 && not (nat_eq (length piece) 0) then 1 else 0
 failures_of (Err e) piece = 1
@@ -29,8 +28,7 @@ pub record Fuse : Type 0 where
   pub left : ℕ
   pub failures : ℕ
 
--- ---- what a call that writes a text leaves of an outlet
-
+-- what a call that writes a text leaves of an outlet
 module _ {O : Type 0} (told : O → Option (List ℕ)) (failed : O → ℕ) (old new : O) where
   -- the whole text went out, and no put failed
   pub record Wrote (text : List ℕ) : Type 0 where

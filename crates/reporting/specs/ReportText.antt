@@ -99,8 +99,7 @@ decisions_text kind.Idle outcomes = []
 decisions_text kind.Strong outcomes = flat_map decision_text outcomes
 decisions_text kind.EventuallyStrong outcomes = flat_map decision_text outcomes
 
--- the text of the report of a trace: the header, and the rows of the run, of each layer's verdicts, of each pair on
--- each layer, and of each process's decision
+-- a report's text: a header, and rows of the run, of verdicts by layer, of pairs by layer, and of decisions by process
 unfoldable pub report_text : Record → List EntryRecord → Text
 report_text S trace =
     report_header
@@ -108,8 +107,6 @@ report_text S trace =
     ++ (flat_map (λ layer. verdict_text layer (verdicts S trace layer)) (layers S)
     ++ (flat_map pair_text (all_measures S trace)
     ++ decisions_text S.algorithm (outcomes trace S.processes))))
-
--- ---- the texts that are asked for of a run
 
 -- whether the trace is asked for, and whether the report is
 abbrev pub prints_trace : PrintChoice → Bool

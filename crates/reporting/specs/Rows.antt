@@ -40,8 +40,7 @@ IsBetweenRows rows = IsBetween plain_writer rows.writer
 abbrev pub text_of : Rows → List ℕ
 text_of rows = written rows.writer
 
--- ---- the names of kinds, as they stand in texts
-
+-- the names of kinds, as they stand in texts
 abbrev pub kind_text : Kind → List ℕ
 kind_text kind.Start = codes "start"
 kind_text kind.Beat = codes "beat"

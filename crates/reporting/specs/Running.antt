@@ -1,5 +1,4 @@
--- What it is that whoever follows a run was told the entries of a trace. All that is measured of a run. What is told of
--- a run in a few numbers.
+-- What followers of a run were told of its trace, all that is measured of it, and what is told in a few numbers.
 use Rattle.std.specs.Prelude.{◌≡◌, ℕ, ◌*◌, ◌-◌, ◌^◌, ◌≤◌, min, Bool, true, false, Option, None, Some, is_some, List, [], length, if◌then◌else◌, ◌<◌}
 use Rattle.std.specs.Global.{Vec}
 use Rattle.std.specs.List.{sum_by}
@@ -37,8 +36,7 @@ abbrev pub second_verdicts : Record → List EntryRecord → Option Verdicts
 second_verdicts S trace = if is_some S.share then Some (verdicts S trace 2) else None
 
 module _ (S : Record) where
-  -- of a trace: its summary, the verdicts on layer 1 and, where there is a reduction, on layer 2, and the measures of
-  -- all pairs
+  -- of a trace: its summary, verdicts on layer 1 and, with a reduction, on layer 2, and the measures of all pairs
   pub record AreFindings (trace : List EntryRecord) (found : RunFindings) : Type 0 where
     pub summary : IsSummary S trace found.summary
     pub first : found.first ≡ verdicts S trace 1
@@ -63,8 +61,7 @@ pub record IsLayer (listed : Bool) (S : Record) (layer : ℕ) (trace : List Entr
   pub metering : IsMetering S layer trace l.pairs
   pub lengths : listed ≡ true → AreFollowing S layer trace l.lengths
 
--- ---- what they were told, as they are put together
-
+-- what they were told, as they are put together
 abbrev pub LayerFollowed : (first now : Layer) → List EntryRecord → Type 0
 LayerFollowed first now told = (listed : Bool) → HasFollowed (IsLayer listed) first now told
 

@@ -75,8 +75,7 @@ abbrev pub detected : (crash since : Option ℕ) → Detection
 detected None since = Na
 detected (Some c) since = delay_after c since
 
--- what it tells at the horizon of observer q and subject p on a layer. The tick of the subject's crash is given where
--- its detection is measured
+-- what it tells at the horizon of q and p on a layer; the tick of p's crash is given where its detection is measured
 abbrev pub told : (layer q p : ℕ) → (crash : Option ℕ) → Tally → PairMeasures
 told layer q p crash t = record {
   layer = layer;

@@ -26,8 +26,7 @@ notes_text notes = join_with_byte space (map note_text notes)
 unfoldable pub trace_header : List ℕ
 trace_header = codes "tick,receiver,sender,number,kind,sent,lost,notes\n"
 
--- the fields of an entry's row: tick, receiver, sender and number of its key, its kind, how many letters it sent, how
--- many of them were lost, and its notes
+-- an entry's fields: tick, receiver, sender and number of its key, kind, letters sent, how many were lost, and notes
 abbrev pub fields_of : EntryRecord → List (List ℕ)
 fields_of e =
     decimal e.key.tick ∷ decimal e.key.receiver ∷ decimal e.key.sender ∷ decimal e.key.number ∷ kind_text e.kind

@@ -56,12 +56,10 @@ module _ (S : Record) (print : PrintChoice) {O : Type 0} (told : O → Option Te
     pub is_within : IsTraceWithin S trace
     pub text : Wrote told failed old new (printed print S trace)
     pub summed : IsSummary S trace summary
-    -- each entry but the starts has one cause, an earlier entry, and each event that a step adds below the horizon is
-    -- one entry
+    -- each entry but the starts has an earlier one as its one cause; each event added below the horizon is one entry
     pub causes : HasCauses (setting_of S) trace
     pub once : TakesOnce (setting_of S) trace
-    -- with the rotating coordinator the outcomes agree, each process decides at most once, and none notes that it ends
-    -- with no value
+    -- with the rotating coordinator outcomes agree, a process decides at most once, and none notes an end with no value
     pub agree : S.algorithm ≡ EventuallyStrong → Agree S summary.outcomes.items
     pub decides_once : S.algorithm ≡ EventuallyStrong → (p : ℕ) → DecidesOnce trace p
     -- the report's verdicts mean what their quantifiers say, and what is suspected on layer 2 rests on layer 1
@@ -105,12 +103,10 @@ pub record MeasuresRun (S : Record) (found : RunFindings) (durations : RunDurati
   -- each entry has less than 2^32 letters
   pub sent_high : found.summary.sent ≤ length trace * 2 ^ 32
   pub lost_high : found.summary.lost ≤ length trace * 2 ^ 32
-  -- each entry but the starts has one cause, an earlier entry, and each event that a step adds below the horizon is
-  -- one entry
+  -- each entry but the starts has an earlier one as its one cause; each event added below the horizon is one entry
   pub causes : HasCauses (setting_of S) trace
   pub once : TakesOnce (setting_of S) trace
-  -- with the rotating coordinator the outcomes agree, each process decides at most once, and none notes that it ends
-  -- with no value
+  -- with the rotating coordinator outcomes agree, a process decides at most once, and none notes an end with no value
   pub agree : S.algorithm ≡ EventuallyStrong → Agree S found.summary.outcomes.items
   pub decides_once : S.algorithm ≡ EventuallyStrong → (p : ℕ) → DecidesOnce trace p
   -- the verdicts that were found mean what their quantifiers say, and what is suspected on layer 2 rests on layer 1

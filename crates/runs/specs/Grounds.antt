@@ -14,8 +14,6 @@ use Rattle.reporting.specs.declared.pair_measures.Detection.TheVariants.{At}
 
 module _ (S : Record) (trace : List EntryRecord) where
   module _ (row : PairMeasures) where
-    -- ---- a row of layer 2 rests on this: some base detector had suspected its subject before
-
     -- whether the row's observer suspects its subject on layer 2, tick by tick
     abbrev pub suspected : ℕ → Bool
     suspected = suspects 2 trace row.observer row.subject
@@ -37,11 +35,9 @@ module _ (S : Record) (trace : List EntryRecord) where
     abbrev pub RestsOnBlame : Type 0
     RestsOnBlame = row.layer ≡ 2 → HasBlame
 
-    -- ---- no run breaks this, in a row of layer 1
-
+    -- no run breaks this, in a row of layer 1
     pub record KeepsToBounds : Type 0 where
-      -- a crash at tick c, of whom the observer watches, which is correct, is detected by its bound, where that is
-      -- below the horizon
+      -- a correct observer that watches one detects its crash at tick c by its bound, where that is below the horizon
       pub detection : (c : ℕ) → IsCorrect S row.observer → Watches S row.observer row.subject
           → CrashesAt S trace row.subject c
           → detected_at S trace row.observer row.subject c < S.horizon

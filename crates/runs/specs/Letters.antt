@@ -39,8 +39,7 @@ module _ {Mind : Type 0} (S : Setting Mind) where
     fate = fate_of posted.key.receiver (due_of posted.key.tick posted.fate);
   }
 
--- the letters that the steps of a scenario's run put on the links between different processes, each once, in the order
--- of the steps and of their actions
+-- letters that a run's steps put on links between different processes, each once, in the order of steps and actions
 abbrev pub AreLetters : Record → List Letter → Type 0
 AreLetters s letters =
     (posted : List Posted) × ArePosted (setting_of s) posted × (letters ≡ map (letter_of (setting_of s)) posted)
@@ -54,10 +53,7 @@ abbrev pub AreInOrder : List Letter → Type 0
 AreInOrder [] = Unit {0}
 AreInOrder (l ∷ later) = All (IsNotAfter l) later × AreInOrder later
 
--- ---- what a trace has of them
-
--- the entry of a letter: it has the letter's key at the tick when the letter is due. Its kind is the letter's where
--- that was taken, and dead where it is dead
+-- a letter's entry: its key, at the tick when it is due; its kind is the letter's if taken, and dead if it is dead
 pub record IsEntryOf (letter : Letter) (entry : EntryRecord) : Type 0 where
   pub due : letter.due ≡ Some entry.key.tick
   pub receiver : letter.receiver ≡ entry.key.receiver

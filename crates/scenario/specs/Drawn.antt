@@ -30,8 +30,7 @@ abbrev pub lacks_outages : List LinkOutage → Members → Bool
 lacks_outages [] t = false
 lacks_outages drawn t = not (is_second t)
 
--- the file's table with all of them at `outage`. It is as it was where nothing is drawn, and where its own `outage` is
--- no array of tables
+-- the file's table with all of them at `outage`; as it was where nothing is drawn, or its own is no array of tables
 unfoldable pub with_outages : List LinkOutage → Members → Members
 with_outages [] t = t
 with_outages drawn t =

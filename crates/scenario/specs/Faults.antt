@@ -31,8 +31,6 @@ use Rattle.scenario.specs.declared.fault.Fault.TheVariants as fault
 use Rattle.scenario.specs.declared.finding.Finding.{Finding}
 use Rattle.scenario.specs.declared.finding.Finding.TheVariants as finding
 
--- ---- values
-
 -- the integer at a key, and the text, if there is one
 abbrev pub integer_in : List ℕ → Members → Option ℤ
 integer_in key table = option_and_then as_integer (get_member key table)

@@ -96,8 +96,7 @@ some_table fault t = fault (top_fields (is_second t)) t
     || (list_any (fault crash_fields) (tables_at (codes "crash") t)
     || list_any (fault outage_fields) (tables_at (codes "outage") t))))))
 
--- ---- the tables of a scenario's file, by their places
-
+-- the tables of a scenario's file, by their places
 abbrev pub section_key : Section → List ℕ
 section_key section.Detector = codes "detector"
 section_key section.Share = codes "share"
@@ -119,8 +118,7 @@ abbrev pub numbered : ℕ → List Members → Option Members
 numbered zero tables = None
 numbered (suc i) tables = slice_get tables i
 
--- the table at a place of a file, if there is one. A value that should be a table, or an array of nothing but tables,
--- and isn't has no inside
+-- a file's table at a place, if there is one; no value but a table, or an array of tables alone, has an inside
 abbrev pub table_of : Place → Members → Option Members
 table_of place.Top file = Some file
 table_of (place.Section s) file = table_at (section_key s) file

@@ -1,5 +1,4 @@
--- What the tables of a file may have at their keys, by the refusals that are about them: the ranges of numbers, and the
--- names that texts may be.
+-- What a file's tables may have at their keys, by refusal: the ranges of numbers, and the names that texts may be.
 use Rattle.std.specs.Prelude.{ℕ, List, [], ◌∷◌, ◌++◌, Bool, true, false, Option, Some, None, if◌then◌else◌, codes}
 use Rattle.toml.specs.Data.{Members}
 use Rattle.scenario.specs.Table.{same_text}
@@ -43,8 +42,7 @@ abbrev pub allowed_of : List Names → List ℕ → Option (List (List ℕ))
 allowed_of [] key = None
 allowed_of (n ∷ ns) key = if same_text n.key key then Some n.allowed else allowed_of ns key
 
--- ---- which values of a table a refusal is about
-
+-- which values of a table a refusal is about
 pub record Subject : Type 0 where
   pub ranges : List Range
   pub names : List Names

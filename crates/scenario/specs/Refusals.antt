@@ -26,8 +26,7 @@ first_of [] = None
 first_of (Some e ∷ os) = Some e
 first_of (None ∷ os) = first_of os
 
--- ---- the refusals of a file's table, in the order in which they are tried
-
+-- the refusals of a file's table, in the order in which they are tried
 module _ (t : Members) where
   abbrev pub key_refusals : List (Option ScenarioError)
   key_refusals =
@@ -61,8 +60,6 @@ module _ (t : Members) where
   unfoldable pub refusal_of : Option ScenarioError
   refusal_of = first_of (key_refusals ++ (number_refusals ++ (part_refusals ++ outage_refusals)))
 
--- ---- answers
-
 abbrev pub is_memory : ScenarioError → Bool
 is_memory error.Memory = true
 is_memory _ = false
@@ -75,8 +72,6 @@ IsAnswer applies e = is_memory e ≡ false → applies ≡ Some e
 abbrev pub Judges : {T : Type 0} → (applies : Option ScenarioError) → Result T ScenarioError → Type 0
 Judges applies (Ok x) = applies ≡ None
 Judges applies (Err e) = IsAnswer applies e
-
--- ---- the bytes of a file
 
 -- the document that the bytes are: a table, or none where they are no UTF-8 or no TOML
 abbrev pub IsDocumentOf : List ℕ → Option Members → Type 0
@@ -96,8 +91,7 @@ pub record Refuses (bytes : List ℕ) (refusal : ScenarioError) : Type 0 where
   pub is_document : IsDocumentOf bytes document
   pub applies : option_map_or refusal_of document (Some error.NotToml) ≡ Some refusal
 
--- ---- the name of a refusal, by which a line of fault calls it
-
+-- the name of a refusal, by which a line of fault calls it
 abbrev pub name_of : ScenarioError → List ℕ
 name_of error.NotToml = codes "NotToml"
 name_of error.UnknownKey = codes "UnknownKey"

@@ -11,8 +11,6 @@ use Rattle.scenario_record.specs.declared.link.Link.{Link}
 use Rattle.scenario_record.specs.declared.algorithm.AlgorithmKind.TheVariants as kind
 use Rattle.process_api.specs.Place.{most_processes}
 
--- ---- words
-
 -- the number lies between the ends
 abbrev pub is_within : ℕ → ℕ → ℤ → Bool
 is_within low high z = option_map_or (λ n. nat_le low n && nat_le n high) (natural_of z) false
@@ -33,14 +31,10 @@ has_repeat same key (t ∷ ts) = list_any (λ u. same (key t) (key u)) ts || has
 abbrev pub same_process : ℕ → ℕ → Bool
 same_process p q = p == q
 
--- ---- the numbers of the top table
-
 -- how many processes a file may have, by its version
 abbrev pub most_in : (is_second : Bool) → ℕ
 most_in true = most_processes
 most_in false = 64
-
--- ---- the algorithm and its proposals
 
 abbrev pub is_bad_proposal : ℤ → Bool
 is_bad_proposal z = not (is_within 0 4294967295 z)
@@ -62,8 +56,6 @@ has_other_proposals n t = are_other_than n (has_key (codes "proposals") t) (inte
 abbrev pub proposals_refused : Members → Bool
 proposals_refused t = are_bad_proposals (algorithm_in t) (processes_of t)
     (has_key (codes "proposals") t) (integers_at (codes "proposals") t)
-
--- ---- the detector and the reduction
 
 unfoldable pub is_bad_timeout : Members → Bool
 is_bad_timeout d =
@@ -91,8 +83,6 @@ is_bad_share s = is_outside 1 1000000 (codes "period") 0 s
 
 abbrev pub share_refused : Members → Bool
 share_refused t = option_map_or is_bad_share (table_at (codes "share") t) false
-
--- ---- the links
 
 -- min or max out of range, min above max, or loss out of range
 unfoldable pub is_bad_link : Members → Bool
@@ -130,8 +120,6 @@ is_below links lookahead pair = nat_lt (links pair).min lookahead
 unfoldable pub pair_below : Record → Option (ℕ × ℕ)
 pair_below s = find (is_below (λ pair. link s pair.0 pair.1) s.lookahead) (pairs s.processes)
 
--- ---- the crashes
-
 -- of n processes: the process isn't one of them, or the tick is out of range
 unfoldable pub is_bad_crash : ℕ → Members → Bool
 is_bad_crash n c = is_outside 1 n (codes "process") 0 c || is_outside 0 10000000 (codes "at") 0 c
@@ -143,10 +131,7 @@ are_bad_crashes n tables = list_any (is_bad_crash n) tables || has_repeat same_p
 abbrev pub crashes_refused : Members → Bool
 crashes_refused t = are_bad_crashes (processes_of t) (tables_at (codes "crash") t)
 
--- ---- the outages
-
--- of n processes: from or to isn't one of them, or both are one; begin or until is out of range, or begin isn't below
--- until
+-- of n processes: from or to isn't one, or both are one; begin or until is out of range, or begin isn't below until
 unfoldable pub is_bad_outage : ℕ → Members → Bool
 is_bad_outage n o =
     is_outside 1 n (codes "from") 0 o || (is_outside 1 n (codes "to") 0 o || ((pair_of o).0 == (pair_of o).1

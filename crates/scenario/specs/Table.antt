@@ -7,8 +7,6 @@ use Rattle.toml.specs.Data.{Data, integer, table, Members, no_members, member, I
 use Rattle.scenario.specs.declared.field.Kind.{Kind}
 use Rattle.scenario.specs.declared.field.Kind.TheVariants as kind
 
--- ---- look-ups
-
 -- the integer at a key, or the default where there is none
 unfoldable pub number_or : List ℕ → ℤ → Members → ℤ
 number_or key default t = unwrap_or (option_and_then as_integer (get_member key t)) default
@@ -64,8 +62,6 @@ the_tables (item _ ds) = the_tables ds
 unfoldable pub tables_at : List ℕ → Members → List Members
 tables_at key t =
     option_map_or (λ ds. if all_items is_table ds then the_tables ds else []) (array_in key t) []
-
--- ---- the keys that a table may have
 
 -- the value is of the kind
 abbrev pub is_of : Kind → Data → Bool

@@ -41,8 +41,6 @@ kind_in d = text_or (codes "kind") (codes "timeout") d
 unfoldable pub is_fresh : Members → Bool
 is_fresh d = same_text (kind_in d) (codes "freshness")
 
--- ---- names
-
 unfoldable pub algorithm_named : List ℕ → Option AlgorithmKind
 algorithm_named name =
     if same_text name (codes "none") then Some kind.Idle
@@ -61,8 +59,6 @@ algorithm_in t = algorithm_named (text_or (codes "algorithm") [] t)
 
 abbrev pub watch_in : Members → Option Watch
 watch_in d = watch_named (text_or (codes "watch") (codes "all") d)
-
--- ---- the parts of the record
 
 abbrev pub timeout_of : Members → TimeoutNumbers
 timeout_of d = record {

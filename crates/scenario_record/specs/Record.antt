@@ -74,8 +74,6 @@ module _ (s : Record) where
     algorithm = opening_algorithm p;
   }
 
--- ---- the ticks of outages
-
 -- the tick is one of the outage: its end isn't
 abbrev pub covers : (tick : ℕ) → Outage → Bool
 covers tick o = nat_le o.begin tick && nat_lt tick o.until

@@ -62,8 +62,6 @@ module _ {F : Type 0} (status_of : F → ℕ) (line_of : F → List ℕ) where
     pub status_is : status ≡ status_of failure
     pub line_is : line ≡ line_of failure
 
--- ---- inputs: how long they may be, and the path of standard input
-
 -- the most bytes that a file may have
 abbrev pub most_bytes : ℕ
 most_bytes = 8388608
@@ -80,8 +78,7 @@ AreAllOf input bytes = IfSome input (λ all. bytes ≡ all)
 abbrev pub TakesAtMost : ℕ → Option (List ℕ) → Option (List ℕ) → Type 0
 TakesAtMost n old new = (gone : List ℕ) × Consumes old new gone × (length gone ≤ n)
 
--- ---- a run of a program for its words: they state an order, which is carried out, or they are refused, which is told
-
+-- a run of a program for its words: they state an order, which is carried out, or they are refused, which is told
 module _ {Order : Type 0} (States : Order → Type 0) where
   -- the words make a whole order
   abbrev pub IsAsked : Type 0
@@ -95,8 +92,7 @@ module _ {Order : Type 0} (States : Order → Type 0) where
   abbrev pub Serves : (IsHelp : List ℕ → Type 0) → (Order → List ℕ → Type 0) → List ℕ → Type 0
   Serves IsHelp Says piece = IsOfOrder Says piece ⊎ IsHelp piece
 
-  -- ---- why the words aren't followed
-
+  -- why the words aren't followed
   module _ {Refusal F : Type 0} (Explains : Refusal → Type 0) (TellsOf : Refusal → F → Type 0)
       (Stops : Order → F → Type 0) where
     -- the words state no order, for a reason of which the fault tells

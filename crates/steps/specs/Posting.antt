@@ -20,8 +20,7 @@ pub record Posted : Type 0 where
 module _ {Mind : Type 0} (S : Setting Mind) where
   -- process p acts at tick now
   module _ (p now : ℕ) where
-    -- the letter that one action puts on a link to another process, if it puts one: its number is the count of its link
-    -- with it
+    -- the letter that an action puts on a link to another process, if any; its number is its link's count with it
     abbrev pub posting : (ℕ → ℕ) → Action → List Posted
     posting counts (action.Send to what) =
         if nat_eq to p

@@ -1,5 +1,4 @@
--- What becomes of a letter to another process: it depends on the place and the tick of sending alone, never on what was
--- drawn before.
+-- What becomes of a letter to another process: it depends on its place and tick of sending alone, not on earlier draws.
 use Rattle.std.specs.Prelude.{ℕ, ◌+◌, ◌-◌, ◌*◌, ◌%◌, ◌^◌, List, ◌++◌, replicate, nat_lt, Bool, if◌then◌else◌, ◌≡◌, ◌≤◌, ◌<◌, slice_index_or}
 use Rattle.std.specs.Int.{w64, to_le_bytes}
 use Rattle.std.specs.List.{list_any}
@@ -19,8 +18,7 @@ key_of_seed seed = key_of (to_le_bytes w64 seed ++ replicate 24 0)
 abbrev pub stream_of : (from to : ℕ) → ℕ
 stream_of from to = (from - 1) * 65536 + (to - 1)
 
--- the 32-bit word at a place of the link's stream, of ChaCha with 8 rounds, which are 4 double rounds. Places are
--- counted up to 2^68
+-- the 32-bit word at a place, counted up to 2^68, of the link's stream: ChaCha with 8 rounds, which are 4 double rounds
 unfoldable pub word : (seed from to place : ℕ) → ℕ
 word seed from to place = word_at 4 (key_of_seed seed) (stream_of from to) (place % 2 ^ 68)
 
@@ -37,13 +35,10 @@ fate_by_words l seed from to number =
 abbrev pub is_cut : Record → (from to sent_at : ℕ) → Bool
 is_cut s from to sent_at = list_any (covers sent_at) (outages_on s from to)
 
--- the fate of a letter by its number on the link, from 1, and by the tick at which it is sent. Its words stand at their
--- places also where an outage makes it lost whatever they are
+-- a letter's fate by its number on the link, from 1, and tick of sending; outages don't move the places of words
 unfoldable pub fate_of : Record → (from to number sent_at : ℕ) → Fate
 fate_of s from to number sent_at =
     if is_cut s from to sent_at then Lost else fate_by_words (link s from to) s.seed from to number
-
--- ---- words of a sender's links that are at hand for their next letters
 
 -- the two words are those of a letter with this number on the link
 pub record AreWordsOf (seed from to number first second : ℕ) : Type 0 where

@@ -14,8 +14,6 @@ use Rattle.study.specs.declared.error.AxisError.{AxisError}
 use Rattle.study.specs.declared.error.AxisError.TheVariants as error
 use Rattle.study.specs.declared.error.KeyError.{KeyError}
 
--- ---- ranges
-
 pub record RangeRecord : Type 0 where
   pub low : ℤ
   pub high : ℤ
@@ -54,8 +52,7 @@ range_by r = record { low = integer r.low.now; high = integer r.high.now; step =
 abbrev pub range_of : RangeNumbers → RangeRecord
 range_of r = record { low = r.low; high = r.high; step = r.step }
 
--- ---- pieces: what a value says of one key
-
+-- what a value says of one key
 pub data Piece : Type 0 where
   one : ℤ → Piece
   range : RangeRecord → Piece
@@ -102,8 +99,7 @@ abbrev pub parts_fault : List Piece → Option AxisError
 parts_fault [] = None
 parts_fault (p ∷ ps) = option_or (part_fault p) (parts_fault ps)
 
--- ---- entries: what a value says of all keys of an axis
-
+-- what a value says of all keys of an axis
 pub data Entry : Type 0 where
   single : Piece → Entry
   -- the parts for so many keys, set together
@@ -138,8 +134,6 @@ pub record Adds (old new : List (List Given)) (e : Entry) : Type 0 where
   pub no_fault : fault_within (1000000 - length old) e ≡ None
   pub rows : new ≡ old ++ rows e
 
--- ---- axes
-
 -- the entries of some words
 abbrev pub entries_said : (keys : ℕ) → List Word → List Entry
 entries_said keys = map (entry_said keys)
@@ -169,8 +163,6 @@ abbrev pub is_memory : AxisError → Bool
 is_memory (error.Key e) = is_key_memory e
 is_memory (error.Memory m) = true
 is_memory _ = false
-
--- ---- what is asked of the code
 
 -- the error says that memory was refused, or it is the fault of the words
 abbrev pub IsFault : Option AxisError → AxisError → Type 0

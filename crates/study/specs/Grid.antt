@@ -9,8 +9,7 @@ use Rattle.study.specs.declared.run.Run.{Run}
 use Rattle.study.specs.declared.error.GridError.{GridError}
 use Rattle.study.specs.declared.error.GridError.TheVariants as error
 
--- one choice of each list, in all ways, in order, each with what its choices hold, one after the other: the last list's
--- choice changes fastest
+-- one choice of each list, in all ways and in order, with what they hold joined: the last list's choice changes fastest
 abbrev pub combinations : {X : Type 0} → List (List (List X)) → List (List X)
 combinations [] = [] ∷ []
 combinations (xs ∷ rest) = flat_map (λ x. map (λ others. x ++ others) (combinations rest)) xs
@@ -66,8 +65,6 @@ runs g = flat_map (runs_with g) (combinations g.over)
 -- a run in the code
 abbrev pub run_of : Run → RunRecord
 run_of r = record { settings = map chosen r.settings.items; seed = r.seed }
-
--- ---- what dealing gives
 
 -- no two runs have one seed
 abbrev pub HaveOwnSeeds : List RunRecord → Type 0

@@ -34,8 +34,6 @@ use Rattle.study.specs.declared.error.ReadError.TheVariants as read_error
 use Rattle.study.specs.declared.error.TextError.{TextError}
 use Rattle.study.specs.declared.error.TextError.TheVariants as text_error
 
--- ---- the run
-
 abbrev pub horizon_of : Members → ℕ
 horizon_of t = number_at (codes "horizon") 0 t
 
@@ -59,8 +57,6 @@ laid_in t its = laid_links its.links.items (processes_of t)
 abbrev pub drawn_in : Members → Network → List LinkOutage
 drawn_in t its = drawn_of (processes_of t) (horizon_of t) (seed_of t) its
 
--- ---- tables of a scenario's file
-
 -- the table with this number at the key
 abbrev pub with_number : (key : List ℕ) → (number : ℕ) → Members → Members
 with_number key number t = put key (integer (pos number)) t
@@ -74,8 +70,6 @@ unfoldable pub link_table : LaidLink → Data
 link_table l = table (with_numbers ((codes "from", l.from) ∷ (codes "to", l.to)
     ∷ (codes "min", l.link.min) ∷ (codes "max", l.link.max) ∷ (codes "loss", l.link.loss) ∷ []))
 
--- ---- arrays of tables
-
 abbrev pub listed : Items → List Data
 listed no_items = []
 listed (item d ds) = d ∷ listed ds
@@ -84,8 +78,7 @@ listed (item d ds) = d ∷ listed ds
 abbrev pub values_in : Data → List Data
 values_in d = option_map_or listed (as_array d) []
 
--- with the values of the array of tables at a key changed; there are none where there is no such key. A value that is
--- no array of tables stays as it is
+-- with the array of tables at a key changed, which is empty where there is no such key; another value stays as it is
 unfoldable pub with_tables : (key : List ℕ) → (List Data → List Data) → Members → Members
 with_tables key change t =
     option_map_or (λ d. if is_of kind.Tables d then put key (array (items_of (change (values_in d)))) t else t)
@@ -98,8 +91,6 @@ StaysAsItIs key t = (change : List Data → List Data) → with_tables key chang
 abbrev pub HasValues : (key : List ℕ) → List Data → Members → Type 0
 HasValues key ds t =
     (change : List Data → List Data) → with_tables key change t ≡ put key (array (items_of (change ds))) t
-
--- ---- what is laid over the table
 
 -- a table of `links` is of a link that is laid
 abbrev pub is_laid : List LaidLink → Data → Bool
@@ -162,8 +153,7 @@ pub data CantBeLaid (t file : Members) : PlaceError → Type 0 where
 
 -- ---- the table of a run
 
--- the network's file that is laid, if one is: none over a table whose processes or horizon no run can have, which the
--- scenario's own rules refuse
+-- the network's file that is laid, if any: none where the scenario's own rules refuse the table's processes or horizon
 abbrev pub file_over : SourcesRecord → Option Members
 file_over s = if is_run s.scenario then s.network else None
 
@@ -190,8 +180,6 @@ IsRunTable (Err e) t = ⊥
 abbrev pub HasNoTable : RunSources → PlaceError → Type 0
 HasNoTable (Err e) f = f ≡ e
 HasNoTable (Ok s) f = IsUnlaid s f
-
--- ---- the scenario of a run
 
 -- the table isn't refused, and the scenario is the one that it stands for
 pub record StandsFor (t : Members) (s : Record) : Type 0 where
@@ -220,8 +208,7 @@ is_memory (read_error.Scenario e) = is_scenario_memory e
 
 -- ---- the text of a run's file
 
--- the text is TOML that reads back as the table, and a scenario that is read from it is the table's: for a table in
--- which no more than 80 tables and arrays stand in one another
+-- the text is TOML that reads back as the table, and as its scenario, where at most 80 tables and arrays are nested
 pub record IsTextOf (t : Members) (text : List ℕ) : Type 0 where
   pub reads_back : members_depth t ≤ 80 → parse_document text ≡ Some t
   pub scenario : members_depth t ≤ 80 → (s : Record) → Accepts text s → StandsFor t s

@@ -115,8 +115,6 @@ abbrev pub is_memory : PlaceError → Bool
 is_memory (error.Memory m) = true
 is_memory _ = false
 
--- ---- what is asked of the code
-
 -- the error says that memory was refused, or why there is no such value
 abbrev pub IsRefused : {A : Type 0} → Result A PlaceError → PlaceError → Type 0
 IsRefused meant e = is_memory e ≡ false → meant ≡ Err e

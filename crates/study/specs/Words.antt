@@ -13,8 +13,6 @@ use Rattle.study.specs.declared.error.ShardError.TheVariants as shard_error
 abbrev pub Word : Type 0
 Word = List ℕ
 
--- ---- parts of a word
-
 abbrev pub has : ℕ → Word → Bool
 has c w = list_any (λ b. b == c) w
 
@@ -28,8 +26,6 @@ after c w = after_first (λ b. b == c) w
 -- what stands between such bytes
 abbrev pub between : ℕ → Word → List Word
 between c w = slice_split (λ b. b == c) w
-
--- ---- numbers
 
 -- decimal digits, at least one
 abbrev pub is_natural : Word → Bool
@@ -50,15 +46,12 @@ abbrev pub fits : ℤ → Bool
 fits (pos n) = nat_lt n (2 ^ 63)
 fits (negsuc n) = nat_lt n (2 ^ 63)
 
--- ---- bounds
-
 -- what stands before and after `..=`, where a word has that at its first dot
 abbrev pub bounds : Word → Option (Word × Word)
 bounds w =
     if starts_with (λ a b. a == b) (after 46 w) (codes ".=") then Some (before 46 w, drop 2 (after 46 w)) else None
 
--- ---- which words say which seeds
-
+-- which words say which seeds
 abbrev pub seeds_between : Word × Word → Option (ℕ × ℕ)
 seeds_between ends =
     if is_natural ends.0 && is_natural ends.1 then Some (natural ends.0, natural ends.1) else None
@@ -80,8 +73,6 @@ seeds_fault (Some (first, last)) =
     if not (nat_lt first (2 ^ 63) && nat_lt last (2 ^ 63)) then Some error.SeedTooHigh
     else if nat_lt last first then Some error.EmptyRange
     else None
-
--- ---- which words say which shards
 
 -- K and N of K/N
 abbrev pub shard_said : Word → Option ShardRecord

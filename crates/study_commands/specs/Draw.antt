@@ -31,8 +31,7 @@ pub record ShowsSuspicions (s : Record) (from until : ℕ) (text : List ℕ) : T
   pub allowed : refusal s from until ≡ None
   pub draws : DrawsSuspicions s trace from until text
 
--- the text is the picture of what went from whom to whom at these ticks of the scenario's run, of the letters of these
--- processes where some are named, and nothing speaks against it
+-- the text is the picture of letters at these ticks of the run, of these processes or all, which nothing speaks against
 pub record ShowsLetters (s : Record) (of : List ℕ) (from until : ℕ) (text : List ℕ) : Type 0 where
   pub trace : List EntryRecord
   pub is_trace : IsTrace (setting_of s) trace
@@ -86,10 +85,7 @@ pub record IsDrawAnswer (input : Option (List ℕ)) (texts : SourceTexts) (words
   pub is_scenario : IsScenario input texts scenario
   pub shows : Shows words.picture scenario of (first_tick words.from) (end_of_ticks scenario words.until) piece
 
--- ---- refusals
-
--- the picture of the scenario's run is refused for this: of the processes and the ticks asked for, or of the letters
--- that the run sends
+-- the picture is refused for this: the processes and ticks asked for, or the letters that the scenario's run sends
 abbrev pub IsRefused : Picture → Record → (of : List ℕ) (from until : ℕ) → DrawError → Type 0
 IsRefused picture.Suspicions s of from until error = refusal s from until ≡ Some error
 IsRefused picture.Letters s of from until error =
@@ -118,8 +114,7 @@ TellsOf path s error (NotDrawn told line) =
 TellsOf path s error Memory = IsMemory error
 TellsOf path s error _ = ⊥
 
--- the fault is that of the picture of the scenario's run, or of the run. The run isn't made where its processes or the
--- ticks asked for are refused
+-- the fault is the picture's or the run's; the run isn't made where its processes or the ticks asked for are refused
 abbrev pub IsOfPicture : (path : List ℕ) → Picture → Record → (of : List ℕ) (from until : ℕ) → Fault → Type 0
 IsOfPicture path named s of from until (NotDrawn error line) =
     IsRefused named s of from until error × Says line (picture_line path s error)
@@ -137,8 +132,7 @@ pub record IsRefusedPicture (input : Option (List ℕ)) (texts : SourceTexts) (w
   pub refused : IsRefused words.picture scenario of (first_tick words.from) (end_of_ticks scenario words.until) error
   pub says : Says line (picture_line texts.path.now scenario error)
 
--- `draw` stops for its words, for its files, for a picture or a run of their scenario that is refused, because memory
--- was refused, or at a failed write
+-- `draw` stops for its words, its files, a refused picture or run of their scenario, refused memory, or a failed write
 abbrev pub StopsPicture : Option (List ℕ) → SourceTexts → PictureTexts → Fault → Type 0
 StopsPicture input texts words (Words line) = NamesNone words.picture (of_word words) ⊎ SaysNoSources texts no_axes
 StopsPicture input texts words (NotDrawn error line) = IsRefusedPicture input texts words error line

@@ -36,8 +36,6 @@ pub record NameNoInput (texts : SourceTexts) : Type 0 where
 abbrev pub NameInputTwice : SourceTexts → Type 0
 NameInputTwice texts = (texts.path.now ≡ input_path) × (network_path texts ≡ Some input_path)
 
--- ---- what is set
-
 abbrev pub paths_set : List Assignment → List Path
 paths_set assigned = map (λ a. path_of a.key) assigned
 
@@ -49,8 +47,6 @@ pub record AreSet (words : List Word) (g : GridRecord) (assigned : List Assignme
 -- where no study is asked for, there are no axes
 abbrev pub no_axes : GridRecord
 no_axes = grid_of [] [] [] 0 0
-
--- ---- the files
 
 module _ (input : Option (List ℕ)) where
   module _ (path : List ℕ) where

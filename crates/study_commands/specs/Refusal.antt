@@ -192,8 +192,6 @@ module _ (input : Option (List ℕ)) where
     IsOfFile Memory = Unit {0}
     IsOfFile _ = ⊥
 
--- ---- runs of the files' scenario that are refused
-
 -- a run by the event list is refused for its limit, or because memory was refused
 abbrev pub fault_of_run : RunError → Fault
 fault_of_run error.Limit = Limit
@@ -209,8 +207,7 @@ IsOfRun s Limit = IsTooLong s
 IsOfRun s Memory = Unit {0}
 IsOfRun s _ = ⊥
 
--- `letters` stops for its words, for its files, for a run of its scenario that is longer than the limit, because memory
--- was refused, or at a failed write
+-- `letters` stops for its words, its files, a run that is longer than the limit, refused memory, or a failed write
 abbrev pub StopsLetters : Option (List ℕ) → SourceTexts → Fault → Type 0
 StopsLetters input texts Limit = (s : Record) × IsScenario input texts s × IsTooLong s
 StopsLetters input texts Write = Unit {0}

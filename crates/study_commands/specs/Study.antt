@@ -52,8 +52,7 @@ abbrev pub rows_for : Each → Rows
 rows_for each.Point = rows.Points
 rows_for each.Run = rows.Runs
 
--- the layout has such rows for the groups of pairs that words say, with the columns that a word names, and with all
--- where there is no word
+-- the layout has such rows for the groups that words say, with the columns that a word names, or all without one
 pub record IsLayout (kind : Each) (pairs : List Word) (columns : Option Word) (g : GridRecord) (l : LayoutRecord)
     : Type 0 where
   pub rows_are : l.rows ≡ rows_for kind

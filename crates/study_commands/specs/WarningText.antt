@@ -75,8 +75,6 @@ module _ (g : GridRecord) (of : ℕ) where
       codes "fdstudy: at each point every run has the same outages of the scenario file, "
       ++ codes "so runs are no independent evidence of them\n"
 
--- ---- who is told
-
 module _ {W : Type 0} (warned : W → List (List ℕ) → W → Type 0) (old new : W) where
   -- of the scenario, if there is anything to warn of
   abbrev pub IsWarnedOf : Record → Type 0
@@ -88,8 +86,6 @@ module _ {W : Type 0} (warned : W → List (List ℕ) → W → Type 0) (old new
     pub each : AllZip (IsFirst sources g) (numbers_of g shard) tables
     pub told : HaveJoined warned old new (map (warning_line g (length (numbers_of g shard)))
         (warnings (numbers_of g shard) tables sources g))
-
--- ---- what a watcher is told in lines
 
 -- a watcher is told of the scenario of the files, and of nothing else
 pub record IsToldOfFile {W : Type 0} (warned : W → List (List ℕ) → W → Type 0) (old new : W)

@@ -20,8 +20,6 @@ use Rattle.study_commands.specs.declared.spread.Spread.{Spread}
 use Rattle.sweep.specs.StudyText.{point_at, run_at}
 use Rattle.toml.specs.Data.{Data, Members, array, get_member, item}
 
--- ---- detectors that can suspect nobody
-
 -- the first tick at which a detector can suspect anybody: the first check that finds `timeout` ticks of silence, at
 -- the least multiple of `check` that is at least `timeout`; or the first freshness point
 abbrev pub first_suspicion : DetectorNumbers → ℕ
@@ -163,8 +161,7 @@ are_tables _ = false
 abbrev pub has_outage : Members → Bool
 has_outage file = are_tables (get_member (codes "outage") file)
 
--- the scenario's file has outages, and runs of a point that differ by their seeds have the same ones. Those that a
--- network draws differ by the seed
+-- the scenario's file has outages, the same for all seeds of a point; those that a network draws differ by the seed
 abbrev pub shares_outages : SourcesRecord → GridRecord → Bool
 shares_outages sources g = nat_lt 1 g.seeds
     && (has_outage sources.scenario && not (list_any sets_outage g.deal) && not (list_any sets_outage g.over))

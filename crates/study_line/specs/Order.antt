@@ -22,8 +22,6 @@ use Rattle.study_line.specs.declared.order.StudyTexts.{StudyTexts}
 use Rattle.study_line.specs.declared.order.WordsError.{WordsError}
 use Rattle.study_line.specs.declared.order.WordsError.TheVariants as refusal
 
--- ---- parts of an order
-
 abbrev pub IsTextAt : Text → List Row → Text → Type 0
 IsTextAt id rows text = first_of id rows ≡ Some text
 
@@ -109,8 +107,6 @@ abbrev pub MayBeStudyAt : List Row → Option StudyTexts → Type 0
 MayBeStudyAt rows (Some study) = IsStudyAt rows study
 MayBeStudyAt rows None = list_all (is_missing rows) study_options ≡ true
 
--- ---- orders
-
 -- the order is what the subcommand of this name says by its own arguments
 abbrev pub StatesIn : Text → List Row → Order → Type 0
 StatesIn name rows (order.Check sources study) = (name ≡ codes "check")
@@ -134,8 +130,6 @@ StatesFound met asked = (found : Text × List Row) × (met ≡ Some found) × St
 abbrev pub States : List Text → Order → Type 0
 States words asked = StatesFound (subcommand_of whole_app words) asked
 
--- ---- why words state no order
-
 -- clap takes the words, and what it finds in them is no whole order
 pub record StatesNothing (words : List Text) : Type 0 where
   pub taken : fault_of whole_app words ≡ []
@@ -153,8 +147,7 @@ AsksVersion words = IsAmong DisplayVersion (fault_of whole_app words)
 abbrev pub version_text : Text
 version_text = codes "fdstudy 0.1.0\n"
 
--- what is told of the words: help or the version where they ask for it, a mistake where clap refuses them for another
--- reason
+-- what is told: help or the version where the words ask for it, or the mistake for which clap refuses them
 abbrev pub Explains : List Text → WordsError → Type 0
 Explains words (refusal.Help text) = AsksHelp words
 Explains words refusal.Version = AsksVersion words

@@ -1,6 +1,4 @@
--- A picture as a document. Shapes as elements of SVG, a line of text each. Texts between the marks of XML 1.0. Five
--- signs have names there, which stand for them where they are no marks. Control characters aren't allowed in a
--- document, so a space stands for each.
+-- A picture as a document: shapes as elements of SVG, a line each; texts in XML 1.0, a space for a control character.
 use Rattle.std.specs.Prelude.{◌≡◌, ℕ, List, [], ◌∷◌, ◌++◌, flat_map, codes, decimal, nat_lt, ◌==◌, if◌then◌else◌}
 use Rattle.svg.specs.declared.shape.Shape.{Shape}
 use Rattle.svg.specs.declared.class.Class.{Class}
@@ -10,8 +8,7 @@ use Rattle.svg.specs.declared.shape.Anchor.TheVariants as anchor
 use Rattle.svg.specs.declared.shape.Point.{Point}
 use Rattle.svg.specs.declared.shape.Shape.TheVariants as shape
 
--- what is written for a byte of a text: 38 is `&`, 60 and 62 are `<` and `>`, 34 and 39 the quotation mark and the
--- apostrophe
+-- what a byte is written as: 38 is `&`, 60 and 62 `<` and `>`, 34 and 39 the quotation mark and the apostrophe
 abbrev pub written : ℕ → List ℕ
 written byte =
     if byte == 38 then codes "&amp;"

@@ -26,8 +26,6 @@ use Rattle.sweep.specs.declared.columns.TraceSums.{TraceSums}
 use Rattle.sweep.specs.declared.columns.VerdictCounts.{VerdictCounts}
 use Rattle.sweep.specs.declared.group.Group.{Group}
 
--- ---- the runs that are added up
-
 -- whether the runs of a scenario have a layer: each has layer 1, those with a reduction have layer 2 as well
 abbrev pub has_layer : (layer : ℕ) → Record → Bool
 has_layer layer S = list_any (λ l. l == layer) (layers S)

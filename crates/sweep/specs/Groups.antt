@@ -38,8 +38,6 @@ is_above n (Said group) = names_above n group
 abbrev pub first_above : (n : ℕ) → List Group → Option ℕ
 first_above n groups = position (is_above n) groups
 
--- ---- in a table
-
 -- the groups of which rows tell: that of all pairs, where no other is said
 abbrev pub groups_of : List PairGroup → List Group
 groups_of [] = All ∷ []

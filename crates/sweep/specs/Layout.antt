@@ -1,5 +1,4 @@
--- What the rows of a text tell of, and which columns they have. The text of a study: a line that names the columns, and
--- rows.
+-- What the rows of a study's text tell of, its columns, and the text: a line that names the columns, and rows.
 use Rattle.std.specs.Prelude.{◌≡◌, ℕ, ◌≤◌, ◌==◌, List, ◌∷◌, ◌++◌, map, length, Option, None, Some, IsSome, string_bytes, if◌then◌else◌, is_some, [], get_or, decimal}
 use Rattle.std.specs.List.{All, Contains, position, range_with_len, slice_split, AllZip, flat_map, list_any}
 use Rattle.csv.specs.Writing.{default_writer, row_text}
@@ -45,8 +44,7 @@ unfoldable pub layer_text : (picks : List ℕ) (lead : List Text) → Group → 
 layer_text picks lead group layer c = line_text (picked picks (layer_fields lead group layer c))
 
 module _ (picks : List ℕ) (lead : List Text) where
-  -- the rows of a group that tell of these runs, which are numbered from the first on: that of layer 1, and that of
-  -- layer 2 where some run has a reduction
+  -- a group's rows of these runs, numbered from the first on: of layer 1, and of layer 2 where some run has a reduction
   pub record AreRowsOfGroup (first : ℕ) (trials : List Trial) (group : Group) (rows : Text) : Type 0 where
     pub one : Columns
     pub two : Columns

@@ -24,8 +24,6 @@ pub record Finished : Type 0 where
   pub scenario : Record
   pub trace : List EntryRecord
 
--- ---- its pairs
-
 -- whether the pair of observer q and subject p counts: it is of the group, and on layer 1 q's detector watches p
 abbrev pub counts_on : Group → (layer : ℕ) → Record → (q p : ℕ) → Bool
 counts_on group layer S q p =
@@ -110,8 +108,6 @@ module _ (group : Group) (layer : ℕ) (r : Finished) where
   -- how long each mistake was that ended
   abbrev pub durations : List ℕ
   durations = flat_map (λ m. pair_durations r.scenario r.trace layer m.observer m.subject) counted_pairs
-
--- ---- what its processes decide
 
 abbrev pub decided_value : Answer → Option ℕ
 decided_value answer.None = None

@@ -110,8 +110,6 @@ module _ (sources : SourcesRecord) (g : GridRecord) where
     BreaksOff error.Memory = WroteNothing told failed old new ⊎ WroteFirst
     BreaksOff error.Write = WroteFront
 
--- ---- what a watcher is told of a sweep: how many runs of a point passed their limit
-
 -- so many of a point's runs passed their limit
 pub record AreLimited (sources : SourcesRecord) (g : GridRecord) (point : ℕ) (count : ℕ) : Type 0 where
   pub trials : List Trial
@@ -124,8 +122,7 @@ told_of counts = filter (λ entry. not (entry.1 == 0)) counts
 
 module _ {W : Type 0} (heard : W → List (ℕ × ℕ) → W → Type 0) (old new : W) (sources : SourcesRecord)
     (g : GridRecord) where
-  -- of each of these points of which runs passed their limit it is told how many did, in the order of the points, and
-  -- of no other
+  -- of each of these points with runs past their limit it is told how many, in the points' order, and of no other
   pub record HeardLimits (points : List ℕ) : Type 0 where
     pub counts : List (ℕ × ℕ)
     pub counted : AllZip (λ point entry. (entry.0 ≡ point) × AreLimited sources g point entry.1) points counts

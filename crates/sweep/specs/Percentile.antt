@@ -36,8 +36,6 @@ module _ (p : ℕ) (values : List ℕ) (infinite : ℕ) where
   IsPercentile None = (w : ℕ) → Contains values w → Covers w → ⊥
   IsPercentile (Some v) = IsRanked v
 
--- ---- what it is that values were counted
-
 -- how many of the values pass a test, where each entry is a value and how often it came
 abbrev pub passing : (ℕ → Bool) → List (ℕ × ℕ) → ℕ
 passing test entries = sum_by (λ e. if test e.0 then e.1 else 0) entries

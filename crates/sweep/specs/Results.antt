@@ -15,8 +15,7 @@ pub data RunResult : Type 0 where
   finished : (trace : List EntryRecord) → RunResult
   limited : RunResult
 
--- what becomes of the run of a scenario: the scenario's trace where that is within the limit; it passes the limit where
--- every trace of the scenario is longer
+-- a run's result: its scenario's trace where that is within the limit, else that every trace of it is longer
 abbrev pub IsResult : Record → RunResult → Type 0
 IsResult S (finished trace) = IsTraceWithin S trace
 IsResult S limited = IsLonger S
@@ -39,8 +38,7 @@ abbrev pub ForMeasured : Record → RunFindings → RunDurations → Trusts → 
 ForMeasured S findings durations trusts P =
     (found : MeasuresRun S findings durations trusts) → P (done_run S found.trace)
 
--- ---- what a job gives for consecutive numbers, and how threads share them out
-
+-- what a job gives for consecutive numbers, and how threads share them out
 module _ {T : Type 0} where
   -- places in which these answers were put in turn, each into its own
   abbrev pub with_answers : List (Option T) → List (ℕ × T) → List (Option T)

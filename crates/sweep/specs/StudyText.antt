@@ -36,8 +36,7 @@ run_at g number = get_or (runs g) number (record { settings = []; seed = 0 })
 abbrev pub numbers_of : GridRecord → ShardRecord → List ℕ
 numbers_of g shard = block (range_with_len 0 (length (points g))) shard
 
--- ---- units, of which rows tell: the points; or the runs, those of all points one point after the other. Both have
--- ---- numbers from 0
+-- ---- units, of which rows tell, numbered from 0: the points; or the runs, those of one point after the other
 
 -- the units of points
 abbrev pub units_in : Rows → GridRecord → (points : List ℕ) → List ℕ
@@ -61,8 +60,7 @@ abbrev pub unit_first : Rows → GridRecord → (unit : ℕ) → ℕ
 unit_first kind.Points g point = 1
 unit_first kind.Runs g run = run % length (runs g) + 1
 
--- ---- what a row begins with, before its group's word: what the varied keys are set to; and of a run what its own
--- ---- keys are set to, its seed and its number
+-- ---- what a row begins with: what varied keys are set to; of a run also its own keys, its seed and its number
 
 abbrev pub values : List Chosen → List Text
 values settings = map (λ s. given_text s.value) settings
@@ -121,8 +119,6 @@ module _ (sources : SourcesRecord) (g : GridRecord) (shard : ShardRecord) (layou
   abbrev pub IsStudyText : Text → Type 0
   IsStudyText text = IsTextOf (units_of layout.rows g shard) text
 
-  -- ---- laws
-
   -- there is at most one text, however the work was shared out among threads
   abbrev pub HasOneText : Type 0
   HasOneText = (a b : Text) → IsStudyText a → IsStudyText b → a ≡ b
@@ -133,8 +129,6 @@ ShardsMakeWhole sources g layout of = (texts : List Text)
     → AllZip (λ number text. IsStudyText sources g (record { number = number; of = of }) layout text)
     (range_with_len 1 of) texts
     → IsStudyText sources g (record { number = 1; of = 1 }) layout (flat_map (λ text. text) texts)
-
--- ---- lines, as they are formed
 
 -- no line is half written
 pub record IsBetweenLines (t : Table) : Type 0 where

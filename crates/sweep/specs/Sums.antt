@@ -94,8 +94,6 @@ pub record AreSums (group : Group) (first : ℕ) (trials : List Trial) (s : Poin
 abbrev pub AreUnitSums : List Group → (first : ℕ) → List Trial → UnitSums → Type 0
 AreUnitSums groups first trials s = AllZip (λ group sums. AreSums group first trials sums) groups s.groups.items
 
--- ---- one more run
-
 -- of a run that is done these are the numbers on a layer, if the rest was found of its trace
 abbrev pub AreOfFindings : Group → (layer : ℕ) → Record → LayerFindings → LayerNumbers → Type 0
 AreOfFindings group layer S f n = (trace : List EntryRecord) → has_layer layer S ≡ true

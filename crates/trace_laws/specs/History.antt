@@ -79,8 +79,7 @@ module _ {Mind : Type 0} (S : Setting Mind) where
       IsProcess S c.0.key.receiver
       × Adds (opening_process S c.0.key.receiver) c key input (pairs_of c.0.key.receiver history)
 
--- ---- cause and effect in a trace
-
+-- cause and effect in a trace
 module _ {Mind : Type 0} (S : Setting Mind) where
   -- the trace with its inputs: the one closed history that has these entries
   abbrev pub IsHistoryOf : List EntryRecord → List Pair → Type 0

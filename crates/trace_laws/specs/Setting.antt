@@ -1,5 +1,4 @@
--- What a scenario and its machines are to the event list. Nothing but the last section knows which algorithm a process
--- runs, or how a letter's fate is drawn.
+-- What a scenario and its machines are to the event list. Only the last section knows algorithms and letters' fates.
 use Rattle.std.specs.Prelude.{◌≢◌, ℕ, ◌≤◌, Bool, false, nat_le, IsTrue, Option, None, Some}
 use Rattle.std.specs.List.{All}
 use Rattle.process_api.specs.Answer.{IsAllowed, Answer}
@@ -37,8 +36,7 @@ module _ {Mind : Type 0} (S : Setting Mind) where
   IsSlow fate.Lost = Unit {0}
   IsSlow (fate.Delay ticks) = S.lookahead ≤ ticks
 
-  -- what the laws need to know of machines and links: a mind of a process stays one, sends to processes alone and
-  -- pauses for a tick at least
+  -- what the laws need: a mind of a process stays one, sends to processes alone and pauses for a tick at least
   pub record IsSound : Type 0 where
     pub lasts : 1 ≤ S.horizon
     pub ahead : 1 ≤ S.lookahead

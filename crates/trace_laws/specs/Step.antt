@@ -33,8 +33,6 @@ pub record Process (Mind : Type 0) : Type 0 where
   pub mind : Mind
   pub counts : ℕ → ℕ
 
--- ---- the kind of an entry
-
 abbrev pub kind_of_tag : Tag → Kind
 kind_of_tag tag.Beat = kind.Beat
 kind_of_tag tag.Check = kind.Check
@@ -141,8 +139,6 @@ module _ {Mind : Type 0} (S : Setting Mind) where
     abbrev pub lost : (ℕ → ℕ) → List Action → ℕ
     lost counts [] = 0
     lost counts (a ∷ actions) = lost_by counts a + lost (counted p counts a) actions
-
-  -- ---- the step
 
   -- what a step makes: the process afterwards, the entry, and the events that join
   pub record Made : Type 0 where

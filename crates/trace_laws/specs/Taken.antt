@@ -55,10 +55,7 @@ LiesAside (payload.Last cells) = ⊤
 LiesAside (payload.Estimate round value stamp) = AreLong round stamp
 LiesAside _ = ⊥
 
--- ---- events that join, or letters that are heard, one after another
-
--- whatever had joined before, these joined after it, in this order and nothing else. `grown` says what it means that
--- they made the one of the other
+-- these joined after whatever had joined before, in order and alone; `grown` says that they made the one of the other
 abbrev pub HaveJoined : {J E : Type 0} (grown : J → List E → J → Type 0) (old new : J) → List E → Type 0
 HaveJoined {J} {E} grown old new more =
     (first : J) (before : List E) → grown first before old → grown first (before ++ more) new

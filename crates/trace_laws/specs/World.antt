@@ -62,8 +62,7 @@ module _ {Mind : Type 0} (S : Setting Mind) where
   abbrev pub opening : World Mind
   opening = record { process = opening_process; pending = starts S.processes }
 
-  -- what is true of every world: each process has a mind of its own; events are below the horizon and for processes,
-  -- and none has a number above its link's count
+  -- each process has its own mind; events are below the horizon, for processes, none numbered above its link's count
   pub record IsWorld (w : World Mind) : Type 0 where
     pub minds : (p : ℕ) → IsProcess S p → IsTrue (S.is_mind p (w.process p).mind)
     pub below : (key : Key) (input : StepInput) → Has w.pending key input → key.tick < S.horizon
@@ -95,8 +94,7 @@ module _ {Mind : Type 0} (S : Setting Mind) where
   IsTrace trace =
       (history : List Pair) × (last : World Mind) × Run S.horizon opening history last × (trace ≡ entries history)
 
--- ---- worlds that the list comes by
-
+-- worlds that the list comes by
 module _ {M : Type 0} (S : Setting M) where
   -- the list comes by this world, after these entries
   pub record IsReached (w : World M) (trace : List EntryRecord) : Type 0 where
@@ -107,8 +105,6 @@ module _ {M : Type 0} (S : Setting M) where
     pub comes_by : (all : List Pair) (last : World M)
         → Run S S.horizon (opening S) all last
         → (rest : List Pair) × (all ≡ history ++ rest) × Run S S.horizon w rest last
-
--- ---- how keys are stored
 
 -- a key is stored as its fields
 abbrev pub key_code : Coded Key

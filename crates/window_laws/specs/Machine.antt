@@ -12,8 +12,6 @@ use Rattle.trace_laws.specs.Step.{Event, Events, Process, Made, step}
 use Rattle.trace_laws.specs.World.{World, Has, IsLeast, NoneBelow, joined, Pair, IsWorld, entries}
 use Rattle.trace_laws.specs.History.{IsIn}
 
--- ---- a stage
-
 -- a process waits for a worker, is held by one, or is done for this window
 pub data Status : Type 0 where
   Waiting : Status
@@ -24,8 +22,7 @@ pub data Status : Type 0 where
 pub record StageRecord (Mind : Type 0) : Type 0 where
   -- the first tick of the window
   pub start : ℕ
-  -- of each process: its mind and link counts, its own pending events, its part of the trace of this window, and where
-  -- it is
+  -- of each process: its mind and link counts, its pending events, its part of this window's trace, and where it is
   pub process : ℕ → Process Mind
   pub own : ℕ → Events
   pub part : ℕ → List EntryRecord
@@ -68,8 +65,6 @@ module _ {Mind : Type 0} where
   -- each mailbox moves into its receiver's set
   abbrev pub gathered : StageRecord Mind → ℕ → Events
   gathered g p = joined (g.own p) (events.entries (g.mailbox p))
-
--- ---- the acts
 
 -- what may happen next: worker a takes process p, runs an event of the process that it holds, posts a letter, or gives
 -- a process back; or the window closes and the next one opens
@@ -124,8 +119,7 @@ module _ {Mind : Type 0} (S : Setting Mind) where
       ((p : ℕ) → IsProcess S p → g.status p ≡ Done) × (end ≤ next) × (next ≤ S.horizon)
       × ((p : ℕ) → NoneBelow next (g.own p) × NoneBelow next (g.mailbox p)) × (h ≡ closed window next g)
 
-  -- A run of a window: any acts, each allowed, whose one Close is the last. The Close finds one stage, and leaves the
-  -- other
+  -- A run of a window: allowed acts, whose one Close is the last; the Close finds one stage, and leaves the other
   abbrev pub IsRun : (window end : ℕ) → StageRecord Mind → List Act → (found left : StageRecord Mind) → Type 0
   IsRun window end g [] found left = ⊥
   IsRun window end g (Close next ∷ acts) found left = (acts ≡ []) × (found ≡ g) × Moves window end g (Close next) left
@@ -143,8 +137,7 @@ module _ {Mind : Type 0} (S : Setting Mind) where
     pub tray : (a : ℕ) → IsEmpty (g.tray a)
     pub mailbox : (r : ℕ) → IsEmpty (g.mailbox r)
 
--- ---- what each process does in a window by itself, and what the processes of a stage make together
-
+-- what each process does in a window by itself, and what the processes of a stage make together
 module _ {Mind : Type 0} (S : Setting Mind) where
   -- Process p takes its pending events below the end, the least first. Events for itself join its set, letters to
   -- others are posted, in order

@@ -26,10 +26,7 @@ end_to_end [] = []
 end_to_end (es ∷ more) = es ++ end_to_end more
 
 module _ {Mind : Type 0} (S : Setting Mind) (window : ℕ) where
-  -- ---- one window
-
-  -- the run of a window did what the list does between a world and the window's end: it took these pairs, and came to
-  -- that world
+  -- a window's run did what the list does from a world to the window's end: it took these pairs, and came to that world
   pub record IsListRun (g found left : StageRecord Mind) (w after : World Mind) (history : List Pair) : Type 0 where
     pub run : Run S (end_of S window g.start) w history after
     pub world : IsWorld S after
@@ -67,8 +64,6 @@ module _ {Mind : Type 0} (S : Setting Mind) (window : ℕ) where
       × IsRun S window (end_of S window g.start) g acts found left
       × (left.start ≡ next) × (turns_of acts ≡ map (λ s. s.0.key.receiver) history)
 
-  -- ---- windows one after the other
-
   -- windows lead from stage g to stage h, and these are the merged parts of each
   abbrev pub Windows : StageRecord Mind → List (List EntryRecord) → StageRecord Mind → Type 0
   Windows g [] h = h ≡ g
@@ -77,8 +72,7 @@ module _ {Mind : Type 0} (S : Setting Mind) (window : ℕ) where
       × IsRun S window (end_of S window g.start) g acts found left
       × IsMerge S.processes found.part merged × Windows left more h
 
-  -- windows from the opening on, whatever the order of acts in each, make a front of the trace, and the whole trace
-  -- where they come to the horizon
+  -- windows from the opening on, in any order of acts, make a front of the trace, all of it if they come to the horizon
   abbrev pub MakeTrace : Type 0
   MakeTrace = (g : StageRecord Mind) → StandsFor S window g (opening S)
       → (parts : List (List EntryRecord)) (h : StageRecord Mind) → Windows g parts h

@@ -27,8 +27,6 @@ pub record IsPlan (plan : PlanRecord) : Type 0 where
 abbrev pub IsPlanFor : Record → PlanRecord → Type 0
 IsPlanFor s plan = plan.window ≤ s.lookahead
 
--- ---- refusals
-
 -- the reason is one against these numbers
 abbrev pub Applies : (lookahead workers window : ℕ) → PlanError → Type 0
 Applies lookahead workers window error.Workers = ¬ ((1 ≤ workers) × (workers ≤ most_workers))

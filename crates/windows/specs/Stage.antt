@@ -32,8 +32,7 @@ of_process (suc q) xs none = slice_index_or xs q none
 abbrev pub start_event : ℕ → Events
 start_event p = events.insert events.empty (start_of p) Start
 
--- where these events are pending, the next window opens at the least tick of theirs that is below the horizon, and at
--- the horizon where there is none
+-- the next window opens at the least tick of these pending events below the horizon, or at the horizon if there is none
 pub record IsNextStart (horizon : ℕ) (own : List Events) (next : ℕ) : Type 0 where
   pub to_horizon : next ≤ horizon
   pub late : All (NoneBelow next) own
@@ -59,8 +58,7 @@ module _ {M : Type 0} (mind : M → Mind) where
         mailbox = λ r. events.empty;
       }
 
-  -- each berth of the list is that of the process of its place, of process 1 first. It put at most 4,096 letters and
-  -- wakes on each link for each entry so far
+  -- the berths of processes from 1 on, each with at most 4,096 letters and wakes on each link for each entry so far
   abbrev pub AreHome : Record → (entries : ℕ) → List (Berth M) → Type 0
   AreHome s entries berths = (i : ℕ) (b : Berth M)
       → slice_get berths i ≡ Some b → IsBerth mind s (suc i) (most_step_actions * entries) b
@@ -110,8 +108,6 @@ module _ {M : Type 0} where
       IsCountOfWorkers (end_of (setting_of old.scenario.now) plan.window old.start) plan.workers old.berths.items
       new.workers
 
--- ---- why a window is refused, and which of several refusals is answered
-
 -- one process is refused because the trace has no place left, or because memory was refused
 abbrev pub IsRefusalOfOne : RunError → Type 0
 IsRefusalOfOne e = (e ≡ Limit) ⊎ (e ≡ Memory)
@@ -140,8 +136,6 @@ pub record IsFirstRefusal {A B : Type 0} (left : Result A RunError) (right : Res
 -- neither answer is a refusal
 abbrev pub AreThere : {A B : Type 0} → Result A RunError → Result B RunError → Type 0
 AreThere {A} {B} left right = (a : A) × (b : B) × (left ≡ Ok a) × (right ≡ Ok b)
-
--- ---- what is handed on to a sink
 
 -- a sink refuses a part because memory was refused, or because the part can't be written
 abbrev pub IsRefusalOfSink : RunError → Type 0

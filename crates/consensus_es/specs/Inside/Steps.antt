@@ -61,8 +61,7 @@ module _ (m : Membership) (s : Progress) where
       is_timely sender round && (nat_eq sender (coordinator m.processes round)
       && not (definition.is_early m.processes m.own (state_of s) sender))
 
--- ---- the machine as plain data
-
+-- the machine as plain data
 abbrev pub place_of : EsConsensus → Place
 place_of c = record { own = c.membership.own; processes = c.membership.processes; horizon = c.horizon }
 

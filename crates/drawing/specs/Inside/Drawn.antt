@@ -63,8 +63,6 @@ group_bands_of run q = group_bands run.scenario.now run.trace.now run.ticks.from
 abbrev pub absent : (has_row : (q p : ℕ) → Bool) (processes q : ℕ) → ℕ
 absent has_row processes q = length (filter (λ p. not (has_row q p)) (others processes q))
 
--- ---- rows, as they are drawn
-
 -- the rows of the processes before q, that of q itself, and those of q and these others
 pub record AreRowsOf (run : Run) (q : ℕ) (ps : List ℕ) (rows : Rows) : Type 0 where
   pub shapes :
@@ -91,8 +89,6 @@ pub record IsNext (run : Run) (told : Outcome) (rows : Rows) : Type 0 where
   pub low : 1 ≤ told.pid
   pub high : told.pid ≤ run.scenario.now.processes
   pub before : AreRows run (told.pid - 1) rows
-
--- ---- the pieces of a picture of letters, of a run and some ticks of it
 
 -- the marks at a spot: of a tick, and of a stretch
 module _ (ticks : Ticks) (spot : Spot) where

@@ -32,8 +32,6 @@ found test from (suc n) = passed (from + n) (test (from + n)) (found test from n
 abbrev pub stretches : (test : ℕ → Bool) → (from until : ℕ) → List Bar
 stretches test from until = (passed until false (found test from (until - from))).ended
 
--- ---- the code's part
-
 abbrev pub found_of : Sweep → Found
 found_of s = record { ended = s.ended.items; running = s.running }
 

@@ -18,8 +18,7 @@ module _ {M : Type 0} (S : Setting M) where
       → (whole : List Pair) × Run S S.horizon (opening S) whole last
       × (posted_along S (opening S) whole ≡ letters ++ posted_along S w rest)
 
--- these processes, of process 1 first, and pending events are those of a world that the list comes by after this trace
--- and these letters
+-- these processes, from 1 on, and pending events are of a world that the list comes by after this trace and letters
 pub record Stands (S : Setting Mind) (processes : List (Process Mind)) (pending : Events)
     (trace : List EntryRecord) (letters : List Posted) : Type 0 where
   pub world : World Mind

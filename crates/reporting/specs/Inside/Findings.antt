@@ -25,8 +25,7 @@ found_text algorithm f =
     ++ (layers_text f
     ++ (flat_map pair_text f.measures.items ++ decisions_text algorithm f.summary.outcomes.items)))
 
--- ---- the text of a report's value, and of the rows of values
-
+-- the text of a report's value, and of the rows of values
 abbrev pub value_text : Value → List ℕ
 value_text (Number number) = decimal number
 value_text (Count count) = decimal count

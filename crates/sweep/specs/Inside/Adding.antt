@@ -92,8 +92,6 @@ layer_plus a b = record {
   counts = counts_plus a.counts b.counts;
 }
 
--- ---- what one thing adds
-
 abbrev pub of_pair : PairMeasures → PairSums
 of_pair m = record {
   mistakes = m.mistakes;
@@ -139,8 +137,6 @@ abbrev pub differ : Option ℕ → Option ℕ → Bool
 differ (Some v) (Some w) = not (v == w)
 differ _ _ = false
 
--- ---- the first run
-
 -- the number that was found before, or else this one, where it is found
 abbrev pub first_of : Option ℕ → Bool → (number : ℕ) → Option ℕ
 first_of (Some before) found number = Some before
@@ -159,8 +155,6 @@ first_with f number counts is_longest = record {
   detection_max = if is_longest then Some number else f.detection_max;
   disagreement = first_of f.disagreement (nat_lt 0 counts.disagreements) number;
 }
-
--- ---- what a run that is done adds up to alone, by its summary, its verdicts and the measures of its pairs that count
 
 -- two processes of a scenario
 pub record IsPair (S : Record) (q p : ℕ) : Type 0 where

@@ -157,8 +157,6 @@ HeaderFails g shard layout told failed old new (error.NoSuchProcess point run gr
 HeaderFails g shard layout told failed old new error.Memory = WroteNothing told failed old new
 HeaderFails g shard layout told failed old new error.Write = WrotePart told failed old new (header_of g shard layout)
 
--- ---- how many of a point's runs passed their limit, as they come in, and what was told of the points before it
-
 -- the number of the run that comes next
 abbrev pub next_counted : GridRecord → Limits → ℕ
 next_counted g l = l.point * length (runs g) + l.run

@@ -23,8 +23,7 @@ rounds (letters ∷ later) = Turn 1 ∷ Turn 2 ∷ (posts letters ++ rounds late
 abbrev pub alternating : List (List Posting) → (next : ℕ) → List Act
 alternating letters next = Take 1 1 ∷ Take 2 2 ∷ (rounds letters ++ (Return 1 1 ∷ Return 2 2 ∷ Close next ∷ []))
 
--- the same number of turns by one worker, which runs process 2 only after process 1 is done; the letters of each
--- process are posted before it is given back
+-- as many turns by one worker, process 2 only after process 1; each one's letters are posted before it is given back
 abbrev pub turns : List (List Posting) → List Act
 turns [] = []
 turns (letters ∷ later) = Turn 1 ∷ (posts letters ++ turns later)

@@ -52,8 +52,6 @@ pub record IsParted (end : ℕ) (es : List Event) (p : Parted) : Type 0 where
   pub from : AreFrom end p.later.items
   pub next : p.next ≡ first_tick p.later.items
 
--- ---- letters that are parted with the events of a process
-
 -- these letters were filed: what was parted by the first, and then they, are parted by the second
 abbrev pub HasFiled : (first now : Parted) → List Letter → Type 0
 HasFiled first now letters =

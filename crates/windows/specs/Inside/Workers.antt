@@ -64,8 +64,7 @@ module _ {M : Type 0} where
     abbrev pub HasLong : (end left : ℕ) → List (Berth M) → Type 0
     HasLong end left berths = (b : Berth M) × Contains berths b × IsLong mind s end left b
 
-    -- of these mailboxes: each berth that was taken was run and is among those that were done, and the slip has the
-    -- letters of these runs
+    -- of these mailboxes: each berth that was taken was run and is among the done, and the slip has these runs' letters
     pub record AreRunBy (end : ℕ) (mailboxes : List MailboxId) (taken : List (Berth M)) (slip : SlipView)
         (done : List (Berth M)) : Type 0 where
       pub of_mailboxes : IsSlipOf mailboxes slip
@@ -89,8 +88,7 @@ module _ {M : Type 0} where
       pub taken : IsPermutation (old.taken ++ rest) new.taken
       pub same : IsPermutation (all_put old.own) new.taken
 
-    -- each of these processes had its window: it ran, or it had nothing to run. The slips have just the letters of
-    -- these runs, in their order
+    -- each of these processes had its window, or nothing to run; the slips have just these runs' letters, in order
     pub record AreRun (end : ℕ) (mailboxes : List MailboxId) (olds news : List (Berth M))
         (slips : List SlipView) : Type 0 where
       pub stays : List (Stay M)
@@ -131,8 +129,6 @@ module _ {M : Type 0} where
 abbrev pub RiseBy : {X : Type 0} → (X → ℕ) → List X → Type 0
 RiseBy key xs = AllPairs (λ x y. key x < key y) xs
 
--- ---- what holds of those who share a window
-
 -- of these mailboxes are a slip and a tray, whose letters wait to be posted by the slip
 pub record ArePosting (mailboxes : List MailboxId) (slip : SlipView) (tray : List (List Letter)) : Type 0 where
   pub by_slip : IsSlipOf mailboxes slip
@@ -149,8 +145,7 @@ module _ {M : Type 0} (mind : M → Mind) where
   IsOneTooLong w berths = HasLong mind w.streams w.end w.left berths
 
   module _ {G : Type 0} (w : Shared M G) where
-    -- a worker's beginning: its hand and its slip are of this window, and unused. It may take what was put in, all of
-    -- which is ready
+    -- a worker's beginning: its hand and slip are of this window and unused; what was put in is all ready to take
     abbrev pub IsStart : Start M → Type 0
     IsStart s = IsFresh w.fronts.now.items w.mailboxes.now s.hand s.slip × AreReady w.window.now s.hand.known
 
