@@ -1,9 +1,7 @@
 -- Waits of the exchange of vectors.
 use Rattle.std.specs.Prelude.{◌≡◌, None}
 use Rattle.std.specs.FinSet as set
-use Rattle.process_api.specs.ConsensusS.{end_wait}
-use Rattle.process_api.specs.Mind.{AlgorithmState, Idle, Exchanging, Coordinating}
-use Rattle.process_api.specs.Sets.{Processes}
+use Rattle.process_api.specs.{ConsensusS.{end_wait}, Mind.{AlgorithmState, Idle, Exchanging, Coordinating}, Sets.{Processes}}
 
 -- no wait of the exchange is over
 abbrev pub IsSettled : Processes → AlgorithmState → Type 0

@@ -1,9 +1,7 @@
 //! Parts of a process, driven by hand.
-ghost use Rattle.std.specs.Prelude.{◌≡◌, ◌≤◌, IsTrue, is_some, not};
-ghost use Rattle.std.specs.Option.{ForSome};
+ghost use Rattle.std.specs.{Prelude.{◌≡◌, ◌≤◌, IsTrue, is_some, not}, Option.{ForSome}};
 ghost use Rattle.process_api.specs.Mind.{stands_at};
-ghost use Rattle.scenario_record.specs.Ranges.{AreInRange, is_idle};
-ghost use Rattle.scenario_record.specs.Opening.{place_of};
+ghost use Rattle.scenario_record.specs.{Ranges.{AreInRange, is_idle}, Opening.{place_of}};
 
 use crate::answers::{are_done, are_members};
 use crate::comparisons::{NO_MEMORY, same};

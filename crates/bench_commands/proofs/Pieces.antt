@@ -1,7 +1,6 @@
 -- The line of a scenario's refusal.
 use Rattle.bench_commands.proofs.Words.{◌≡◌, ap, refl, ℕ, List, ◌++◌, codes, decimal, after_name}
-use Rattle.scenario.specs.Refusals.{name_of}
-use Rattle.scenario.specs.declared.error.ScenarioError.{ScenarioError}
+use Rattle.scenario.specs.{Refusals.{name_of}, declared.error.ScenarioError.{ScenarioError}}
 use Rattle.scenario.specs.declared.error.ScenarioError.TheVariants as error
 
 -- of a link that is below the lookahead the pair is told

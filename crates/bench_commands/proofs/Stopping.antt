@@ -1,26 +1,16 @@
 -- What went out, and what stands where a run stops.
 use Rattle.bench_commands.proofs.Words.{◌≡◌, ◌≢◌, ◌⊎◌, ◌<◌, ap, subst, refl, inl, inr, ℕ, List, length, Option, arith, has_trace, one_trace, setting_of, AsksHelp, Explains, States, IsListAnswer, IsRunFront, LeavesBy, WritesBy, path_of, end_of, status_of, IsHelp, IsReason, IsRunAsked, TellsOf, StopsBefore, StopsBy, StopsFor, Different, Plan, Run, printed, prints_trace, Record}
-use Rattle.std.specs.Prelude.{IsTrue}
-use Rattle.trace_laws.specs.Setting.{IsSound}
-use Rattle.trace_laws.specs.World.{IsTrace}
-use Rattle.process_api.specs.declared.run_error.RunError.{RunError}
+use Rattle.{std.specs.Prelude.{IsTrue}, trace_laws.specs.{Setting.{IsSound}, World.{IsTrace}}}
+use Rattle.process_api.specs.{declared.{run_error.RunError.{RunError}, print_choice.PrintChoice.{PrintChoice}}, Order.{EntryRecord}}
 use Rattle.process_api.specs.declared.run_error.RunError.TheVariants as run
-use Rattle.command_line.specs.declared.order.Order.{Order}
+use Rattle.command_line.specs.declared.order.{Order.{Order}, WordsError.{WordsError}}
 use Rattle.command_line.specs.declared.order.Order.TheVariants as order
-use Rattle.command_line.specs.declared.order.WordsError.{WordsError}
 use Rattle.command_line.specs.declared.order.WordsError.TheVariants as refusal
-use Rattle.bench_commands.specs.Answer.{IsTooLong, RefusesBy}
-use Rattle.bench_commands.specs.declared.bench.Mode.{Mode}
+use Rattle.bench_commands.specs.{Answer.{IsTooLong, RefusesBy}, declared.{bench.Mode.{Mode}, fault.Fault.{Fault}}}
 use Rattle.bench_commands.specs.declared.bench.Mode.TheVariants as mode
-use Rattle.bench_commands.specs.declared.fault.Fault.{Fault}
-use Rattle.process_api.specs.declared.print_choice.PrintChoice.{PrintChoice}
 use Rattle.runs.specs.Finishing.{Finishes, WroteRows}
-use Rattle.reporting.specs.TraceText.{trace_text}
-use Rattle.reporting.specs.declared.summary.Summary.{Summary}
-use Rattle.qos_report.proofs.Breaking.{breaks_at_opening}
-use Rattle.reporting.specs.Outlet.{WroteNothing}
-use Rattle.process_api.specs.Order.{EntryRecord}
-use Rattle.shell.specs.Ending.{LeftAt, MayHaveGone, Went}
+use Rattle.reporting.specs.{TraceText.{trace_text}, declared.summary.Summary.{Summary}, Outlet.{WroteNothing}}
+use Rattle.{qos_report.proofs.Breaking.{breaks_at_opening}, shell.specs.Ending.{LeftAt, MayHaveGone, Went}}
 
 -- ---- runs
 

@@ -2,23 +2,10 @@
 use Rattle.std.specs.Prelude.{◌≡◌, ℕ, List, ◌++◌, codes, Option, IsTrue, Result, ◌<◌, ◌≤◌, length, IfSome}
 use Rattle.command_line.specs.declared.order.Order.{Order}
 use Rattle.command_line.specs.declared.order.Order.TheVariants as order
-use Rattle.trace_laws.specs.Setting.{setting_of}
-use Rattle.trace_laws.specs.World.{IsTrace}
-use Rattle.bench_commands.specs.Fault.{end_of}
-use Rattle.bench_commands.specs.declared.bench.Mode.{Mode}
+use Rattle.{trace_laws.specs.{Setting.{setting_of}, World.{IsTrace}}, bench_commands.specs.{Fault.{end_of}, declared.{bench.Mode.{Mode}, fault.Fault.{Fault}}}}
 use Rattle.bench_commands.specs.declared.bench.Mode.TheVariants as mode
-use Rattle.bench_commands.specs.declared.fault.Fault.{Fault}
-use Rattle.process_api.specs.declared.print_choice.PrintChoice.{PrintChoice}
-use Rattle.process_api.specs.Order.{EntryRecord}
-use Rattle.process_api.specs.declared.print_choice.PrintChoice.TheVariants.{Both}
-use Rattle.process_api.specs.declared.run_error.RunError.{RunError}
-use Rattle.reporting.specs.ReportText.{printed, prints_trace}
-use Rattle.runs.specs.Finishing.{IsTraceWithin, BreaksOff, Refuses}
-use Rattle.reporting.specs.TraceText.{trace_text}
-use Rattle.scenario_record.specs.Record.{Record}
-use Rattle.scenario.specs.Refusals.{Accepts}
-use Rattle.shell.specs.Ending.{Goes, input_path, most_bytes}
-use Rattle.windows.specs.Plan.{NoneApplies, IsPlanFor}
+use Rattle.{process_api.specs.{declared.{print_choice.PrintChoice.{PrintChoice, TheVariants.{Both}}, run_error.RunError.{RunError}}, Order.{EntryRecord}}, reporting.specs.{ReportText.{printed, prints_trace}, TraceText.{trace_text}}}
+use Rattle.{runs.specs.Finishing.{IsTraceWithin, BreaksOff, Refuses}, scenario_record.specs.Record.{Record}, scenario.specs.Refusals.{Accepts}, shell.specs.Ending.{Goes, input_path, most_bytes}, windows.specs.Plan.{NoneApplies, IsPlanFor}}
 
 -- the scenario is that of the file's bytes, which are not too many. Of a path other than `-` they aren't known
 pub record IsScenarioAt (input : Option (List ℕ)) (path : List ℕ) (s : Record) : Type 0 where
@@ -64,8 +51,7 @@ module _ (s : Record) where
   AnswersOver (order.List path print) piece = IsListAnswer print piece
   AnswersOver (order.Run path workers window print) piece =
       NoneApplies s.lookahead workers window × IsListAnswer print piece
-  AnswersOver (order.Compare path workers window) piece =
-      NoneApplies s.lookahead workers window × IsCompareAnswer piece
+  AnswersOver (order.Compare path workers window) piece = NoneApplies s.lookahead workers window × IsCompareAnswer piece
 
   -- the piece is what is written for the order, as long as nothing fails
   abbrev pub WritesOver : Order → List ℕ → Type 0

@@ -2,14 +2,9 @@
 use Rattle.std.specs.Prelude.{ℕ, List, [], ◌++◌, codes, decimal, string_bytes}
 use Rattle.process_api.specs.declared.run_error.RunError.{RunError}
 use Rattle.process_api.specs.declared.run_error.RunError.TheVariants as run
-use Rattle.bench_commands.specs.declared.fault.Fault.{Fault}
-use Rattle.bench_commands.specs.declared.fault.Fault.TheVariants.{Different, Form, Plan, Run, Scenario, TooLong, Unreadable, Words, WordsMemory}
-use Rattle.scenario.specs.Refusals.{name_of}
-use Rattle.scenario.specs.declared.error.ScenarioError.{ScenarioError}
+use Rattle.{bench_commands.specs.declared.fault.Fault.{Fault, TheVariants.{Different, Form, Plan, Run, Scenario, TooLong, Unreadable, Words, WordsMemory}}, scenario.specs.{Refusals.{name_of}, declared.error.ScenarioError.{ScenarioError}}}
 use Rattle.scenario.specs.declared.error.ScenarioError.TheVariants as scenario
-use Rattle.shell.specs.Ending.{End, begun, cut, untouched}
-use Rattle.windows.specs.Plan.{IsFirst}
-use Rattle.windows.specs.declared.error.PlanError.{PlanError}
+use Rattle.{shell.specs.Ending.{End, begun, cut, untouched}, windows.specs.{Plan.{IsFirst}, declared.error.PlanError.{PlanError}}}
 use Rattle.windows.specs.declared.error.PlanError.TheVariants as plan
 
 -- 1: the scenario or its file is refused; 2: the words are; 3: the plan or run is, or runs differ; 4: a write failed
@@ -35,8 +30,7 @@ end_of _ = untouched
 
 -- what follows the name of a scenario's refusal: the pair of a link that is below the lookahead
 abbrev pub after_name : ScenarioError → List ℕ
-after_name (scenario.BelowLookahead from to) =
-    codes " " ++ (decimal from ++ (codes " " ++ (decimal to ++ codes "\n")))
+after_name (scenario.BelowLookahead from to) = codes " " ++ (decimal from ++ (codes " " ++ (decimal to ++ codes "\n")))
 after_name _ = codes "\n"
 
 -- the lines of a scenario's refusals, of a plan's, and of a run's

@@ -1,17 +1,10 @@
 -- What the program does for a command line.
 use Rattle.std.specs.Prelude.{◌≡◌, ◌≢◌, ℕ, List, Option, Result}
-use Rattle.command_line.specs.Order.{AsksHelp, Explains, States}
-use Rattle.command_line.specs.declared.order.Order.{Order}
-use Rattle.command_line.specs.declared.order.WordsError.{WordsError}
+use Rattle.command_line.specs.{Order.{AsksHelp, Explains, States}, declared.order.{Order.{Order}, WordsError.{WordsError}}}
 use Rattle.command_line.specs.declared.order.WordsError.TheVariants as refusal
 use Rattle.process_api.specs.declared.run_error.RunError.TheVariants.{Write}
-use Rattle.bench_commands.specs.Answer.{Answers, AsksRun, Leaves, Writes, path_of, IsScenarioAt}
-use Rattle.bench_commands.specs.Fault.{end_of, line_of, status_of}
-use Rattle.bench_commands.specs.Why.{StopsFor}
-use Rattle.bench_commands.specs.declared.fault.Fault.{Fault}
-use Rattle.bench_commands.specs.declared.fault.Fault.TheVariants.{Form, Run, Words, WordsMemory}
-use Rattle.scenario_record.specs.Record.{Record}
-use Rattle.shell.specs.Ending.{input_path, Ends, GoesForWords as Goes, IsReason as IsReasonOf}
+use Rattle.bench_commands.specs.{Answer.{Answers, AsksRun, Leaves, Writes, path_of, IsScenarioAt}, Fault.{end_of, line_of, status_of}, Why.{StopsFor}, declared.fault.Fault.{Fault, TheVariants.{Form, Run, Words, WordsMemory}}}
+use Rattle.{scenario_record.specs.Record.{Record}, shell.specs.Ending.{input_path, Ends, GoesForWords as Goes, IsReason as IsReasonOf}}
 
 -- what went out for the words: what they ask for, or what is left where that stops. Of help its text isn't said
 abbrev pub GoesForWords : {O A : Type 0} (told : O → Option (List ℕ)) (failed : O → ℕ) (old new : O) → Option (List ℕ)

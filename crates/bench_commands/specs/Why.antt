@@ -4,15 +4,9 @@ use Rattle.command_line.specs.declared.order.Order.{Order}
 use Rattle.command_line.specs.declared.order.Order.TheVariants as order
 use Rattle.process_api.specs.declared.run_error.RunError.{RunError}
 use Rattle.process_api.specs.declared.run_error.RunError.TheVariants as run
-use Rattle.bench_commands.specs.Answer.{path_of, IsScenarioAt, IsTooLong}
-use Rattle.bench_commands.specs.declared.bench.Mode.{Mode}
+use Rattle.bench_commands.specs.{Answer.{path_of, IsScenarioAt, IsTooLong}, declared.{bench.Mode.{Mode}, fault.Fault.{Fault, TheVariants.{Plan, Run, Scenario, TooLong, Unreadable}}}}
 use Rattle.bench_commands.specs.declared.bench.Mode.TheVariants as mode
-use Rattle.bench_commands.specs.declared.fault.Fault.{Fault}
-use Rattle.bench_commands.specs.declared.fault.Fault.TheVariants.{Plan, Run, Scenario, TooLong, Unreadable}
-use Rattle.scenario.specs.Refusals.{Refuses, is_memory}
-use Rattle.scenario.specs.declared.error.ScenarioError.{ScenarioError}
-use Rattle.scenario_record.specs.Record.{Record}
-use Rattle.shell.specs.Ending.{AreAllOf, input_path, most_bytes}
+use Rattle.{scenario.specs.{Refusals.{Refuses, is_memory}, declared.error.ScenarioError.{ScenarioError}}, scenario_record.specs.Record.{Record}, shell.specs.Ending.{AreAllOf, input_path, most_bytes}}
 use Rattle.windows.specs.Plan.{IsFirst, NoneApplies}
 
 module _ (input : Option (List ℕ)) (path : List ℕ) where

@@ -1,7 +1,6 @@
 //! Runs of a scenario over machines that are made here.
 ghost use Rattle.std.specs.Prelude.{◌≡◌, ◌≢◌, ◌^◌, ◌-◌, ◌<◌, IfErr, IfOk, Err};
-ghost use Rattle.bench_commands.specs.Answer.{IsModeFor, RefusesBy};
-ghost use Rattle.runs.specs.Finishing.{Finishes};
+ghost use Rattle.{bench_commands.specs.Answer.{IsModeFor, RefusesBy}, runs.specs.Finishing.{Finishes}};
 
 use machines::machines_of;
 use process_api::RunError;

@@ -1,10 +1,7 @@
 //! Carries out an order over its scenario.
 ghost use Rattle.std.specs.Prelude.{◌≡◌, ◌^◌, ◌-◌, ◌<◌, codes, IfOk, IfErr, OnOk, true};
-ghost use Rattle.bench_commands.specs.Answer.{GoesBy, GoesOver, IsCompareAnswer, IsModeFor};
-ghost use Rattle.bench_commands.specs.Fault.{IsFirstFault, end_of};
-ghost use Rattle.bench_commands.specs.Why.{StopsBy, StopsOver, StopsWindows};
-ghost use Rattle.reporting.specs.Outlet.{Wrote, WrotePart};
-ghost use Rattle.shell.specs.Ending.{Puts};
+ghost use Rattle.bench_commands.specs.{Answer.{GoesBy, GoesOver, IsCompareAnswer, IsModeFor}, Fault.{IsFirstFault, end_of}, Why.{StopsBy, StopsOver, StopsWindows}};
+ghost use Rattle.{reporting.specs.Outlet.{Wrote, WrotePart}, shell.specs.Ending.{Puts}};
 ghost use Rattle.windows.specs.Plan.{IsPlanFor, NoneApplies, plan_of};
 
 use crate::bench::{Mode, bench};

@@ -1,7 +1,6 @@
 //! Whether both ways to run a scenario write the same.
 ghost use Rattle.std.specs.Prelude.{◌≡◌, ◌≢◌, IfErr, IfOk, IsErrOf, Err, List, true, false, ℕ};
-ghost use Rattle.bench_commands.specs.Answer.{IsWritten, IsTooLong, IsModeFor};
-ghost use Rattle.windows.specs.Plan.{IsPlanFor};
+ghost use Rattle.{bench_commands.specs.Answer.{IsWritten, IsTooLong, IsModeFor}, windows.specs.Plan.{IsPlanFor}};
 
 use crate::bench::{Mode, bench};
 use process_api::RunError;

@@ -1,7 +1,6 @@
 //! Why a run of the program ends without having done what it was asked, and how it says so.
 ghost use Rattle.std.specs.Prelude.{◌≡◌, ◌^◌, ◌-◌, ◌<◌};
-ghost use Rattle.bench_commands.specs.Fault.{plan_line, run_line, scenario_line};
-ghost use Rattle.shell.specs.Ending.{Tells};
+ghost use Rattle.{bench_commands.specs.Fault.{plan_line, run_line, scenario_line}, shell.specs.Ending.{Tells}};
 
 use itoa::Buffer;
 use process_api::RunError;
@@ -34,11 +33,8 @@ pub enum Fault {
 }
 
 impl Failure for Fault {
-    ghost use Rattle.bench_commands.specs.Fault.{end_of, line_of, status_of};
-    ghost use Rattle.bench_commands.specs.Inside.Statuses.{has_status};
-    ghost use Rattle.bench_commands.specs.declared.fault.Fault.TheVariants.{Run};
-    ghost use Rattle.process_api.specs.declared.run_error.RunError.TheVariants.{Write};
-    ghost use Rattle.std.specs.Prelude.{refl};
+    ghost use Rattle.bench_commands.specs.{Fault.{end_of, line_of, status_of}, Inside.Statuses.{has_status}, declared.fault.Fault.TheVariants.{Run}};
+    ghost use Rattle.{process_api.specs.declared.run_error.RunError.TheVariants.{Write}, std.specs.Prelude.{refl}};
 
     ghost status = { status_of };
 

@@ -1,7 +1,6 @@
 //! The scenario that a path names.
 ghost use Rattle.std.specs.Prelude.{◌≡◌, ◌≢◌, ◌+◌, IfOk, IfErr};
-ghost use Rattle.bench_commands.specs.Answer.{IsScenarioAt};
-ghost use Rattle.bench_commands.specs.Why.{StopsBefore};
+ghost use Rattle.bench_commands.specs.{Answer.{IsScenarioAt}, Why.{StopsBefore}};
 ghost use Rattle.shell.specs.Ending.{TakesAtMost, input_path, most_bytes};
 
 use crate::fault::Fault;

@@ -1,9 +1,6 @@
 //! One run of the program.
 ghost use Rattle.std.specs.Prelude.{◌≡◌, ◌≢◌, ◌^◌, ◌-◌, ◌+◌, ◌<◌, ◌≤◌, IfErr, map};
-ghost use Rattle.bench_commands.specs.Answer.{GoesFor, path_of};
-ghost use Rattle.bench_commands.specs.Fault.{end_of};
-ghost use Rattle.bench_commands.specs.Serve.{EndsFor, GoesForWords, IsHelp, IsReason, IsRunAsked, NamesNoInput, TellsOf};
-ghost use Rattle.bench_commands.specs.Why.{StopsFor};
+ghost use Rattle.bench_commands.specs.{Answer.{GoesFor, path_of}, Fault.{end_of}, Serve.{EndsFor, GoesForWords, IsHelp, IsReason, IsRunAsked, NamesNoInput, TellsOf}, Why.{StopsFor}};
 ghost use Rattle.shell.specs.Ending.{Puts, TakesAtMost, input_path, most_bytes};
 
 use crate::commands::answer;

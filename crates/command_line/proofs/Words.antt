@@ -1,11 +1,8 @@
 -- What clap's matches say of a number.
 use Rattle.command_line.proofs.Basics.{rules, ◌≡◌, ◌≢◌, inl, inr, ◌∙◌, ap, sym, subst, codes, [], ℕ, List, Option, Some, None, Result, Ok, Err, IfSome, IsNone, refl, true, false, App, Row, Text, HasKind, HasMatchesOf, IsAmong, ReadsOne, app_of, fault_of, is_simple, is_simple_and_free, kind_of, subcommand_of, subcommand_rows_of, Command, IsCommand, Prints, app_with}
-use Rattle.clap.specs.declared.error.Error.{Error}
-use Rattle.clap.specs.declared.error.kind.ErrorKind.TheVariants.{DisplayHelp, OutOfMemory}
-use Rattle.clap.specs.declared.parser.matches.ArgMatches.{ArgMatches}
+use Rattle.clap.specs.declared.{error.{Error.{Error}, kind.ErrorKind.TheVariants.{DisplayHelp, OutOfMemory}}, parser.matches.ArgMatches.{ArgMatches}}
 use Rattle.clap.proofs.OnLiterals.{clap_on_literals}
-use Rattle.command_line.specs.Order.{AsksHelp, IsMistaken, IsNumberAt, States, StatesNothing, StatesCheck, StatesCompare, StatesIn, StatesList, StatesNothingIn, StatesRun}
-use Rattle.command_line.specs.declared.order.Order.{Order}
+use Rattle.command_line.specs.{Order.{AsksHelp, IsMistaken, IsNumberAt, States, StatesNothing, StatesCheck, StatesCompare, StatesIn, StatesList, StatesNothingIn, StatesRun}, declared.order.Order.{Order}}
 use Rattle.command_line.specs.declared.order.Order.TheVariants as order
 
 -- a number that was read is that of a text that is there

@@ -1,10 +1,6 @@
 -- The command line, as clap sees it.
-use Rattle.std.specs.Prelude.{◌≡◌, [], ◌∷◌, IfOk, Ok, Result, Some, map, codes, false}
-use Rattle.clap.specs.Words.{App, Rule, Text, rule_of, app_of, new_app, new_rule, with_rule, with_subcommand}
-use Rattle.clap.specs.declared.builder.arg.Arg.{Arg}
-use Rattle.clap.specs.declared.builder.command.Command.TheViews.{out-Command}
-use Rattle.clap.specs.declared.builder.command.Command.{Command}
-use Rattle.clap.specs.declared.builder.value_parser.ValueParser.{ValueParser}
+use Rattle.std.specs.Prelude.{◌≡◌, [], ◌∷◌, Ok, Result, Some, map, codes, false}
+use Rattle.clap.specs.{Words.{App, Rule, Text, app_of, new_app, new_rule, with_rule, with_subcommand}, declared.builder.{command.Command.{Command, TheViews.{out-Command}}, value_parser.ValueParser.{ValueParser}}}
 use Rattle.clap.specs.declared.builder.value_parser.ValueParser.TheVariants as parser
 
 -- help shows one name for the value
@@ -56,25 +52,12 @@ whole_app list run = with_windows (with_list (new_app (codes "fdbench")) list) r
 
 -- the parser takes just these words
 abbrev pub TakesPrints : ValueParser → Type 0
-TakesPrints (parser.Names names) =
-    map (λ n. n.now) names.now ≡ codes "trace" ∷ codes "report" ∷ codes "both" ∷ []
+TakesPrints (parser.Names names) = map (λ n. n.now) names.now ≡ codes "trace" ∷ codes "report" ∷ codes "both" ∷ []
 TakesPrints _ = ⊥
 
 -- no argument is one of each subcommand too
 abbrev pub IsLocal : Command → Type 0
 IsLocal c = (out-Command c).has_globals ≡ false
-
-pub record IsPrintOption (a : Arg) : Type 0 where
-  pub prints : ValueParser
-  pub takes : TakesPrints prints
-  pub rule : rule_of a ≡ option_rule (codes "print") prints
-
--- the command takes such an option too
-pub record IsPrinting (app : ValueParser → App) (c : Command) : Type 0 where
-  pub prints : ValueParser
-  pub takes : TakesPrints prints
-  pub app_is : app_of c ≡ app prints
-  pub local : IsLocal c
 
 -- the parsers of what `list` prints, and of what `run` prints
 pub record Prints : Type 0 where
@@ -85,15 +68,6 @@ pub record Prints : Type 0 where
 
 abbrev pub app_with : Prints → App
 app_with prints = whole_app prints.list prints.run
-
-pub record IsCommand (c : Command) : Type 0 where
-  pub prints : Prints
-  pub app : app_of c ≡ app_with prints
-  pub local : IsLocal c
-
--- where a command was made it is this one
-abbrev pub Makes : {E : Type 0} → App → Result Command E → Type 0
-Makes app made = IfOk made (λ c. (app_of c ≡ app) × IsLocal c)
 
 -- the command has another beside what it had
 pub record Adds {E : Type 0} (old added : Result Command E) (new : Command) : Type 0 where

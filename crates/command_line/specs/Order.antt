@@ -1,16 +1,8 @@
 -- What the words of a command line state.
-use Rattle.std.specs.Prelude.{◌≡◌, ◌≢◌, [], ℕ, nat_eq, Bool, List, Ok, Option, Some, codes, if◌then◌else◌}
-use Rattle.std.specs.Cmp.Lexicographic.{pointwise}
-use Rattle.std.specs.Option.{option_map_or}
-use Rattle.std.specs.Str.Parse.{ParsesUnsigned}
-use Rattle.std.specs.declared.num.ParseIntError.{ParseIntError}
-use Rattle.clap.specs.Words.{Row, Text, subcommand_of, first_of, one_of, fault_of, IsAmong}
-use Rattle.clap.specs.declared.error.kind.ErrorKind.{ErrorKind}
-use Rattle.clap.specs.declared.error.kind.ErrorKind.TheVariants.{DisplayHelp}
-use Rattle.command_line.specs.Commands.{Prints, app_with}
-use Rattle.command_line.specs.declared.order.Order.{Order}
+use Rattle.std.specs.{Prelude.{◌≡◌, ◌≢◌, [], ℕ, nat_eq, Bool, List, Ok, Option, Some, codes, if◌then◌else◌}, Cmp.Lexicographic.{pointwise}, Option.{option_map_or}, Str.Parse.{ParsesUnsigned}, declared.num.ParseIntError.{ParseIntError}}
+use Rattle.clap.specs.{Words.{Row, Text, subcommand_of, first_of, one_of, fault_of, IsAmong}, declared.error.kind.ErrorKind.{ErrorKind, TheVariants.{DisplayHelp}}}
+use Rattle.command_line.specs.{Commands.{Prints, app_with}, declared.order.{Order.{Order}, WordsError.{WordsError}}}
 use Rattle.command_line.specs.declared.order.Order.TheVariants as order
-use Rattle.command_line.specs.declared.order.WordsError.{WordsError}
 use Rattle.command_line.specs.declared.order.WordsError.TheVariants as refusal
 use Rattle.process_api.specs.declared.print_choice.PrintChoice.{PrintChoice}
 use Rattle.process_api.specs.declared.print_choice.PrintChoice.TheVariants as choice
@@ -29,8 +21,7 @@ same_text = pointwise nat_eq
 
 -- what a word that the parser takes stands for
 unfoldable pub choice_of : Text → PrintChoice
-choice_of word =
-    if same_text word (codes "trace") then choice.Trace
+choice_of word = if same_text word (codes "trace") then choice.Trace
     else if same_text word (codes "both") then choice.Both
     else choice.Report
 
@@ -86,7 +77,6 @@ pub record StatesNothing (words : List Text) : Type 0 where
   pub taken : fault_of (app_with prints) words ≡ []
   pub nothing : StatesNothingFound (subcommand_of (app_with prints) words)
 
--- the words ask for help
 pub record AsksHelp (words : List Text) : Type 0 where
   pub prints : Prints
   pub help : IsAmong DisplayHelp (fault_of (app_with prints) words)

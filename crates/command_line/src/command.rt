@@ -1,7 +1,7 @@
 //! The command line, with its help.
 ghost use Rattle.std.specs.Prelude.{◌≡◌, IfOk, codes, false};
 ghost use Rattle.clap.specs.Words.{App, rule_of, with_rule};
-ghost use Rattle.command_line.specs.Commands.{Adds, IsCommand, IsLocal, IsPrintOption, IsPrinting, Makes, check_app, compare_app, list_app, number, option_rule, path_rule, run_app, with_path, with_plan, with_print};
+ghost use Rattle.command_line.specs.{Commands.{Adds, IsLocal, check_app, compare_app, list_app, number, option_rule, path_rule, run_app, with_path, with_plan, with_print}, Inside.Private.{IsCommand, IsPrintOption, IsPrinting, Makes}};
 
 use clap::builder::ValueParser;
 use clap::{Arg, Command, value_parser};

@@ -1,8 +1,7 @@
 //! Orders: the tasks that a command line asks for.
 ghost use Rattle.std.specs.Prelude.{◌≡◌, ℕ, IfOk, IfErr, IfSome, IsNone, Some, None, List, option_map, map};
 ghost use Rattle.clap.specs.Words.{HasKind, Text, fault_of, rows_of, found_of, first_of, subcommand_rows_of};
-ghost use Rattle.command_line.specs.Commands.{Prints, app_with};
-ghost use Rattle.command_line.specs.declared.order.Order.{Order as Asked};
+ghost use Rattle.command_line.specs.{Commands.{Prints, app_with}, declared.order.Order.{Order as Asked}};
 ghost use Rattle.command_line.specs.Order.{IsNumberAt, States, StatesCheck, StatesCompare, StatesFound, StatesIn, StatesList, StatesNothingFound, StatesNothingIn, StatesPrint, StatesRun, Explains, choice_of};
 
 use crate::command::command;

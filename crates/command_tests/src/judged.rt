@@ -1,7 +1,6 @@
 //! Traces of whole runs, and their outcomes.
 ghost use Rattle.std.specs.Prelude.{◌≡◌};
-ghost use Rattle.trace_laws.specs.Setting.{setting_of};
-ghost use Rattle.trace_laws.specs.World.{IsTrace};
+ghost use Rattle.trace_laws.specs.{Setting.{setting_of}, World.{IsTrace}};
 
 use crate::common::{NO_MEMORY, NO_RUN, same, scenario_of};
 use crate::files::COORDINATORS;

@@ -1,7 +1,6 @@
 //! Two workers that must be at work at the same time, or the run fails, over machines of the test's own, in boxes.
 ghost use Rattle.std.specs.Prelude.{◌≡◌, IfOk, map};
-ghost use Rattle.process_api.specs.Place.{numbers_to};
-ghost use Rattle.scenario_record.specs.Record.{opening_mind};
+ghost use Rattle.{process_api.specs.Place.{numbers_to}, scenario_record.specs.Record.{opening_mind}};
 ghost use Rattle.windows.specs.Plan.{IsPlanFor};
 
 use crate::common::{NO_MEMORY, NO_RUN, changed, printed, same, scenario_of};

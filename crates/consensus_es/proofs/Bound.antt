@@ -1,17 +1,13 @@
 -- At most n rounds are left in one input, because no process passes Await as the coordinator before its own proposal came. So it makes at most 6 n + 3 actions.
 use Rattle.consensus_es.proofs.Words.{◌≡◌, ◌⊎◌, ℕ, zero, suc, ◌+◌, ◌-◌, ◌*◌, ◌/◌, ◌%◌, ◌<◌, ◌≤◌, inl, inr, refl, sym, ap, ◌∙◌, subst, Bool, true, false, cond, ◌&&◌, not, arith, nat_lt, nat_le, nat_eq, Option, None, Some, IfSome, unwrap_or, List, [], ◌∷◌, ◌++◌, length, length-append, mod-lt, mod-eq_of_lt, eqb-true, eq-eqb, cases_lt, cond_both, and_parts, not-true, both_ways, false≢true, none-some, Kept, Coordinator, is_decided, is_opening, is_running, keep, enter, leave, reply, end_wait, waits_left, end_waits, is_timely, is_early, receive, begin, step_coordinator, opening_coordinator, Answer, to_all, after, still, coordinator, greatest_round, is_own, Estimate, Phase, Opening, Collect, Await, Tally, Decided, Ended, StepInput, Action, own_below, is_in_place}
-use Rattle.std.proofs.Math.Nat.{mod-add-div', add-mul-mod_self_right, add-mod_right}
-use Rattle.std.proofs.lemmas.Bool.Decides.{nat_tests}
-use Rattle.process_api.specs.Place.{most_processes, most_algorithm_actions, Place, same_place}
-use Rattle.process_api.specs.Rows.{keep_one}
-use Rattle.process_api.specs.declared.message.Payload.{Payload}
+use Rattle.consensus_es.proofs.Cases.{by_leave, by_reply, by_collect, by_await, by_tally}
+use Rattle.std.proofs.{Math.Nat.{mod-add-div', add-mul-mod_self_right, add-mod_right}, lemmas.Bool.Decides.{nat_tests}}
+use Rattle.process_api.specs.{Place.{most_processes, most_algorithm_actions, Place, same_place}, Rows.{keep_one}, declared.message.Payload.{Payload}}
 use Rattle.process_api.specs.declared.message.Payload.TheVariants as payload
 use Rattle.process_api.specs.declared.message.StepInput.TheVariants as input
 use Rattle.process_api.specs.declared.action.Note.TheVariants as note
 use Rattle.process_api.specs.declared.action.Action.TheVariants as action
-use Rattle.process_api.proofs.Sending.{length-to_all}
-use Rattle.process_api.proofs.Waits.{by_ends}
-use Rattle.consensus_es.proofs.Cases.{by_leave, by_reply, by_collect, by_await, by_tally}
+use Rattle.process_api.proofs.{Sending.{length-to_all}, Waits.{by_ends}}
 use Rattle.consensus_es.specs.State as orderly_of
 
 pub same_itself : (p : Place) → same_place p p ≡ true

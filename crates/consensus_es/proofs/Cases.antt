@@ -1,7 +1,6 @@
 -- What a process may come to as a wait ends, case by case.
 use Rattle.consensus_es.proofs.Words.{◌≡◌, ℕ, ◌+◌, Bool, true, false, cond, nat_lt, nat_le, Option, None, Some, is_some, unwrap_or, [], ◌∷◌, cond_both, Answer, to_all, after, still, Coordinator, best_to, enter, leave, propose, collect, reply, adopt, await, tally, greatest_round, coordinator, is_own, majority, count_to, Estimate, Tally, Ended}
-use Rattle.process_api.specs.declared.action.Action.TheVariants.{Send}
-use Rattle.process_api.specs.declared.message.Payload.TheVariants.{Reply, Decide}
+use Rattle.process_api.specs.declared.{action.Action.TheVariants.{Send}, message.Payload.TheVariants.{Reply, Decide}}
 use Rattle.process_api.proofs.Lists.{option_both}
 
 module _ (n own : ℕ) (s : Coordinator) where

@@ -1,7 +1,7 @@
 -- The number of waits that may end is enough: after an input no wait is over.
 use Rattle.consensus_es.proofs.Words.{◌≡◌, ℕ, ◌+◌, ◌-◌, ◌*◌, ◌<◌, ◌≤◌, refl, Bool, true, false, cond, arith, Option, None, Some, IfSome, ltb-true, Estimate, Phase, Collect, Await, Tally, Coordinator, enter, leave, reply, end_wait, waits_left, end_waits, settle, begin, step_coordinator, Answer, after, still, is_own, greatest_round, StepInput}
-use Rattle.process_api.proofs.Waits as waits
 use Rattle.consensus_es.proofs.Cases.{by_leave, by_reply, by_collect, by_await, by_tally}
+use Rattle.process_api.proofs.Waits as waits
 
 module _ (n own : ℕ) (is_suspected : ℕ → Bool) where
   -- fewer than so many can end

@@ -1,26 +1,13 @@
 -- A process's progress, its letters and proposals as the definition's state, and what its functions do.
-use Rattle.std.specs.Prelude.{◌≡◌, ◌++◌, ℕ, Bool, true, false, Option, None, Some, List, unwrap_or, if◌then◌else◌, [], ◌+◌, ◌<◌, nat_eq, ◌⊎◌, ◌*◌, ◌≤◌, length}
+use Rattle.std.specs.{Prelude.{◌≡◌, ◌++◌, ℕ, Bool, true, false, Option, None, Some, List, unwrap_or, if◌then◌else◌, [], ◌+◌, ◌<◌, nat_eq, ◌⊎◌, ◌*◌, ◌≤◌, length}, Ordering.{nat_cmp}}
 use Rattle.std.specs.FinSet as set
-use Rattle.std.specs.Ordering.{nat_cmp}
 use Rattle.std.specs.BTreeSet as tree_set
-use Rattle.process_api.specs.Answer.{Answer, still, after}
-use Rattle.process_api.specs.Coordinator.{count_to, is_own, Coordinator, opening_coordinator, step_coordinator, Seen, relay, best_to, end_wait, settle}
-use Rattle.process_api.specs.Mind.{AlgorithmState, Coordinating}
-use Rattle.process_api.specs.Sets.{Processes}
-use Rattle.process_api.specs.Letters as kept
+use Rattle.process_api.specs.{Answer.{Answer, still, after}, Coordinator.{count_to, is_own, Coordinator, opening_coordinator, step_coordinator, Seen, relay, best_to, end_wait, settle}, Mind.{AlgorithmState, Coordinating}, Sets.{Processes}}
 use Rattle.process_api.specs.Letters.{by_number}
-use Rattle.process_api.specs.declared.action.Action.{Action}
-use Rattle.process_api.specs.declared.consensus.Phase.{Phase}
-use Rattle.process_api.specs.declared.membership.Membership.{Membership}
-use Rattle.process_api.specs.declared.message.StepInput.{StepInput}
-use Rattle.process_api.specs.declared.consensus.Phase.TheVariants.{Opening, Collect, Await, Tally, Decided, Ended}
+use Rattle.process_api.specs.declared.{action.Action.{Action}, consensus.{Phase.{Phase, TheVariants.{Opening, Collect, Await, Tally, Decided, Ended}}, Estimate.{Estimate}}, membership.Membership.{Membership}, message.StepInput.{StepInput}}
 use Rattle.process_api.specs.declared.letters.Letters.{Letters}
-use Rattle.process_api.specs.declared.consensus.Estimate.{Estimate}
-use Rattle.scenario_record.specs.Opening.{place_of}
-use Rattle.scenario_record.specs.declared.opening.Opening.{Opening as ProcessOpening}
-use Rattle.consensus_es.specs.declared.progress.Progress.{Progress}
-use Rattle.consensus_es.specs.declared.proposals.Proposals.{Proposals}
-use Rattle.consensus_es.specs.declared.diffusion.Diffusion.{Diffusion}
+use Rattle.process_api.specs.Letters as kept
+use Rattle.{scenario_record.specs.{Opening.{place_of}, declared.opening.Opening.{Opening as ProcessOpening}}, consensus_es.specs.declared.{progress.Progress.{Progress}, proposals.Proposals.{Proposals}, diffusion.Diffusion.{Diffusion}}}
 
 abbrev pub seen_of : Diffusion → Seen
 seen_of diffusion = λ round. tree_set.contains nat_cmp diffusion.rounds round
@@ -114,7 +101,6 @@ SettlesByEnds = (n own : ℕ) (is_suspected : ℕ → Bool) (s : Coordinator)
     → settle n own is_suspected (still s) ≡ after a.actions (settle n own is_suspected (still a.state)))
     × (end_wait n own is_suspected s ≡ None → settle n own is_suspected (still s) ≡ still s)
 
--- the opening state is orderly
 abbrev pub OpensOrderly : Type 0
 OpensOrderly = (n own proposal : ℕ) → IsOrderly n own (opening_coordinator proposal)
 
@@ -137,8 +123,7 @@ IsBehind e q p d = (d.stamp < e.stamp) ⊎ ((d.stamp ≡ e.stamp) × (q ≤ p))
 
 -- of the estimates of 1 to n, e has the largest stamp, and of these the least sender
 abbrev pub IsBest : ℕ → (ℕ → Option Estimate) → Estimate → Type 0
-IsBest n of_sender e =
-    (q : ℕ) × (1 ≤ q) × (q ≤ n) × (of_sender q ≡ Some e)
+IsBest n of_sender e = (q : ℕ) × (1 ≤ q) × (q ≤ n) × (of_sender q ≡ Some e)
     × ((p : ℕ) → 1 ≤ p → p ≤ n → (d : Estimate) → of_sender p ≡ Some d → IsBehind e q p d)
 
 -- every estimate that is chosen is the best

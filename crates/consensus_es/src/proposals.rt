@@ -13,8 +13,7 @@ pub struct Proposals {
 }
 
 impl Proposals {
-    ghost use Rattle.consensus_es.specs.State.{of_round, no_proposals};
-    ghost use Rattle.process_api.specs.Letters.{since_round};
+    ghost use Rattle.{consensus_es.specs.State.{of_round, no_proposals}, process_api.specs.Letters.{since_round}};
 
     /// No proposals.
     pub fn new(alloc: Global) -> Proposals

@@ -1,12 +1,9 @@
 -- The number of waits that may end is enough: after an input no wait is over. While a process doesn't suspect itself, one wait ends at most.
 use Rattle.consensus_s.proofs.Words.{◌≡◌, ◌⊎◌, ℕ, zero, suc, ◌+◌, ◌<◌, ◌≤◌, inl, inr, refl, sym, ap, ◌∙◌, subst, Bool, true, false, cond, ◌&&◌, ◌||◌, arith, nat_lt, nat_le, nat_eq, Option, None, Some, IfSome, is_some, unwrap_or, List, [], ◌++◌, length, append_assoc, append-nil, leb-true, leb-false, ltb-true, ltb-false, eqb-true, and_parts, cond_both, both_ways, not-true, nat_tests, Vector, Exchange, all_to, keep, above, enter, is_running, is_over, gather, decide, end_wait, end_waits, waits_left, is_timely, receive_cells, receive, begin, step_exchange, IsOrderly, end_one}
 use Rattle.std.proofs.lemmas.Option.{none-some}
-use Rattle.process_api.specs.Answer.{Answer, still, after, to_all}
-use Rattle.process_api.specs.declared.message.Payload.{Payload}
+use Rattle.process_api.specs.{Answer.{Answer, still, after, to_all}, declared.{message.{Payload.{Payload}, StepInput.{StepInput}}, action.Action.{Action}}}
 use Rattle.process_api.specs.declared.message.Payload.TheVariants as payload
-use Rattle.process_api.specs.declared.message.StepInput.{StepInput}
 use Rattle.process_api.specs.declared.message.StepInput.TheVariants as input
-use Rattle.process_api.specs.declared.action.Action.{Action}
 use Rattle.process_api.proofs.Sending.{length-to_all}
 use Rattle.process_api.proofs.Waits as waits
 

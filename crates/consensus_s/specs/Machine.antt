@@ -1,11 +1,6 @@
 -- What a machine's part is, as plain data.
-use Rattle.std.specs.Prelude.{Bool, unwrap_or}
-use Rattle.process_api.specs.ConsensusS.{opening_exchange}
-use Rattle.process_api.specs.Mind.{AlgorithmState, Exchanging}
-use Rattle.scenario_record.specs.Opening.{place_of}
-use Rattle.scenario_record.specs.declared.opening.Opening.{Opening}
-use Rattle.consensus_s.specs.declared.machine.SConsensus.{SConsensus}
-use Rattle.consensus_s.specs.State.{exchange_of}
+use Rattle.{std.specs.Prelude.{Bool, unwrap_or}, process_api.specs.{ConsensusS.{opening_exchange}, Mind.{AlgorithmState, Exchanging}}, scenario_record.specs.{Opening.{place_of}, declared.opening.Opening.{Opening}}}
+use Rattle.consensus_s.specs.{declared.machine.SConsensus.{SConsensus}, State.{exchange_of}}
 
 abbrev pub state_of : SConsensus → AlgorithmState
 state_of s = Exchanging (place_of s.opening) (exchange_of s.exchange)

@@ -1,15 +1,8 @@
 -- The state of the exchange that the code holds. Kept letters as a function of round and sender.
 use Rattle.std.specs.Prelude.{◌≡◌, ℕ, ◌<◌, Bool, None, Some, false, not, is_some, Option}
 use Rattle.std.specs.FinSet as set
-use Rattle.process_api.specs.Answer.{Answer, still}
-use Rattle.process_api.specs.ConsensusS.{Exchange, end_wait, step_exchange, Kept, any_to, first_to, settle}
-use Rattle.process_api.specs.Sets.{Processes}
-use Rattle.process_api.specs.Rows.{Vector, cell}
-use Rattle.process_api.specs.Letters.{by_sender}
-use Rattle.process_api.specs.declared.message.StepInput.{StepInput}
-use Rattle.process_api.specs.declared.letters.Letters.{Letters}
-use Rattle.scenario_record.specs.declared.opening.Opening.{Opening}
-use Rattle.consensus_s.specs.declared.exchange.Exchange.{Exchange as Held}
+use Rattle.process_api.specs.{Answer.{Answer, still}, ConsensusS.{Exchange, end_wait, step_exchange, Kept, any_to, first_to, settle}, Sets.{Processes}, Rows.{Vector, cell}, Letters.{by_sender}}
+use Rattle.{process_api.specs.declared.{message.StepInput.{StepInput}, letters.Letters.{Letters}}, scenario_record.specs.declared.opening.Opening.{Opening}, consensus_s.specs.declared.exchange.Exchange.{Exchange as Held}}
 
 abbrev pub kept_of : Letters Vector → Kept
 kept_of letters = by_sender letters

@@ -1,10 +1,8 @@
 //! The exchange of vectors at one process.
 ghost use Rattle.std.specs.Prelude.{◌≡◌, ◌≤◌, ◌<◌, ◌+◌, ◌++◌, false, if◌then◌else◌, is_some, None, IfOk, OnOk, length};
 ghost use Rattle.std.specs.FinSet as set;
-ghost use Rattle.process_api.specs.Place.{most_processes};
-ghost use Rattle.process_api.specs.Rows.{cell};
-ghost use Rattle.process_api.specs.ConsensusS.{cells_of, opening_exchange, or_else};
-ghost use Rattle.process_api.specs.ConsensusS.{begin as begun, decide as decided, enter as entered, gather as gathered, is_running as is_running_in, is_timely as is_timely_for, receive as received, receive_cells as received_cells};
+ghost use Rattle.process_api.specs.{Place.{most_processes}, Rows.{cell}};
+ghost use Rattle.process_api.specs.ConsensusS.{cells_of, opening_exchange, or_else, begin as begun, decide as decided, enter as entered, gather as gathered, is_running as is_running_in, is_timely as is_timely_for, receive as received, receive_cells as received_cells};
 ghost use Rattle.consensus_s.specs.State.{kept_of, missed_in, told_in, ended, exchange_of, stepped, IsOrderly};
 
 use crate::letters::{is_missed, is_over, keep, leave, told};

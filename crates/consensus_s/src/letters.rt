@@ -1,10 +1,7 @@
 //! The letters that are kept, and the contents of those of a round.
-ghost use Rattle.std.specs.Prelude.{◌≡◌, ◌≤◌, ℕ, ◌||◌, false, not, is_some, None, Some, OnOk};
+ghost use Rattle.std.specs.{Prelude.{◌≡◌, ◌≤◌, ℕ, ◌||◌, false, not, is_some, None, Some, OnOk}, Option.{option_copied}};
 ghost use Rattle.std.specs.FinSet as set;
-ghost use Rattle.std.specs.Option.{option_copied};
-ghost use Rattle.process_api.specs.Place.{most_processes};
-ghost use Rattle.process_api.specs.Rows.{cell};
-ghost use Rattle.process_api.specs.ConsensusS.{above, all_to, keep as keep_of};
+ghost use Rattle.process_api.specs.{Place.{most_processes}, Rows.{cell}, ConsensusS.{above, all_to, keep as keep_of}};
 ghost use Rattle.consensus_s.specs.State.{kept_of, missed_in, told_in};
 
 use process_api::{Cells, Letters, Pid, ProcSet};

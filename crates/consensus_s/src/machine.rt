@@ -1,7 +1,6 @@
 //! Consensus with S as a part of a machine.
 ghost use Rattle.std.specs.Prelude.{◌≡◌, false};
-ghost use Rattle.std.proofs.Props.{props};
-ghost use Rattle.consensus_s.specs.State.{exchange_of, IsOrderly};
+ghost use Rattle.{std.proofs.Props.{props}, consensus_s.specs.State.{exchange_of, IsOrderly}};
 
 use crate::exchange::Exchange;
 use process_api::{Action, Algorithm, ProcSet, StepInput};

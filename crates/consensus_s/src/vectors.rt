@@ -1,8 +1,6 @@
 //! Vectors of proposals.
 ghost use Rattle.std.specs.Prelude.{◌≡◌, ◌≤◌, ℕ, Option, nat_eq, None, Some, if◌then◌else◌, IfOk};
-ghost use Rattle.process_api.specs.Place.{most_processes};
-ghost use Rattle.process_api.specs.Rows.{cell};
-ghost use Rattle.process_api.specs.ConsensusS.{cells_of, first_to};
+ghost use Rattle.process_api.specs.{Place.{most_processes}, Rows.{cell}, ConsensusS.{cells_of, first_to}};
 
 use process_api::{Cells, Pid};
 use std::alloc::{AllocError, Global};

@@ -1,10 +1,7 @@
 -- What a step on one deque is to its owner, to a permit, and to a worker's hand.
 use Rattle.deques.proofs.Words.{◌≡◌, ◌≢◌, inl, inr, ℕ, zero, suc, ◌-◌, ◌<◌, ◌≤◌, List, [], ◌∷◌, ◌++◌, length, map, set, get_or, Option, Some, None, MatchOption, refl, sym, ap, ◌∙◌, subst, append_assoc, append-nil, arith, Contains, flat_map, IsPermutation, map-set_same, All-head, Contains-append_left, Contains-append_right, IsPermutation-append_right, IsPermutation-append_comm, Account, has_taken, new_pass, told_in, AreTold, IsBalanced, EachOnce, takes, among, DequeId, OwnerView, PermitView, HandView, owner_of, permit_of, hand_of, hand_at, MayTell, Popped, Stole, TookOne}
 use Rattle.crossbeam_deque.proofs.Lists.{at_index}
-use Rattle.crossbeam_deque.specs.Tasks.{Takes}
-use Rattle.crossbeam_deque.specs.Steals.{MatchSteal}
-use Rattle.crossbeam_deque.specs.declared.steal.Steal.{Steal}
-use Rattle.crossbeam_deque.specs.declared.steal.Steal.TheVariants.{Empty, Success, Retry}
+use Rattle.crossbeam_deque.specs.{Tasks.{Takes}, Steals.{MatchSteal}, declared.steal.Steal.{Steal, TheVariants.{Empty, Success, Retry}}}
 use Rattle.ledger.specs.Ledger as ledger
 use Rattle.ledger.proofs.Totals.{gather_same, gather_more}
 

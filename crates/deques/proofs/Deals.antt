@@ -1,10 +1,7 @@
 -- What is dealt to the workers, and what comes back from them.
 use Rattle.deques.proofs.Words.{◌≡◌, ◌⊎◌, inl, inr, ℕ, zero, suc, ◌+◌, ◌-◌, ◌<◌, ◌≤◌, ◌%◌, if◌then◌else◌, List, [], ◌∷◌, ◌++◌, length, map, take, drop, set, get_or, nat_eq, Bool, true, false, Some, None, refl, sym, ap, ◌∙◌, subst, append_assoc, append-nil, arith, All, Contains, flat_map, IsPermutation, length-map, map-append, map_more, get_or_default, map-set_same, map-map, All-nil, All-cons, All-get_or, All-head, All-map, All-tail, IsPermutation-refl, IsPermutation-trans, IsPermutation-append_left, IsPermutation-append_right, IsPermutation-append_comm, each_with, mixed_at, with-map, DequeId, Dealt, OwnerView, PermitView, HandView, RestView, permit_of, hand_at, rest_of, deques_of, dealt_of, all_put, one_out, many_out, blank, one_back, MayTell, HasTold, AreBlank, CanHold, IsDealt, with_item, share_from, AreShares, CameBack, Popped, TookLast}
-use Rattle.std.proofs.lemmas.Bool.{cases_eq, eq-eqb, ne_eqb}
-use Rattle.std.proofs.lemmas.List.Edits.{map_over_more}
-use Rattle.std.proofs.lemmas.List.Concat.{flat_map-append}
-use Rattle.std.proofs.lemmas.List.Folds.{flat_map-map}
 use Rattle.deques.proofs.Dealings.{flat_more, flat_has}
+use Rattle.std.proofs.lemmas.{Bool.{cases_eq, eq-eqb, ne_eqb}, List.{Edits.{map_over_more}, Concat.{flat_map-append}, Folds.{flat_map-map}}}
 
 module _ {T : Type 0} where
   put_has : (os : List (OwnerView T)) (i : ℕ) (o : OwnerView T) → o ≡ get_or os i o → i < length os → (x : T) → Contains o.put x → Contains (all_put (map dealt_of os)) x

@@ -1,8 +1,5 @@
 -- What contracts see of the deques of a window: of one deque, of a worker's hand, and of what is left.
-use Rattle.std.specs.Prelude.{◌≡◌, ◌⊎◌, ℕ, zero, suc, ◌+◌, ◌-◌, ◌<◌, ◌%◌, if◌then◌else◌, List, [], ◌∷◌, ◌++◌, map, length, nat_eq, slice_index_or, Option, Some}
-use Rattle.std.specs.Global.{Global}
-use Rattle.std.specs.List.{Contains, flat_map}
-use Rattle.std.specs.List.Sorted.{IsPermutation}
+use Rattle.std.specs.{Prelude.{◌≡◌, ◌⊎◌, ℕ, zero, suc, ◌+◌, ◌-◌, ◌<◌, ◌%◌, if◌then◌else◌, List, [], ◌∷◌, ◌++◌, map, length, nat_eq, slice_index_or, Option, Some}, Global.{Global}, List.{Contains, flat_map, Sorted.{IsPermutation}}}
 use Rattle.atomic_blocks.specs.Lent.{RowsId}
 
 -- which deque it is
@@ -114,20 +111,17 @@ module _ {T : Type 0} where
 
   -- all permits of a deque are out and tell what was put in, and nothing was taken
   abbrev pub HasTold : (out : ℕ) → List (Dealt T) → OwnerView T → Type 0
-  HasTold out own o =
-      (o.out ≡ out) × (o.told ≡ Some o.put) × (o.taken ≡ [])
+  HasTold out own o = (o.out ≡ out) × (o.told ≡ Some o.put) × (o.taken ≡ [])
       × ((x : T) → Contains o.put x → Contains (all_put own) x)
 
   -- a permit for each deque, by which nothing was stolen yet
   abbrev pub AreBlank : (count : ℕ) → List (Dealt T) → List (PermitView T) → Type 0
-  AreBlank count own permits =
-      (length permits ≡ count) × (map (λ p. p.deque) permits ≡ deques_of own)
+  AreBlank count own permits = (length permits ≡ count) × (map (λ p. p.deque) permits ≡ deques_of own)
       × (flat_map (λ p. p.known) permits ≡ all_put own) × (stolen_by permits ≡ [])
 
   -- a hand has a place among its permits, its deque has told, all permits of that are out, and they tell what it told
   abbrev pub CanHold : (place count : ℕ) → OwnerView T → List (PermitView T) → Type 0
-  CanHold place count o permits =
-      (place < count) × (o.out ≡ count) × (o.told ≡ Some o.put)
+  CanHold place count o permits = (place < count) × (o.out ≡ count) × (o.told ≡ Some o.put)
       × ((x : T) → Contains o.put x → Contains (flat_map (λ p. p.known) permits) x)
 
   -- the hand of a worker that has not begun
@@ -141,8 +135,7 @@ module _ {T : Type 0} where
 
   -- the owner took one item more, which was put in as far as it was told
   abbrev pub Popped : (old new : OwnerView T) → T → Type 0
-  Popped old new x =
-      (new ≡ owner_of old.deque old.out old.put (old.taken ++ x ∷ []) old.told)
+  Popped old new x = (new ≡ owner_of old.deque old.out old.put (old.taken ++ x ∷ []) old.told)
       × ((all : List T) → old.told ≡ Some all → Contains all x)
 
   -- one item more was stolen by this permit, one of those that were put in
@@ -151,12 +144,10 @@ module _ {T : Type 0} where
 
   -- a worker took one item more, one of those that were put in
   abbrev pub TookOne : (old new : HandView T) → T → Type 0
-  TookOne old new x =
-      (taken : List T) × (new ≡ hand_of old.own old.deques old.known taken)
+  TookOne old new x = (taken : List T) × (new ≡ hand_of old.own old.deques old.known taken)
       × IsPermutation (old.taken ++ x ∷ []) taken × Contains old.known x
 
   -- the starter took one item more, once all permits are back
   abbrev pub TookLast : (old new : RestView T) → T → Type 0
-  TookLast old new x =
-      (taken : List T) × (new ≡ rest_of old.own 0 taken)
+  TookLast old new x = (taken : List T) × (new ≡ rest_of old.own 0 taken)
       × IsPermutation (old.taken ++ x ∷ []) taken × Contains (all_put old.own) x

@@ -1,8 +1,6 @@
 //! The starter's side of the deques: it deals the items out before the workers begin, and has what is left once they
 //! have ended.
-ghost use Rattle.std.specs.Prelude.{◌≡◌, ◌⊎◌, ◌<◌, ◌++◌, [], length, map, IfOk, OnOk, vec_len, MatchOption, Some, None};
-ghost use Rattle.std.specs.List.{All, flat_map};
-ghost use Rattle.std.specs.List.Sorted.{IsPermutation};
+ghost use Rattle.std.specs.{Prelude.{◌≡◌, ◌⊎◌, ◌<◌, ◌++◌, [], length, map, IfOk, OnOk, vec_len, MatchOption, Some, None}, List.{All, flat_map, Sorted.{IsPermutation}}};
 ghost use Rattle.ledger.specs.Ledger.{each_with};
 ghost use Rattle.deques.specs.Deques.{deques_of, dealt_of, all_put, one_out, many_out, blank, one_back, MayTell, HasTold, AreBlank, with_item, stolen_by, taken_by, AreShares, IsDealt, CameBack, TookLast};
 
@@ -18,8 +16,7 @@ pub struct Dealer<T> {
 }
 
 impl<T> Model for Dealer<T> {
-    ghost use Rattle.std.specs.Prelude.{◌≡◌, List, [], map, None};
-    ghost use Rattle.std.specs.List.{All};
+    ghost use Rattle.std.specs.{Prelude.{◌≡◌, List, [], map, None}, List.{All}};
     ghost use Rattle.deques.specs.Deques.{Dealt, dealt_of};
 
     ghost Value = { List (Dealt T) };
@@ -38,8 +35,7 @@ pub struct Rest<T> {
 }
 
 impl<T> Model for Rest<T> {
-    ghost use Rattle.std.specs.Prelude.{◌≡◌, map, Some};
-    ghost use Rattle.std.specs.List.{All, flat_map};
+    ghost use Rattle.std.specs.{Prelude.{◌≡◌, map, Some}, List.{All, flat_map}};
     ghost use Rattle.deques.specs.Deques.{RestView, rest_of, dealt_of};
 
     ghost Value = { RestView T };

@@ -1,6 +1,5 @@
 //! One deque: its owner's end, the front at which any worker may steal, and the permits by which it does.
-ghost use Rattle.std.specs.Prelude.{◌≡◌, ◌⊎◌, ◌<◌, [], ◌∷◌, ◌++◌, IfOk, OnOk, OnErr, Some, None, MatchOption};
-ghost use Rattle.std.specs.List.Sorted.{IsPermutation};
+ghost use Rattle.std.specs.{Prelude.{◌≡◌, ◌⊎◌, ◌<◌, [], ◌∷◌, ◌++◌, IfOk, OnOk, OnErr, Some, None, MatchOption}, List.Sorted.{IsPermutation}};
 ghost use Rattle.crossbeam_deque.specs.Steals.{MatchSteal};
 ghost use Rattle.deques.specs.Deques.{owner_of, one_out, blank, one_back, Popped, Stole};
 
@@ -47,8 +46,7 @@ pub(crate) struct Permit<T> {
 impl<T> Model for Permit<T> {
     ghost use Rattle.std.specs.Prelude.{◌≡◌, None, Some};
     ghost use Rattle.crossbeam_deque.specs.Handles as handles;
-    ghost use Rattle.ledger.specs.Ledger.{has_taken, new_pass, told_in};
-    ghost use Rattle.deques.specs.Deques.{PermitView, permit_of};
+    ghost use Rattle.{ledger.specs.Ledger.{has_taken, new_pass, told_in}, deques.specs.Deques.{PermitView, permit_of}};
 
     ghost Value = { PermitView T };
 
@@ -67,8 +65,7 @@ pub struct Front<T> {
 
 impl<T> Model for Front<T> {
     ghost use Rattle.std.specs.Prelude.{◌≡◌};
-    ghost use Rattle.crossbeam_deque.specs.Handles.{stealer_deque, stealer_flavor};
-    ghost use Rattle.deques.specs.Deques.{DequeId};
+    ghost use Rattle.{crossbeam_deque.specs.Handles.{stealer_deque, stealer_flavor}, deques.specs.Deques.{DequeId}};
 
     ghost Value = { DequeId };
 

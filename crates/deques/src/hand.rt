@@ -18,8 +18,7 @@ pub struct Hand<T> {
 }
 
 impl<T> Model for Hand<T> {
-    ghost use Rattle.std.specs.Prelude.{vec_len};
-    ghost use Rattle.deques.specs.Deques.{HandView, hand_at, CanHold};
+    ghost use Rattle.{std.specs.Prelude.{vec_len}, deques.specs.Deques.{HandView, hand_at, CanHold}};
 
     ghost Value = { HandView T };
 

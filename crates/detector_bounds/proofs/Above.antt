@@ -1,13 +1,12 @@
 -- What stands above a layer does nothing of it, nor of one below: it sends none of their letters, asks for none of their wakes, and
 -- notes nothing of the layer.
 use Rattle.detector_bounds.proofs.Words.{arith, ◌≡◌, ℕ, refl, sym, ap, ◌∙◌, subst, cond, List, [], ◌∷◌, ◌++◌, map, append_assoc, append-nil, inl, inr, Option, None, Some, fold, ◌==◌, AllByRecursion, fold-append, to_all, Lower, Mind, suspects_of, suspected_by, Place, react, react_lower, react_algorithm, ReductionState, gathered, next_share, step_reduction, Processes, gone, changes, Action, Payload, StepInput, Tag, Beat, Check, Share, both, images, always, weaker, IsIn, in_append, Set, with, without, after_note, based, stacked}
+use Rattle.detector_bounds.proofs.Added.{wakes_of, wakes_of-append}
 use Rattle.process_api.specs.declared.action.Action.TheVariants as action
 use Rattle.process_api.specs.declared.action.Note.TheVariants as note
 use Rattle.process_api.specs.declared.message.Payload.TheVariants as payload
 use Rattle.process_api.specs.declared.message.StepInput.TheVariants as input
-use Rattle.trace_laws.specs.Step.{noted}
-use Rattle.judges.proofs.Algorithms.{IsOfAlgorithm, algorithm_acts, all_sent}
-use Rattle.detector_bounds.proofs.Added.{wakes_of, wakes_of-append}
+use Rattle.{trace_laws.specs.Step.{noted}, judges.proofs.Algorithms.{IsOfAlgorithm, algorithm_acts, all_sent}}
 
 -- what stands above layer l: above layer 1 a reduction, and above both layers an algorithm
 abbrev pub IsAbove : (l : ℕ) → Action → Type 0

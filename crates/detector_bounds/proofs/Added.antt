@@ -1,9 +1,9 @@
 -- Which wakes and letters the actions of a step add, and when they come.
 use Rattle.detector_bounds.proofs.Words.{◌≡◌, ◌≢◌, ◌⊎◌, ℕ, ◌+◌, ◌≤◌, inl, inr, refl, sym, ap, ◌∙◌, subst, Bool, true, false, cond, if◌then◌else◌, List, [], ◌∷◌, ◌++◌, arith, cond_both, cases_lt, Action, Key, Payload, Tag, Beat, Check, Share, IsIn, Setting, Event, counted, joining, added, in_append, in_left, in_time_is}
+use Rattle.detector_bounds.proofs.Events.{IsOf, comes_of, wake_joins, letter_joins, own_joins}
 use Rattle.process_api.specs.declared.action.Action.TheVariants as action
 use Rattle.process_api.specs.declared.message.StepInput.TheVariants as input
 use Rattle.streams.specs.declared.fate.Fate.TheVariants as fate
-use Rattle.detector_bounds.proofs.Events.{IsOf, comes_of, wake_joins, letter_joins, own_joins}
 
 -- ---- the wakes among actions
 

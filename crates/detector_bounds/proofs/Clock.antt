@@ -1,11 +1,9 @@
 -- A process's wakes with a tag: it asks for one at its start, and at each for the next. So one alone is pending, and its tick is
 -- known.
 use Rattle.detector_bounds.proofs.Words.{◌≡◌, ◌≢◌, ◌⊎◌, ℕ, ◌+◌, ◌≤◌, inl, inr, refl, sym, ap, ◌∙◌, subst, Bool, true, false, cond, if◌then◌else◌, List, [], ◌∷◌, Answer, EntryRecord, Processes, Key, StepInput, Tag, IsIn, Setting, IsSound, has_crashed, World, Has, IsLeast, IsWorld, made, taken, opening, start_of, one_input, taken_cases, taken_old, taken_new}
-use Rattle.process_api.specs.declared.message.StepInput.TheVariants as input
-use Rattle.detector_bounds.proofs.Above.{IsOwnTag}
-use Rattle.detector_bounds.proofs.Added.{same_tag, same_tag-true, same_tag-itself, wakes_of}
-use Rattle.detector_bounds.proofs.Machines.{RunsDetector, own, own_up, own_down, wake_new, wake_there, wake_alone}
+use Rattle.detector_bounds.proofs.{Above.{IsOwnTag}, Added.{same_tag, same_tag-true, same_tag-itself, wakes_of}, Machines.{RunsDetector, own, own_up, own_down, wake_new, wake_there, wake_alone}}
 use Rattle.detector_bounds.proofs.Standing.{Stands, IsUnstarted, still_unstarted, starts_first, only_starts, starts_there}
+use Rattle.process_api.specs.declared.message.StepInput.TheVariants as input
 
 module _ (tag : Tag) (begin period : ℕ) where
   -- the pauses that are asked for at an input

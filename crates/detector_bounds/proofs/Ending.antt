@@ -1,7 +1,6 @@
 -- The world at the end of a tick: the list comes by it, and the entries of later ticks follow.
 use Rattle.detector_bounds.proofs.Words.{◌≡◌, ℕ, ◌<◌, ◌≤◌, inl, inr, sym, ap, ◌∙◌, subst, List, [], ◌∷◌, ◌++◌, append_assoc, append-nil, arith, AllByRecursion, EntryRecord, Key, StepInput, Setting, IsSound, World, Pair, Has, IsLeast, NoneBelow, IsWorld, Run, made, taken, opening, entries, IsTrace, opening_world, taken_cases, taken_world, made_sent}
-use Rattle.std.proofs.lemmas.List.{map-append}
-use Rattle.trace_laws.proofs.Runs.{run_exists, one_run}
+use Rattle.{std.proofs.lemmas.List.{map-append}, trace_laws.proofs.Runs.{run_exists, one_run}}
 
 module _ {Mind : Type 0} (S : Setting Mind) (sound : IsSound S) where
   -- a run up to an earlier end, and the rest

@@ -1,7 +1,6 @@
 -- How long a letter takes on a link, and that a link without loss and outage delivers each.
 use Rattle.detector_bounds.proofs.Words.{◌≡◌, ℕ, ◌+◌, ◌-◌, ◌*◌, ◌%◌, ◌≤◌, ap, ◌∙◌, subst, Bool, true, false, cond, [], nat_lt, arith, list_any, le-ltb, mod_below, Record, link, outages_on, Link, fate_of, fate_by, is_cut, word, Fate, Lost, Delay, setting_of}
-use Rattle.scenario_record.specs.Record.{covers}
-use Rattle.detector_bounds.proofs.Added.{Delivers}
+use Rattle.{detector_bounds.proofs.Added.{Delivers}, scenario_record.specs.Record.{covers}}
 
 -- a delay of the link
 abbrev pub IsDelay : Link → ℕ → Type 0

@@ -1,9 +1,8 @@
 -- A scenario's machines run its detector, whatever stands above it.
 use Rattle.detector_bounds.proofs.Words.{◌≡◌, ℕ, refl, sym, ap, ◌∙◌, subst, Answer, DetectorState, ByTimeout, ByFreshness, opening_detector, suspected_by, step_detector, FreshnessState, opening_freshness, suspected, step_freshness, Lower, Mind, Place, react, Processes, TimeoutState, opening_timeout, step_timeout, StepInput, FreshnessNumbers, TimeoutNumbers, freshness_opens, freshness_laws, Record, place_in, setting_of, based, layered, stacked}
+use Rattle.detector_bounds.proofs.{Above.{IsFollowed, mind_followed}, Machines.{RunsDetector}}
 use Rattle.process_api.specs.declared.numbers.DetectorNumbers.TheVariants as numbers
 use Rattle.process_api.proofs.TimeoutLaws.{timeout_opens, timeout_laws}
-use Rattle.detector_bounds.proofs.Above.{IsFollowed, mind_followed}
-use Rattle.detector_bounds.proofs.Machines.{RunsDetector}
 
 detector_is : (m : Mind) (now : ℕ) (x : StepInput) → (react m now x).state.lower.detector ≡ (based m.lower now x).state
 detector_is m now x = ap (λ (l : Lower). l.detector) (stacked m now x).lower ∙ (layered m.lower now x).detector

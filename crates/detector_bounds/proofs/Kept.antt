@@ -1,7 +1,5 @@
 -- The bounds are kept, by each kind of detector.
-use Rattle.detector_bounds.proofs.Words.{◌≡◌, List, refl, EntryRecord, DetectorNumbers, Timeout, Freshness, IsInRange, Record, setting_of, IsTrace, KeepsBounds}
-use Rattle.detector_bounds.proofs.Freshness.Bounded.{freshness_keeps}
-use Rattle.detector_bounds.proofs.Timeouts.Bounded.{timeout_keeps}
+use Rattle.detector_bounds.proofs.{Words.{◌≡◌, List, refl, EntryRecord, DetectorNumbers, Timeout, Freshness, IsInRange, Record, setting_of, IsTrace, KeepsBounds}, Freshness.Bounded.{freshness_keeps}, Timeouts.Bounded.{timeout_keeps}}
 
 pub bounds_kept : (s : Record) → IsInRange s → (trace : List EntryRecord) → IsTrace (setting_of s) trace → KeepsBounds s trace
 bounds_kept s ranges trace is_trace = by s.detector refl

@@ -1,11 +1,11 @@
 -- Machines that have a detector of a layer below other parts, and what one step makes of it.
 use Rattle.detector_bounds.proofs.Words.{◌≡◌, ◌≢◌, ◌⊎◌, ℕ, ◌+◌, refl, sym, ap, ◌∙◌, subst, Bool, true, false, cond, List, [], ◌∷◌, inl, inr, cases_eq, cases_Bool, notes_of_layer, Answer, still, Processes, changes, Action, Key, Payload, StepInput, Tag, changes-none, Setting, has_crashed, IsIn, World, made, taken, opening, in_left, by_receiver, process_at, process_other}
+use Rattle.detector_bounds.proofs.Above.{IsFollowed, IsOwnTag, IsOwnLetter, wakes_are, letters_are}
+use Rattle.detector_bounds.proofs.Added.{wakes_of, WakesIn, WakeComes, added_wake, wake_comes, one_wake, LetterCame, added_letter, Delivers, LetterComes, letter_comes, OwnComes, own_comes}
 use Rattle.std.specs.FinSet as set
 use Rattle.process_api.specs.declared.action.Action.TheVariants as action
 use Rattle.process_api.specs.declared.message.StepInput.TheVariants as input
 use Rattle.trace_laws.specs.Step.{Event, Process, Made, noted, added, dead, made_by}
-use Rattle.detector_bounds.proofs.Above.{IsFollowed, IsOwnTag, IsOwnLetter, wakes_are, letters_are}
-use Rattle.detector_bounds.proofs.Added.{wakes_of, WakesIn, WakeComes, added_wake, wake_comes, one_wake, LetterCame, added_letter, Delivers, LetterComes, letter_comes, OwnComes, own_comes}
 
 -- Each mind has a part, the state of a detector, which takes every input of its process; what stands above acts after it
 pub record RunsDetector {Mind D : Type 0} (layer : ℕ) (S : Setting Mind) (opening : D) (step : (p : ℕ) → D → (now : ℕ) → StepInput → Answer D) (suspects : ℕ → D → Processes) : Type 1 where

@@ -2,8 +2,7 @@
 use Rattle.detector_bounds.proofs.Words.{◌≡◌, ◌≢◌, inl, inr, ℕ, zero, suc, ◌+◌, ◌≤◌, refl, sym, ap, ◌∙◌, subst, Bool, true, false, cond, not, ◌&&◌, ◌||◌, ◌==◌, nat_eq, nat_le, List, [], ◌∷◌, ◌++◌, map, append_assoc, append-nil, fold, arith, and_right, lt-leb, le-leb, eq-eqb, ne_eqb, cases_eq, fold-append, notes_of_layer, EntryRecord, numbers_to, is_process, Processes, gone, changes, Action, and_true, Set, nobody, with, without, after_note, notes_until, out}
 use Rattle.std.specs.FinSet as set
 use Rattle.std.specs.List.{AllByRecursion, filter}
-use Rattle.std.proofs.Math.Bool.{and-false}
-use Rattle.std.proofs.lemmas.Bool.Decides.{nat_tests}
+use Rattle.std.proofs.{Math.Bool.{and-false}, lemmas.Bool.Decides.{nat_tests}}
 use Rattle.process_api.specs.declared.action.Action.TheVariants as action
 use Rattle.process_api.specs.declared.action.Note.{Note}
 use Rattle.process_api.specs.declared.action.Note.TheVariants as note

@@ -1,22 +1,16 @@
 -- Through a run with a reduction: what a watcher's base detector suspects for good, its next share tells, and who is told suspects
 -- it for good once no set of the crashed process comes anymore.
 use Rattle.detector_bounds.proofs.Words.{◌≡◌, ◌≢◌, ◌⊎◌, ℕ, zero, suc, ◌+◌, ◌-◌, ◌*◌, ◌/◌, ◌<◌, ◌≤◌, inl, inr, refl, sym, ap, ◌∙◌, subst, true, false, cond, List, [], ◌∷◌, ◌++◌, arith, max, Some, cases_lt, cases_eq, eq-eqb, ne_eqb, leb-false, le-leb, Answer, suspected_by, step_detector, EntryRecord, Mind, ReductionState, Processes, Key, StepInput, same_or_not, and_true, out, IsInRange, Record, crash, link, place_in, Link, IsIn, setting_of, Setting, IsSound, has_crashed, World, Has, IsLeast, NoneBelow, IsWorld, made, taken, opening, start_of, entries, IsTrace, one_input, least_first, setting_sound, taken_cases, taken_old, taken_new, trusts, last_before, multiple_from, silent_from, least_delay, most_delay, LosesNothing}
+use Rattle.detector_bounds.proofs.{Added.{Delivers}, Clock.{Clock, due_after, clock_first, clock_still, clock_takes}, Ending.{IsKept, IsEnd, ending, holds_at, none_later}, Fates.{fate_within, delivers}}
+use Rattle.detector_bounds.proofs.{Machines.{RunsDetector, state_of, moved, own, own_up, own_down, letter_new, letter_there, own_letter_there}, Multiples.{mul-next, less_multiple, after_last, from_tick}, Others.{in_numbers}}
+use Rattle.detector_bounds.proofs.Shares.{Sharer, share_step, opening_sharer, output_after, over_is, asks_shares, shares_at, shares_all, output_stays, output_gains, runs_shares, part_is, place_is}
+use Rattle.detector_bounds.proofs.{Standing.{Stands, stands_first, stands_next, at_start, only_starts, out_is}, Timeouts.Trusted.{trusts-append}}
 use Rattle.std.specs.FinSet as set
 use Rattle.std.proofs.Math.Nat.{mul-le-mul_right}
 use Rattle.process_api.specs.declared.action.Action.TheVariants as action
 use Rattle.process_api.specs.declared.message.Payload.TheVariants as payload
 use Rattle.process_api.specs.declared.message.StepInput.TheVariants as input
 use Rattle.process_api.specs.declared.message.Tag.TheVariants as tag
-use Rattle.detector_bounds.proofs.Added.{Delivers}
-use Rattle.detector_bounds.proofs.Clock.{Clock, due_after, clock_first, clock_still, clock_takes}
-use Rattle.detector_bounds.proofs.Ending.{IsKept, IsEnd, ending, holds_at, none_later}
-use Rattle.detector_bounds.proofs.Fates.{fate_within, delivers}
-use Rattle.detector_bounds.proofs.Machines.{RunsDetector, state_of, moved, own, own_up, own_down, letter_new, letter_there, own_letter_there}
-use Rattle.detector_bounds.proofs.Multiples.{mul-next, less_multiple, after_last, from_tick}
-use Rattle.detector_bounds.proofs.Others.{in_numbers}
-use Rattle.detector_bounds.proofs.Shares.{Sharer, share_step, opening_sharer, output_after, over_is, asks_shares, shares_at, shares_all, output_stays, output_gains, runs_shares, part_is, place_is}
-use Rattle.detector_bounds.proofs.Standing.{Stands, stands_first, stands_next, at_start, only_starts, out_is}
-use Rattle.detector_bounds.proofs.Timeouts.Trusted.{trusts-append}
 
 silent_is : (period : ℕ) (l : Link) (n : ℕ) → 1 ≤ n → silent_from period l n ≡ n * period + l.max + 1
 silent_is period l zero h = absurd (omega (arith, h))

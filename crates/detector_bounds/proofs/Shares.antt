@@ -1,22 +1,16 @@
 -- A base detector with a reduction over it, and what one input makes of the two: layer 2.
 use Rattle.detector_bounds.proofs.Words.{◌≡◌, ◌≢◌, ℕ, ◌≤◌, inl, inr, refl, sym, ap, ◌∙◌, subst, true, not, ◌&&◌, ◌||◌, nat_le, nat_cmp, List, [], ◌∷◌, ◌++◌, map, Option, None, Some, option_map, cond_both, ne_eqb, le-leb, or_left, or_right, notes_of_layer, Answer, still, to_all, DetectorState, ByTimeout, ByFreshness, opening_detector, suspected_by, step_detector, Lower, Mind, numbers_to, others, Place, react_lower, react, ReductionState, opening_reduction, gathered, step_reduction, Processes, changes, up_to, StepInput, FreshnessNumbers, TimeoutNumbers, contains-remove_is, contains-up_to, and_true, notes_of_layer-append, none_of_layer_2, changes_kept, changes-none, no_letters, Record, place_in, IsIn, setting_of, in_append, in_left, in_right, each_of, in_image, stacked}
+use Rattle.detector_bounds.proofs.{Above.{IsFollowed, lower_acts_first}, Added.{wakes_of, wakes_of-append}, Clock.{asked}, Freshness.Steps.{no_wake_sent, no_wake_noted, nothing_sent}, Machines.{RunsDetector}}
 use Rattle.std.specs.FinSet as set
-use Rattle.process_api.specs.BaseDetector.{IsOfDetector}
+use Rattle.process_api.specs.{BaseDetector.{IsOfDetector}, declared.action.Note.{Note}}
 use Rattle.process_api.specs.Freshness as fresh
 use Rattle.process_api.specs.Timeout as timeout
 use Rattle.process_api.specs.declared.action.Action.TheVariants as action
-use Rattle.process_api.specs.declared.action.Note.{Note}
 use Rattle.process_api.specs.declared.action.Note.TheVariants as note
 use Rattle.process_api.specs.declared.message.Payload.TheVariants as payload
 use Rattle.process_api.specs.declared.message.StepInput.TheVariants as input
 use Rattle.process_api.specs.declared.message.Tag.TheVariants as tag
-use Rattle.process_api.proofs.DetectorLaws.{detector_laws}
-use Rattle.std.specs.Cmp.{nat_cmp_total}
-use Rattle.detector_bounds.proofs.Above.{IsFollowed, lower_acts_first}
-use Rattle.detector_bounds.proofs.Added.{wakes_of, wakes_of-append}
-use Rattle.detector_bounds.proofs.Clock.{asked}
-use Rattle.detector_bounds.proofs.Freshness.Steps.{no_wake_sent, no_wake_noted, nothing_sent}
-use Rattle.detector_bounds.proofs.Machines.{RunsDetector}
+use Rattle.{process_api.proofs.DetectorLaws.{detector_laws}, std.specs.Cmp.{nat_cmp_total}}
 
 -- the state of the two, but for where they stand and how often is shared
 pub record Sharer : Type 0 where

@@ -1,10 +1,7 @@
 -- A detection is shared: in every trace, whichever kind of detector shares.
 use Rattle.detector_bounds.proofs.Words.{◌≡◌, ◌≢◌, ℕ, suc, false, max, ◌+◌, ◌-◌, ◌<◌, ◌≤◌, refl, sym, ap, ◌∙◌, List, arith, Some, unwrap_or, true, EntryRecord, DetectorNumbers, Timeout, Freshness, IsInRange, Record, crash, link, setting_of, has_crashed, IsTrace, IsCorrect, out, CrashesAt, detected_at, trusts, last_before, LosesNothing, silent_from, least_delay, most_delay, told_at, SharesDetection, Watches}
-use Rattle.detector_bounds.proofs.Freshness.Bounded.{Firmly, firmly_kept, firmly}
-use Rattle.detector_bounds.proofs.Multiples.{from_tick}
-use Rattle.detector_bounds.proofs.Shared.{shared_then}
+use Rattle.detector_bounds.proofs.{Freshness.Bounded.{Firmly, firmly_kept, firmly}, Multiples.{from_tick}, Shared.{shared_then}, Watching.{watched_is, up_until}}
 use Rattle.detector_bounds.proofs.Timeouts.Bounded as timeouts
-use Rattle.detector_bounds.proofs.Watching.{watched_is, up_until}
 
 module _ (s : Record) (is : IsInRange s) (trace : List EntryRecord) (is_trace : IsTrace (setting_of s) trace) where
   module _ (period w p r c t : ℕ) (shares : s.share ≡ Some period) (correct_w : IsCorrect s w) (watches : Watches s w p) (crashes : CrashesAt s trace p c) (correct_r : IsCorrect s r) (sure : LosesNothing s w r)

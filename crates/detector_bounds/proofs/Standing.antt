@@ -1,13 +1,10 @@
 -- Through a run: every process has its detector, which is as at first until the process starts, at tick 0 before all else; and
 -- OUT is the detector's set.
 use Rattle.detector_bounds.proofs.Words.{◌≡◌, ◌≢◌, ◌⊎◌, ℕ, zero, suc, ◌+◌, ◌≤◌, inl, inr, sym, ap, ◌∙◌, subst, true, List, [], ◌∷◌, ◌++◌, arith, fold, cases_eq, Answer, EntryRecord, is_process, Processes, Key, StepInput, IsIn, Setting, IsSound, Event, World, Has, IsLeast, IsWorld, made, taken, opening, start_of, starts, entries, starts_are, insert_at, insert_other, least_first, taken_cases, made_sent, Set, after_note, out}
+use Rattle.detector_bounds.proofs.{Above.{notes_are}, Added.{added_no_start}, Ending.{IsKept, IsEnd}}
+use Rattle.detector_bounds.proofs.{Machines.{RunsDetector, state_of, HasAll, opening_has, own, acts, followed, added_is, notes_is, key_is, has_next, state_at, state_other, own_tells}, Output.{noted_out, out_so_far, out_more, out_same}}
 use Rattle.std.specs.FinSet as set
 use Rattle.process_api.specs.declared.message.StepInput.TheVariants as input
-use Rattle.detector_bounds.proofs.Above.{notes_are}
-use Rattle.detector_bounds.proofs.Added.{added_no_start}
-use Rattle.detector_bounds.proofs.Ending.{IsKept, IsEnd}
-use Rattle.detector_bounds.proofs.Machines.{RunsDetector, state_of, HasAll, opening_has, own, acts, followed, added_is, notes_is, key_is, has_next, state_at, state_other, own_tells}
-use Rattle.detector_bounds.proofs.Output.{noted_out, out_so_far, out_more, out_same}
 
 -- it is a process's start, or comes later
 abbrev pub IsStartOrLater : Key → StepInput → Type 0

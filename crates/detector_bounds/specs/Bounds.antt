@@ -2,12 +2,8 @@
 -- class P of Chandra and Toueg (Journal of the ACM 43(2), 1996). The bound of freshness points is that of Chen, Toueg
 -- and Aguilera (IEEE Transactions on Computers 51(5), 2002).
 use Rattle.std.specs.Prelude.{◌≡◌, ℕ, ◌+◌, ◌<◌, ◌≤◌, true, List, Some}
-use Rattle.process_api.specs.Order.{EntryRecord}
-use Rattle.process_api.specs.declared.numbers.Watch.TheVariants.{All}
-use Rattle.scenario_record.specs.Record.{Record, crash, link}
-use Rattle.judges.specs.Out.{end_of}
-use Rattle.judges.specs.Verdicts.{IsProcess, IsCorrect, From, Suspects, strong_accuracy, strong_completeness}
-use Rattle.detector_bounds.specs.Detected.{trusts, detected_by, longest, Watches, IsReliable, watch_of}
+use Rattle.{process_api.specs.{Order.{EntryRecord}, declared.numbers.Watch.TheVariants.{All}}, scenario_record.specs.Record.{Record, crash, link}}
+use Rattle.{judges.specs.{Out.{end_of}, Verdicts.{IsProcess, IsCorrect, From, Suspects, strong_accuracy, strong_completeness}}, detector_bounds.specs.Detected.{trusts, detected_by, longest, Watches, IsReliable, watch_of}}
 
 module _ (S : Record) (trace : List EntryRecord) where
   -- the tick from which, at the latest, q suspects p to the end, where p crashes at tick c

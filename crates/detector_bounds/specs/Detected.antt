@@ -1,17 +1,8 @@
 -- By when the crash of a process is detected. Multiples of a period, among ticks.
 use Rattle.std.specs.Prelude.{ℕ, zero, suc, ◌+◌, ◌-◌, ◌*◌, Bool, false, ◌&&◌, ◌==◌, List, length, filter, ◌/◌, ◌≡◌, ◌≤◌, true, []}
-use Rattle.process_api.specs.Order.{EntryRecord}
-use Rattle.process_api.specs.Place.{is_watched}
-use Rattle.process_api.specs.declared.action.Note.{Note}
-use Rattle.process_api.specs.declared.action.Note.TheVariants.{Suspect, Trust, Round, Decided, NoValue}
-use Rattle.process_api.specs.declared.numbers.DetectorNumbers.{DetectorNumbers}
-use Rattle.process_api.specs.declared.numbers.DetectorNumbers.TheVariants.{Timeout, Freshness}
-use Rattle.process_api.specs.declared.numbers.TimeoutNumbers.{TimeoutNumbers}
-use Rattle.process_api.specs.declared.numbers.Watch.{Watch}
-use Rattle.scenario_record.specs.Record.{Record, link, outages_on}
-use Rattle.scenario_record.specs.declared.link.Link.{Link}
-use Rattle.judges.specs.Outcomes.{notes_of}
-use Rattle.judges.specs.Verdicts.{IsProcess}
+use Rattle.process_api.specs.{Order.{EntryRecord}, Place.{is_watched}}
+use Rattle.process_api.specs.declared.{action.Note.{Note, TheVariants.{Suspect, Trust, Round, Decided, NoValue}}, numbers.{DetectorNumbers.{DetectorNumbers, TheVariants.{Timeout, Freshness}}, TimeoutNumbers.{TimeoutNumbers}, Watch.{Watch}}}
+use Rattle.{scenario_record.specs.{Record.{Record, link, outages_on}, declared.link.Link.{Link}}, judges.specs.{Outcomes.{notes_of}, Verdicts.{IsProcess}}}
 
 -- the greatest number whose multiple of the period lies before a tick; 0 where there is none
 abbrev pub last_before : (period tick : ℕ) → ℕ

@@ -1,11 +1,7 @@
 -- From when a shared suspicion stands, on layer 2.
 use Rattle.std.specs.Prelude.{◌≡◌, ◌≢◌, ℕ, zero, suc, ◌+◌, ◌-◌, ◌*◌, max, ◌==◌, if◌then◌else◌, List, [], Some}
-use Rattle.process_api.specs.Order.{EntryRecord}
-use Rattle.scenario_record.specs.Record.{Record, link, outages_on}
-use Rattle.scenario_record.specs.declared.link.Link.{Link}
-use Rattle.judges.specs.Verdicts.{IsCorrect, From, Suspects}
-use Rattle.detector_bounds.specs.Bounds.{CrashesAt, detected_at}
-use Rattle.detector_bounds.specs.Detected.{last_before, multiple_from, Watches}
+use Rattle.{process_api.specs.Order.{EntryRecord}, scenario_record.specs.{Record.{Record, link, outages_on}, declared.link.Link.{Link}}, judges.specs.Verdicts.{IsCorrect, From, Suspects}}
+use Rattle.detector_bounds.specs.{Bounds.{CrashesAt, detected_at}, Detected.{last_before, multiple_from, Watches}}
 
 -- from this tick at the latest no set comes over a link whose sender's last share had this number; 0 where it had none
 abbrev pub silent_from : (period : ℕ) → Link → (last : ℕ) → ℕ
@@ -29,8 +25,7 @@ module _ (S : Record) where
     -- the tick of the first share of w that surely has p for good, and comes to r behind all sets of p, which crashes
     -- at tick c
     abbrev pub told_at : (period w p r c : ℕ) → ℕ
-    told_at period w p r c =
-        multiple_from period
+    told_at period w p r c = multiple_from period
         (max (detected_at S trace w p c + 1)
         (silent_from period (link S p r) (last_before period c) - least_delay w r))
 

@@ -1,10 +1,7 @@
 //! Bounds that no run breaks.
-ghost use Rattle.std.specs.Prelude.{List};
-ghost use Rattle.process_api.specs.Order.{EntryRecord};
-ghost use Rattle.trace_laws.specs.Setting.{setting_of};
-ghost use Rattle.trace_laws.specs.World.{IsTrace};
-ghost use Rattle.detector_bounds.specs.Bounds.{KeepsBounds};
-ghost use Rattle.detector_bounds.specs.Shared.{SharesDetection};
+ghost use Rattle.{std.specs.Prelude.{List}, process_api.specs.Order.{EntryRecord}};
+ghost use Rattle.trace_laws.specs.{Setting.{setting_of}, World.{IsTrace}};
+ghost use Rattle.detector_bounds.specs.{Bounds.{KeepsBounds}, Shared.{SharesDetection}};
 
 use scenario_record::Scenario;
 

@@ -1,17 +1,10 @@
 -- Edits, as they are counted, and the nearest of a table's keys, as a loop finds it.
 use Rattle.std.proofs.Common.{Bor, ◌≡◌, ◌≢◌, ℕ, ◌+◌, ◌<◌, ◌≤◌, List, [], ◌∷◌, length, get_or, take, nat_eq, Bool, true, false, Option, Some, None, Result, Ok, Err, IfOk, refl, sym, ap, ◌∙◌, rules, arith}
-use Rattle.std.specs.List.{All, Contains}
-use Rattle.std.specs.Str.{chars}
-use Rattle.std.proofs.lemmas.List.{take_all}
-use Rattle.std.proofs.lemmas.List.Elements.{All-nil, All-more, All-weaker, All-map, All-contains}
-use Rattle.std.proofs.lemmas.Slice.Eq.{bytes_eq-Decides}
-use Rattle.strsim.specs.Edits.{damerau}
-use Rattle.scenario.specs.Table.{Field, same_text}
-use Rattle.scenario.specs.Parts.{field_of, fields_of}
+use Rattle.std.proofs.lemmas.{List.{take_all, Elements.{All-nil, All-more, All-weaker, All-map, All-contains}}, Slice.Eq.{bytes_eq-Decides}}
+use Rattle.{std.specs.{List.{All, Contains}, Str.{chars}}, strsim.specs.Edits.{damerau}}
+use Rattle.scenario.specs.{Table.{Field, same_text}, Parts.{field_of, fields_of}, declared.field.Kind.TheVariants.{Number}}
 use Rattle.scenario.specs.declared.field.Field as code
-use Rattle.scenario.specs.declared.field.Kind.TheVariants.{Number}
-use Rattle.diagnosis.specs.Diagnosis.{edits, edits_of, most_edits, IsMeant}
-use Rattle.scenario.proofs.Elements.{contains_image}
+use Rattle.{diagnosis.specs.Diagnosis.{edits, edits_of, most_edits, IsMeant}, scenario.proofs.Elements.{contains_image}}
 
 ok_value : {E : Type 0} (d e : ℕ) → ◌≡◌ {A = Result ℕ E} (Ok d) (Ok e) → d ≡ e
 ok_value d e is = search (rules, is)

@@ -1,8 +1,6 @@
 -- Lines and columns, as a loop over the bytes counts them.
-use Rattle.std.proofs.Common.{◌≡◌, ◌≤◌, ◌<◌, ℕ, ◌+◌, List, [], ◌∷◌, length, get_or, drop, drop-cons, add-one, Bool, true, false, refl, ap, sym, ◌∙◌, if◌then◌else◌, arith}
-use Rattle.std.specs.List.{filter, list_any}
-use Rattle.std.proofs.lemmas.List.{drop_all}
-use Rattle.std.specs.Fmt.{char_count, is_char_start}
+use Rattle.std.proofs.{Common.{◌≡◌, ◌≤◌, ◌<◌, ℕ, ◌+◌, List, [], ◌∷◌, length, get_or, drop, drop-cons, add-one, Bool, true, false, refl, ap, sym, ◌∙◌, if◌then◌else◌, arith}, lemmas.List.{drop_all}}
+use Rattle.std.specs.{List.{filter, list_any}, Fmt.{char_count, is_char_start}}
 use Rattle.diagnosis.specs.Diagnosis.{is_line_feed, last_line, line_after, column_after}
 
 -- how many characters start at a byte

@@ -1,13 +1,8 @@
 -- What is said of a file, from what is said of its table.
-use Rattle.std.proofs.Common.{ℕ, List, Some, Result, Ok, Err, IfOk, refl}
-use Rattle.toml.specs.Data.{Members}
-use Rattle.scenario.specs.Text.{record_of}
-use Rattle.scenario.specs.Refusals.{IsDocumentOf}
-use Rattle.scenario.specs.declared.error.ScenarioError.{ScenarioError}
+use Rattle.{std.proofs.Common.{ℕ, List, Some, Result, Ok, Err, IfOk, refl}, toml.specs.Data.{Members}}
+use Rattle.scenario.specs.{Text.{record_of}, Refusals.{IsDocumentOf}, declared.error.ScenarioError.{ScenarioError}}
 use Rattle.scenario.proofs.Reading.{accepted, refused}
-use Rattle.diagnosis.specs.Diagnosis.{HasPlace, IsReason, IsDiagnosisOf, IsTableDiagnosisOf}
-use Rattle.diagnosis.specs.Text.{Reason, no_toml, found, nothing}
-use Rattle.diagnosis.specs.declared.answer.Diagnosis.{Diagnosis}
+use Rattle.diagnosis.specs.{Diagnosis.{HasPlace, IsReason, IsDiagnosisOf, IsTableDiagnosisOf}, Text.{Reason, no_toml, found, nothing}, declared.answer.Diagnosis.{Diagnosis}}
 use Rattle.diagnosis.specs.declared.answer.Diagnosis.TheVariants as diagnosis
 
 -- what is found in a table has no line

@@ -1,27 +1,12 @@
 -- What a diagnosis says of a file: places in its text, by the bytes before them, and which key is perhaps meant.
-use Rattle.std.specs.Prelude.{◌≡◌, ℕ, ◌≤◌, ◌*◌, ◌/◌, min, List, length, take, false, Option, Some, None, string_bytes, ◌+◌, [], ◌∷◌, Bool, if◌then◌else◌, ◌==◌, ◌<◌, max, nat_eq, true}
-use Rattle.std.specs.Borrow.{Bor}
-use Rattle.toml.specs.Data.{Members}
-use Rattle.std.specs.List.{filter, list_any, Contains}
-use Rattle.std.specs.Fmt.{char_count}
-use Rattle.std.specs.Str.{chars}
-use Rattle.strsim.specs.Edits.{damerau}
-use Rattle.scenario_record.specs.Record.{Record}
-use Rattle.scenario.specs.Text.{record_of}
-use Rattle.scenario.specs.Refusals.{Accepts, Refuses, IsDocumentOf, is_memory, refusal_of}
-use Rattle.scenario.specs.Parts.{fields_of}
-use Rattle.scenario.specs.Faults.{Breaks}
-use Rattle.scenario.specs.Table.{Field, same_text}
+use Rattle.std.specs.{Prelude.{◌≡◌, ℕ, ◌≤◌, ◌*◌, ◌/◌, min, List, length, take, false, Option, Some, None, string_bytes, ◌+◌, [], ◌∷◌, Bool, if◌then◌else◌, ◌==◌, ◌<◌, max, nat_eq, true}, Borrow.{Bor}, List.{filter, list_any, Contains}}
+use Rattle.{std.specs.{Fmt.{char_count}, Str.{chars}}, toml.specs.Data.{Members}, strsim.specs.Edits.{damerau}, scenario_record.specs.Record.{Record}}
+use Rattle.scenario.specs.{Text.{record_of}, Refusals.{Accepts, Refuses, IsDocumentOf, is_memory, refusal_of}, Parts.{fields_of}, Faults.{Breaks}, Table.{Field, same_text}}
+use Rattle.scenario.specs.declared.{finding.Finding.{Finding}, error.ScenarioError.{ScenarioError}}
 use Rattle.scenario.specs.declared.fault.Fault.TheVariants as fault
-use Rattle.scenario.specs.declared.finding.Finding.{Finding}
 use Rattle.scenario.specs.declared.finding.Finding.TheVariants as finding
-use Rattle.scenario.specs.declared.error.ScenarioError.{ScenarioError}
 use Rattle.scenario.specs.declared.error.ScenarioError.TheVariants as error
-use Rattle.diagnosis.specs.Text.{Reason, no_toml, found, nothing, told_text}
-use Rattle.diagnosis.specs.declared.told.NotToml.{NotToml}
-use Rattle.diagnosis.specs.declared.answer.Accepted.{Accepted}
-use Rattle.diagnosis.specs.declared.answer.Refused.{Refused}
-use Rattle.diagnosis.specs.declared.answer.Diagnosis.{Diagnosis}
+use Rattle.diagnosis.specs.{Text.{Reason, no_toml, found, nothing, told_text}, declared.{told.NotToml.{NotToml}, answer.{Accepted.{Accepted}, Refused.{Refused}, Diagnosis.{Diagnosis}}}}
 use Rattle.diagnosis.specs.declared.answer.Diagnosis.TheVariants as diagnosis
 
 -- how many edits lead from one text to the other: characters put in, taken out, changed, or two of them swapped

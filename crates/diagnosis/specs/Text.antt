@@ -1,31 +1,15 @@
 -- What is said of a refused file, in words. A quote from it is printed on one line, without control characters.
-use Rattle.std.specs.Prelude.{ℕ, ℤ, List, [], ◌++◌, Bool, true, false, ◌&&◌, ◌||◌, Option, Some, None, if◌then◌else◌, codes, decimal, string_bytes}
-use Rattle.std.specs.Borrow.{Bor}
-use Rattle.std.specs.List.{flat_map}
-use Rattle.std.specs.Fmt.{signed_decimal}
-use Rattle.printable.specs.Printable.{printable}
-use Rattle.scenario.specs.Refusals.{name_of}
-use Rattle.scenario.specs.Rules.{is_within, most_in}
-use Rattle.scenario.specs.Table.{is_listed, same_text}
-use Rattle.scenario.specs.Parts.{fields_of}
-use Rattle.scenario.specs.Keys.{place_text}
-use Rattle.scenario.specs.declared.error.ScenarioError.{ScenarioError}
-use Rattle.scenario.specs.declared.field.Kind.{Kind}
+use Rattle.std.specs.{Prelude.{ℕ, ℤ, List, [], ◌++◌, Bool, true, false, ◌&&◌, ◌||◌, Option, Some, None, if◌then◌else◌, codes, decimal, string_bytes}, Borrow.{Bor}, List.{flat_map}, Fmt.{signed_decimal}}
+use Rattle.{printable.specs.Printable.{printable}, scenario.specs.{Refusals.{name_of}, Rules.{is_within, most_in}, Table.{is_listed, same_text}, Parts.{fields_of}, Keys.{place_text}}}
+use Rattle.scenario.specs.declared.{error.ScenarioError.{ScenarioError}, field.Kind.{Kind}, place.Place.{Place}, fault.{UnknownKey.{UnknownKey}, WrongKind.{WrongKind}, Outside.{Outside}, ProposalsFault.{ProposalsFault}, Fault.{Fault}}}
+use Rattle.scenario.specs.declared.finding.Finding.{Finding}
 use Rattle.scenario.specs.declared.field.Kind.TheVariants as kind
-use Rattle.scenario.specs.declared.place.Place.{Place}
 use Rattle.scenario.specs.declared.place.Place.TheVariants as place
 use Rattle.scenario.specs.declared.place.Section.TheVariants as section
-use Rattle.scenario.specs.declared.fault.UnknownKey.{UnknownKey}
-use Rattle.scenario.specs.declared.fault.WrongKind.{WrongKind}
-use Rattle.scenario.specs.declared.fault.Outside.{Outside}
-use Rattle.scenario.specs.declared.fault.ProposalsFault.{ProposalsFault}
 use Rattle.scenario.specs.declared.fault.ProposalsFault.TheVariants as proposals
-use Rattle.scenario.specs.declared.fault.Fault.{Fault}
 use Rattle.scenario.specs.declared.fault.Fault.TheVariants as fault
-use Rattle.scenario.specs.declared.finding.Finding.{Finding}
 use Rattle.scenario.specs.declared.finding.Finding.TheVariants as finding
-use Rattle.diagnosis.specs.declared.told.NotToml.{NotToml}
-use Rattle.diagnosis.specs.declared.answer.Refused.{Refused}
+use Rattle.diagnosis.specs.declared.{told.NotToml.{NotToml}, answer.Refused.{Refused}}
 
 -- a text and then another. It groups to the right
 infixr 65 ◌<>◌
@@ -54,8 +38,7 @@ abbrev pub is_of_freshness : List ℕ → Bool
 is_of_freshness key = same_text key (codes "eta") || same_text key (codes "delta")
 
 abbrev pub is_of_timeout : List ℕ → Bool
-is_of_timeout key =
-    same_text key (codes "period") || (same_text key (codes "check") || (same_text key (codes "timeout")
+is_of_timeout key = same_text key (codes "period") || (same_text key (codes "check") || (same_text key (codes "timeout")
     || same_text key (codes "grow")))
 
 -- which kind of detector has the key, where the other one hasn't; else the key that is perhaps meant
@@ -99,8 +82,7 @@ abbrev pub outside_hint : Outside → List ℕ
 outside_hint o = if is_of_second o then second_text else []
 
 abbrev pub outside_text : Place → Outside → List ℕ
-outside_text at o =
-    path_text at o.key.now <> codes ": " <> signed_decimal o.value <> codes " is not " <> decimal o.low
+outside_text at o = path_text at o.key.now <> codes ": " <> signed_decimal o.value <> codes " is not " <> decimal o.low
     <> codes " to " <> decimal o.high <> outside_hint o
 
 abbrev pub names_text : List (Bor (List ℕ)) → List ℕ
@@ -129,8 +111,7 @@ fault_text at (fault.UnknownKey u) meant = unknown_text at u meant
 fault_text at (fault.MissingKey key) meant = path_text at key.now
 fault_text at (fault.WrongKind w) meant = wrong_kind_text at w
 fault_text at (fault.Outside o) meant = outside_text at o
-fault_text at (fault.OtherName o) meant =
-    path_text at o.key.now <> none_of_text (printable o.value.now) o.allowed.now
+fault_text at (fault.OtherName o) meant = path_text at o.key.now <> none_of_text (printable o.value.now) o.allowed.now
 fault_text at (fault.MinAboveMax a) meant =
     place_text at <> codes ": min " <> signed_decimal a.min <> codes " is above max " <> signed_decimal a.max
 fault_text at (fault.ToItself process) meant =

@@ -1,9 +1,7 @@
 //! Diagnoses of scenarios' files.
 ghost use Rattle.std.specs.Prelude.{◌≡◌, IfOk, IfSome, Some, None};
-ghost use Rattle.toml.specs.View.{table_view};
-ghost use Rattle.toml.specs.Errors.{IsWithin, span_start, IsMemory as IsMemoryError};
-ghost use Rattle.scenario.specs.Refusals.{IsAnswer, IsDocumentOf, refusal_of, is_memory as is_for_memory};
-ghost use Rattle.scenario.specs.Faults.{Breaks};
+ghost use Rattle.toml.specs.{View.{table_view}, Errors.{IsWithin, span_start, IsMemory as IsMemoryError}};
+ghost use Rattle.scenario.specs.{Refusals.{IsAnswer, IsDocumentOf, refusal_of, is_memory as is_for_memory}, Faults.{Breaks}};
 ghost use Rattle.diagnosis.specs.Diagnosis.{IsDiagnosisOf, IsPlaced, IsTableDiagnosisOf, RefusesFor, RefusesTableFor};
 
 use crate::estimate::{Estimate, estimate_of, window_of};

@@ -1,6 +1,5 @@
 //! Places in a text.
-ghost use Rattle.std.specs.Prelude.{◌≡◌};
-ghost use Rattle.std.specs.Fmt.{is_char_start};
+ghost use Rattle.std.specs.{Prelude.{◌≡◌}, Fmt.{is_char_start}};
 ghost use Rattle.diagnosis.specs.Diagnosis.{line_after, column_after};
 
 /// Whether a character starts at the byte.

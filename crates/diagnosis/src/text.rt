@@ -1,6 +1,5 @@
 //! Diagnoses in words.
-ghost use Rattle.std.specs.Prelude.{◌≡◌, Some};
-ghost use Rattle.std.specs.Fmt.{WritesOnOk};
+ghost use Rattle.std.specs.{Prelude.{◌≡◌, Some}, Fmt.{WritesOnOk}};
 ghost use Rattle.printable.specs.Printable.{printable};
 ghost use Rattle.diagnosis.specs.Text.{path_text, suggestion_text, is_detector, is_of_freshness, is_of_timeout, kind_hint, unknown_hint, kind_words, found_text, unit_text, wrong_kind_text, is_of_second, outside_hint, outside_text, names_text, none_of_text, proposals_text, not_before_text, fault_text, finding_text, not_toml_text, refused_text};
 

@@ -1,9 +1,7 @@
 -- The rows of a process, one after the other.
 use Rattle.drawing.proofs.Words.{◌≡◌, ◌≢◌, ◌∙◌, ℕ, ◌+◌, ◌-◌, Bool, true, false, ◌||◌, cond, not, ap, sym, subst, arith, List, [], ◌∷◌, ◌++◌, filter, length, length-append, append-nil, append_assoc, flat_map-append, filter-append, others, placeless, AreRowsOf, pair_in, bands_in, row_at, bars_in, has_row_in, row_top, subjects, bands, pair_at, has_bar, has_row, upper_bars, Bar}
-use Rattle.scenario_record.specs.Record.{outages_on}
-use Rattle.drawing.specs.declared.groups.Rows.{Rows}
-use Rattle.drawing.specs.declared.groups.Run.{Run}
-use Rattle.drawing.proofs.Counting.{others_itself, others_other}
+use Rattle.{drawing.proofs.Counting.{others_itself, others_other}, scenario_record.specs.Record.{outages_on}}
+use Rattle.drawing.specs.declared.groups.{Rows.{Rows}, Run.{Run}}
 
 -- where a pair has a bar
 pub shown_same : (run : Run) (q p : ℕ) (first second : List Bar) → first ≡ bars_in run 1 q p → second ≡ upper_bars run.scenario.now.share (bars_in run 2 q p)

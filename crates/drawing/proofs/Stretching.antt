@@ -1,7 +1,6 @@
 -- The stretches that are found are all maximal ones, in order.
 use Rattle.drawing.proofs.Words.{◌≡◌, ℕ, zero, suc, ◌+◌, ◌-◌, ◌<◌, ◌≤◌, Bool, true, false, cond, inl, inr, refl, sym, ap, ◌∙◌, subst, arith, ltb, Option, None, Some, List, [], ◌∷◌, ◌++◌, Contains, get_or, cases_lt, lt-ltb, le-ltb, true≢false, get_or_default, Contains-append_left, Contains-push, Contains-push_cases, Found, passed_by, passed, found, stretches, Bar}
-use Rattle.std.specs.List.{AllPairs}
-use Rattle.std.proofs.lemmas.List.Quantifiers.{all_pairs_push}
+use Rattle.{std.specs.List.{AllPairs}, std.proofs.lemmas.List.Quantifiers.{all_pairs_push}}
 use Rattle.drawing.specs.Suspicions.{IsMaximal, AreBars}
 
 module _ (test : ℕ → Bool) (from : ℕ) where

@@ -1,14 +1,9 @@
 -- A picture's title, legend, labels and axis of ticks, and where marks stand, in whole user units from the top left.
 use Rattle.std.specs.Prelude.{◌≡◌, ◌⊎◌, ℕ, ◌+◌, ◌≤◌, max, nat_lt, Bool, true, false, ◌||◌, List, ◌++◌, map, Contains, codes, decimal, not, ◌-◌, ◌*◌, ◌/◌, min, nat_le, ◌&&◌, if◌then◌else◌, Option, None, Some, filter, length, sum_by}
-use Rattle.std.specs.List.{list_all}
-use Rattle.process_api.specs.Place.{numbers_to, others}
-use Rattle.svg.specs.Document.{IsDocument}
-use Rattle.svg.specs.declared.class.Class.{Class}
+use Rattle.{std.specs.List.{list_all}, process_api.specs.Place.{numbers_to, others}, svg.specs.{Document.{IsDocument}, declared.{class.Class.{Class}, shape.{Shape.{Shape}, Point.{Point}}}}}
 use Rattle.svg.specs.declared.class.Class.TheVariants as class
 use Rattle.svg.specs.declared.shape.Anchor.TheVariants as anchor
-use Rattle.svg.specs.declared.shape.Shape.{Shape}
 use Rattle.svg.specs.declared.shape.Shape.TheVariants as shape
-use Rattle.svg.specs.declared.shape.Point.{Point}
 
 -- names stand in a room on the left of the ticks, which share a width, and all but marks in one above the rows
 abbrev pub left_room : ℕ
@@ -79,8 +74,7 @@ line_of processes q = own_top processes q + 8
 
 -- the height after so many of all parts of the way from one height to another, rounded down in the length of the way
 unfoldable pub on_way : (y z part whole : ℕ) → ℕ
-on_way y z part whole =
-    if nat_le y z then y + ((z - y) * part) / whole else y - ((y - z) * part) / whole
+on_way y z part whole = if nat_le y z then y + ((z - y) * part) / whole else y - ((y - z) * part) / whole
 
 -- a text, wherever it stands
 abbrev pub said : Class → List ℕ → Shape
@@ -115,8 +109,7 @@ are_frame shapes = list_all (λ s. is_of_axis s || nat_lt (lowest s) head_room) 
 
 -- where some are left out, a text ends in how many
 abbrev pub Tells : (count : ℕ) → List Shape → Type 0
-Tells count shapes =
-    (count ≡ 0)
+Tells count shapes = (count ≡ 0)
     ⊎ ((words : List ℕ) × Contains (placeless shapes) (said class.Label (words ++ (codes ": " ++ decimal count))))
 
 -- the text is a picture that has these bands and, over them, just these marks, whose texts may stand anywhere. It is

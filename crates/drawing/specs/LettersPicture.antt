@@ -1,28 +1,16 @@
 -- The picture of letters: what went from whom to whom.
-use Rattle.std.specs.Prelude.{ℕ, ◌+◌, ◌-◌, ◌==◌, nat_lt, Bool, not, ◌&&◌, ◌||◌, if◌then◌else◌, Option, None, Some, List, [], ◌∷◌, ◌++◌, map, flat_map, filter, length, codes, decimal, nat_le}
-use Rattle.std.specs.List.{list_any}
-use Rattle.judges.specs.Out.{suspects}
-use Rattle.judges.specs.Outcomes.{outcome}
-use Rattle.judges.specs.declared.outcomes.Answer.{Answer}
+use Rattle.std.specs.{Prelude.{ℕ, ◌+◌, ◌-◌, ◌==◌, nat_lt, Bool, not, ◌&&◌, ◌||◌, if◌then◌else◌, Option, None, Some, List, [], ◌∷◌, ◌++◌, map, flat_map, filter, length, codes, decimal, nat_le}, List.{list_any}}
+use Rattle.judges.specs.{Out.{suspects}, Outcomes.{outcome}, declared.outcomes.Answer.{Answer}}
 use Rattle.judges.specs.declared.outcomes.Answer.TheVariants as answer
-use Rattle.reporting.specs.declared.letter.Letter.{Letter}
-use Rattle.reporting.specs.declared.letter.LetterFate.{LetterFate}
+use Rattle.reporting.specs.declared.letter.{Letter.{Letter}, LetterFate.{LetterFate}}
 use Rattle.reporting.specs.declared.letter.LetterFate.TheVariants as fate
-use Rattle.process_api.specs.Order.{EntryRecord}
-use Rattle.process_api.specs.Place.{numbers_to, others}
-use Rattle.process_api.specs.declared.entry.Kind.{Kind}
+use Rattle.process_api.specs.{Order.{EntryRecord}, Place.{numbers_to, others}, declared.entry.Kind.{Kind}}
 use Rattle.process_api.specs.declared.entry.Kind.TheVariants as kind
-use Rattle.scenario_record.specs.Record.{Record, outages_on}
-use Rattle.svg.specs.declared.class.Class.{Class}
+use Rattle.{scenario_record.specs.Record.{Record, outages_on}, svg.specs.declared.{class.Class.{Class}, shape.{Point.{Point}, Shape.{Shape}}}}
 use Rattle.svg.specs.declared.class.Class.TheVariants as class
-use Rattle.svg.specs.declared.shape.Point.{Point}
-use Rattle.svg.specs.declared.shape.Shape.{Shape}
 use Rattle.svg.specs.declared.shape.Shape.TheVariants as shape
-use Rattle.drawing.specs.Suspicions.{AreBars, bands, own_at, row_end}
-use Rattle.drawing.specs.Frame.{IsPicture, said, point, left_room, axis_width, x_of, is_among, shown, lanes_bottom, line_of, own_top, on_way}
-use Rattle.drawing.specs.declared.bars.Bar.{Bar}
-use Rattle.drawing.specs.declared.error.DrawError.{DrawError}
-use Rattle.drawing.specs.declared.error.DrawError.TheVariants.{TooManyProcesses, Ticks, TooManyLetters, Memory}
+use Rattle.drawing.specs.{Suspicions.{AreBars, bands, own_at, row_end}, Frame.{IsPicture, said, point, left_room, axis_width, x_of, is_among, shown, lanes_bottom, line_of, own_top, on_way}}
+use Rattle.drawing.specs.declared.{bars.Bar.{Bar}, error.DrawError.{DrawError, TheVariants.{TooManyProcesses, Ticks, TooManyLetters, Memory}}}
 
 -- a letter is of some processes where its sender or its receiver is one of them; where none is named, all letters are
 abbrev pub is_of : (of : List ℕ) → Letter → Bool
@@ -54,15 +42,13 @@ module _ (processes from until : ℕ) where
 
   -- a lost letter of n processes ends one n-th of the way to its receiver's line, at another height for each receiver
   abbrev pub lost : Letter → Shape
-  lost l =
-      shape.Stub class.Lost (place l.sent l.sender)
+  lost l = shape.Stub class.Lost (place l.sent l.sender)
       (point (x_of from until l.sent + 12)
       (on_way (line_of processes l.sender) (line_of processes l.receiver) 1 processes))
 
   -- a letter that is due at `until` or after leaves at the right edge, where the way to its place there goes through
   abbrev pub leaving : Letter → (due : ℕ) → Shape
-  leaving l due =
-      shape.Line class.Late (place l.sent l.sender)
+  leaving l due = shape.Line class.Late (place l.sent l.sender)
       (point (left_room + axis_width)
       (on_way (line_of processes l.sender) (line_of processes l.receiver) (until - l.sent) (due - l.sent)))
 
@@ -104,8 +90,7 @@ module _ (from until : ℕ) where
 
   -- where the stretch of a suspicion begins, and where it ends before the line does
   abbrev pub bar_turns : Class → (line end p : ℕ) → Bar → List Shape
-  bar_turns style line end p b =
-      turn_shapes style line (codes "+") p (shown from end (Some b.begin))
+  bar_turns style line end p b = turn_shapes style line (codes "+") p (shown from end (Some b.begin))
       ++ turn_shapes style line (codes "-") p (shown from end (Some b.end))
 
 module _ (S : Record) (trace : List EntryRecord) (from until : ℕ) where
@@ -116,8 +101,7 @@ module _ (S : Record) (trace : List EntryRecord) (from until : ℕ) where
   module _ (bars : (q p : ℕ) → List Bar) where
     -- the marks of process q: what it decides, and where it begins to suspect each other one and trusts it again
     unfoldable pub mark_shapes : (q : ℕ) → List Shape
-    mark_shapes q =
-        value_shapes (outcome trace q).value (shown from until (outcome trace q).tick)
+    mark_shapes q = value_shapes (outcome trace q).value (shown from until (outcome trace q).tick)
         ++ flat_map (λ p. flat_map (bar_turns from until (turn_class S.share) (line_of S.processes q)
         (row_end S until q) p) (bars q p)) (others S.processes q)
 
@@ -147,18 +131,16 @@ most_letters = 2000
 
 -- of the processes and the ticks asked for the first refusal, if there is one
 abbrev pub refusal : Record → (from until : ℕ) → Option DrawError
-refusal S from until =
-    if nat_lt most_drawn S.processes then Some TooManyProcesses
+refusal S from until = if nat_lt most_drawn S.processes then Some TooManyProcesses
     else if nat_lt from until && nat_le until S.horizon then None
     else Some Ticks
 
 -- where there is none of these, there is one where too many letters of these processes are sent at these ticks
 abbrev pub letters_refusal : Record → List Letter → (of : List ℕ) (from until : ℕ) → Option DrawError
-letters_refusal S letters of from until =
-    elim (refusal S from until) [
-      | Some first ↦ Some first
-      | None ↦ if nat_lt most_letters (length (sent_among of from until letters)) then Some TooManyLetters else None
-    ]
+letters_refusal S letters of from until = elim (refusal S from until) [
+  | Some first ↦ Some first
+  | None ↦ if nat_lt most_letters (length (sent_among of from until letters)) then Some TooManyLetters else None
+]
 
 abbrev pub IsMemory : DrawError → Type 0
 IsMemory TooManyProcesses = ⊥

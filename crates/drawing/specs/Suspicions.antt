@@ -1,21 +1,11 @@
 -- The marks of both pictures, the stretches of ticks at which a test holds, and the picture of who suspects whom.
 use Rattle.std.specs.Prelude.{ℕ, ◌+◌, ◌-◌, ◌==◌, max, min, nat_lt, Bool, not, ◌&&◌, ◌||◌, Option, None, Some, List, [], ◌∷◌, ◌++◌, filter, map, flat_map, length, codes, decimal, ◌≡◌, suc, ◌<◌, ◌≤◌, ◌↔◌, true, false, Contains}
-use Rattle.std.specs.List.{AllPairs}
-use Rattle.judges.specs.Turns.{end_tick}
-use Rattle.judges.specs.Out.{suspects}
-use Rattle.judges.specs.Outcomes.{outcome}
-use Rattle.judges.specs.declared.outcomes.Answer.{Answer}
+use Rattle.{std.specs.List.{AllPairs}, judges.specs.{Turns.{end_tick}, Out.{suspects}, Outcomes.{outcome}, declared.outcomes.Answer.{Answer}}}
 use Rattle.judges.specs.declared.outcomes.Answer.TheVariants as answer
-use Rattle.process_api.specs.Order.{EntryRecord}
-use Rattle.process_api.specs.Place.{numbers_to}
-use Rattle.scenario_record.specs.Record.{Record, crash, outages_on}
-use Rattle.scenario_record.specs.declared.outage.Outage.{Outage}
-use Rattle.svg.specs.declared.class.Class.{Class}
+use Rattle.{process_api.specs.{Order.{EntryRecord}, Place.{numbers_to}}, scenario_record.specs.{Record.{Record, crash, outages_on}, declared.outage.Outage.{Outage}}, svg.specs.declared.{class.Class.{Class}, shape.Shape.{Shape}}}
 use Rattle.svg.specs.declared.class.Class.TheVariants as class
-use Rattle.svg.specs.declared.shape.Shape.{Shape}
 use Rattle.svg.specs.declared.shape.Shape.TheVariants as shape
-use Rattle.drawing.specs.Frame.{IsPicture, said, point, left_room, row_height, x_of, shown, subjects, groups_bottom, row_top, left_out}
-use Rattle.drawing.specs.declared.bars.Bar.{Bar}
+use Rattle.drawing.specs.{Frame.{IsPicture, said, point, left_room, row_height, x_of, shown, subjects, groups_bottom, row_top, left_out}, declared.bars.Bar.{Bar}}
 
 module _ (test : ℕ → Bool) (from until : ℕ) where
   -- the test holds at ticks b.begin to b.end - 1, which can't be longer on either side among `from` to until - 1
@@ -70,8 +60,7 @@ module _ (from until : ℕ) where
 
 -- the row of process q itself: its name, a line through which it is up, its decision and its crash
 unfoldable pub own_at : Record → List EntryRecord → (from until top q : ℕ) → List Shape
-own_at S trace from until top q =
-    said class.Title (codes "process " ++ decimal q)
+own_at S trace from until top q = said class.Title (codes "process " ++ decimal q)
     ∷ life_line from until class.Life (top + 8) (row_end S until q)
     ∷ decision_shapes from until top (shown from until (decided (outcome trace q).value (outcome trace q).tick))
     ++ crash_shapes from until top (shown from until (crash S q))
@@ -86,7 +75,6 @@ abbrev pub upper_bars : (share : Option ℕ) → List Bar → List Bar
 upper_bars None bars = []
 upper_bars (Some period) bars = bars
 
--- whether there is a bar
 abbrev pub has_bar : List Bar → Bool
 has_bar bars = not (length bars == 0)
 
@@ -99,8 +87,7 @@ bar_shape from until class top b = stretch from until class top 6 b.begin b.end
 
 -- the row of observer q and subject p: its name, a line up to its end, its bars, and the crash of the subject
 unfoldable pub pair_at : Record → (from until : ℕ) (bars : (layer q p : ℕ) → List Bar) (top q p : ℕ) → List Shape
-pair_at S from until bars top q p =
-    said class.Label (decimal q ++ (codes ": " ++ decimal p))
+pair_at S from until bars top q p = said class.Label (decimal q ++ (codes ": " ++ decimal p))
     ∷ life_line from until class.Grid (top + 15) (row_end S until q)
     ∷ map (bar_shape from until class.First (top + first_top S.share)) (bars 1 q p)
     ++ (map (bar_shape from until class.Second (top + 8)) (upper_bars S.share (bars 2 q p))
@@ -108,17 +95,14 @@ pair_at S from until bars top q p =
 
 module _ (S : Record) (trace : List EntryRecord) (from until : ℕ) where
   module _ (bars : (layer q p : ℕ) → List Bar) where
-    -- the rows of process q
     unfoldable pub group_shapes : (q : ℕ) → List Shape
-    group_shapes q =
-        own_at S trace from until (groups_bottom (has_row S bars) S.processes (q - 1)) q
+    group_shapes q = own_at S trace from until (groups_bottom (has_row S bars) S.processes (q - 1)) q
         ++ flat_map (λ p. pair_at S from until bars (row_top (has_row S bars) S.processes q p) q p)
         (subjects (has_row S bars) S.processes q)
 
     -- the bands of these rows: in that of q and p, where the link from p to q is in an outage
     unfoldable pub group_bands : (q : ℕ) → List Shape
-    group_bands q =
-        flat_map (λ p. bands from until (row_top (has_row S bars) S.processes q p) (outages_on S p q))
+    group_bands q = flat_map (λ p. bands from until (row_top (has_row S bars) S.processes q p) (outages_on S p q))
         (subjects (has_row S bars) S.processes q)
 
   -- the text is a picture in which the bars of each pair are exactly its maximal stretches of suspicion from `from` to

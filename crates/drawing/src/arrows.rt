@@ -1,7 +1,6 @@
 //! The arrows of letters.
 ghost use Rattle.std.specs.Prelude.{◌≡◌, ◌++◌, ◌≤◌, ◌<◌, ◌*◌, ◌/◌, length, OnOk};
-ghost use Rattle.drawing.specs.Frame.{placeless, without_place, on_way};
-ghost use Rattle.drawing.specs.LettersPicture.{class_of, count_others, is_of, sent_among};
+ghost use Rattle.drawing.specs.{Frame.{placeless, without_place, on_way}, LettersPicture.{class_of, count_others, is_of, sent_among}};
 
 use crate::frame::push_mark;
 use crate::groups::Run;
@@ -84,9 +83,7 @@ fn on_way(from: u32, to: u32, part: u64, whole: u64) -> u32
 }
 
 impl Run<'_> {
-    ghost use Rattle.drawing.specs.Frame.{line_of};
-    ghost use Rattle.drawing.specs.LettersPicture.{arriving, ending, leaving, lost, place};
-    ghost use Rattle.drawing.specs.Inside.Drawn.{arrows_in};
+    ghost use Rattle.drawing.specs.{Frame.{line_of}, LettersPicture.{arriving, ending, leaving, lost, place}, Inside.Drawn.{arrows_in}};
 
     /// Where the line of a process is, from the top.
     fn line_of(&self, process: Pid) -> u32

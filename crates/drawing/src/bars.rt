@@ -1,8 +1,6 @@
 //! Stretches of ticks through which one process suspects another.
 ghost use Rattle.std.specs.Prelude.{◌≡◌, IfOk};
-ghost use Rattle.judges.specs.Out.{suspects};
-ghost use Rattle.drawing.specs.Suspicions.{AreBars};
-ghost use Rattle.drawing.specs.Inside.Sweeping.{stretches};
+ghost use Rattle.{judges.specs.Out.{suspects}, drawing.specs.{Suspicions.{AreBars}, Inside.Sweeping.{stretches}}};
 
 use crate::sweep::Sweep;
 use process_api::{Pid, Trace};

@@ -1,7 +1,6 @@
 //! The rows of processes: one for each itself, and one for each other process of which it has a bar.
 ghost use Rattle.std.specs.Prelude.{◌≡◌, ◌++◌, ◌+◌, ◌-◌, ◌≤◌, OnOk, IfOk};
-ghost use Rattle.judges.specs.Outcomes.{outcome};
-ghost use Rattle.drawing.specs.Frame.{placeless};
+ghost use Rattle.{judges.specs.Outcomes.{outcome}, drawing.specs.Frame.{placeless}};
 
 use crate::frame::push_mark;
 use crate::labels::own_name;
@@ -45,8 +44,7 @@ pub(crate) struct Rows {
 }
 
 impl Run<'_> {
-    ghost use Rattle.drawing.specs.Inside.Drawn.{AreRows, IsNext, own_of};
-    ghost use Rattle.drawing.specs.Suspicions.{row_end};
+    ghost use Rattle.drawing.specs.{Inside.Drawn.{AreRows, IsNext, own_of}, Suspicions.{row_end}};
 
     /// The tick at which the rows of a process end.
     pub fn row_end(&self, observer: Pid) -> u32

@@ -1,8 +1,7 @@
 //! The picture of letters.
 ghost use Rattle.std.specs.Prelude.{◌≡◌, ◌++◌, IfOk, IfErr, OnOk, MatchOption, Err};
 ghost use Rattle.judges.specs.Outcomes.{outcomes};
-ghost use Rattle.drawing.specs.Frame.{placeless};
-ghost use Rattle.drawing.specs.LettersPicture.{DrawsLetters, IsMemory, letters_refusal};
+ghost use Rattle.drawing.specs.{Frame.{placeless}, LettersPicture.{DrawsLetters, IsMemory, letters_refusal}};
 
 use crate::arrows::{count_others, count_sent};
 use crate::bands::outage_legend;

@@ -1,9 +1,7 @@
 //! The marks on the lines of processes: what they decide, and whom they begin to suspect or to trust again.
 ghost use Rattle.std.specs.Prelude.{◌≡◌, ◌++◌, ◌≤◌, OnOk};
 ghost use Rattle.judges.specs.Outcomes.{outcome};
-ghost use Rattle.drawing.specs.Frame.{placeless, line_of, shown};
-ghost use Rattle.drawing.specs.LettersPicture.{turn_class, upper_layer, value_shapes};
-ghost use Rattle.drawing.specs.Suspicions.{row_end};
+ghost use Rattle.drawing.specs.{Frame.{placeless, line_of, shown}, LettersPicture.{turn_class, upper_layer, value_shapes}, Suspicions.{row_end}};
 
 use crate::bars::{Bar, stretches_of};
 use crate::frame::push_mark;

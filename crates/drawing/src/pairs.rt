@@ -1,8 +1,6 @@
 //! The row of a pair of processes: when one suspects the other.
 ghost use Rattle.std.specs.Prelude.{◌≡◌, ◌+◌, ◌++◌, ◌||◌, ◌≤◌, ◌<◌, IfOk, OnOk};
-ghost use Rattle.process_api.specs.Place.{others};
-ghost use Rattle.drawing.specs.Frame.{placeless};
-ghost use Rattle.drawing.specs.Suspicions.{first_top, has_bar};
+ghost use Rattle.{process_api.specs.Place.{others}, drawing.specs.{Frame.{placeless}, Suspicions.{first_top, has_bar}}};
 
 use crate::bands::push_bands;
 use crate::bars::{Bar, stretches_of};
@@ -45,8 +43,7 @@ fn first_top(share: Option<u32>) -> u32
 }
 
 impl Run<'_> {
-    ghost use Rattle.drawing.specs.Inside.Drawn.{ArePairBars, AreRowsOf, bars_in, pair_of};
-    ghost use Rattle.drawing.specs.Suspicions.{upper_bars};
+    ghost use Rattle.drawing.specs.{Inside.Drawn.{ArePairBars, AreRowsOf, bars_in, pair_of}, Suspicions.{upper_bars}};
 
     /// The bars of an observer and a subject on a layer.
     fn bars(

@@ -1,7 +1,6 @@
 //! The shapes that stand in rows.
 ghost use Rattle.std.specs.Prelude.{◌≡◌, ◌+◌, ◌++◌, ◌≤◌, map, OnOk};
-ghost use Rattle.drawing.specs.Frame.{placeless, point, x_of};
-ghost use Rattle.drawing.specs.Suspicions.{bar_shape, crash_shapes, decided, decision_shapes, life_line, stretch};
+ghost use Rattle.drawing.specs.{Frame.{placeless, point, x_of}, Suspicions.{bar_shape, crash_shapes, decided, decision_shapes, life_line, stretch}};
 
 use crate::bars::Bar;
 use crate::frame::push_mark;

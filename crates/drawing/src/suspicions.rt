@@ -1,7 +1,6 @@
 //! The picture of who suspects whom.
 ghost use Rattle.std.specs.Prelude.{◌≡◌, ◌≤◌, ◌<◌, Err, IfOk, IfErr, IsOk, MatchOption};
-ghost use Rattle.drawing.specs.LettersPicture.{IsMemory, refusal};
-ghost use Rattle.drawing.specs.Suspicions.{DrawsSuspicions};
+ghost use Rattle.drawing.specs.{LettersPicture.{IsMemory, refusal}, Suspicions.{DrawsSuspicions}};
 
 use crate::bands::outage_legend;
 use crate::error::DrawError;

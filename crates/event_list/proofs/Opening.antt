@@ -1,8 +1,7 @@
 -- How a run opens.
 use Rattle.event_list.proofs.Words.{◌≡◌, ◌-◌, sym, ap, ◌∙◌, List, [], slice_get, map, Mind, numbers_to, Record, opening_mind, setting_of, Stands, Events, Process, starts, opening, opened, opening_world, opening_reached, setting_sound, number_at}
-use Rattle.std.proofs.lemmas.Simd.{map-map}
+use Rattle.{event_list.proofs.Standing.{opening_posted}, std.proofs.lemmas.Simd.{map-map}}
 use Rattle.scenario_record.specs.Ranges.{IsInRange}
-use Rattle.event_list.proofs.Standing.{opening_posted}
 
 -- machines that open as the scenario says stand at the opening
 pub opening_stands : (s : Record) → IsInRange s → (processes : List (Process Mind)) (pending : Events) → processes ≡ map opened (map (opening_mind s) (numbers_to s.processes)) → pending ≡ starts s.processes → Stands (setting_of s) processes pending [] []

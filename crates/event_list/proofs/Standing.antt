@@ -1,14 +1,9 @@
 -- A run of the list, step by step.
 use Rattle.event_list.proofs.Words.{◌≡◌, ◌≢◌, ℕ, zero, suc, ◌-◌, ◌<◌, refl, sym, ap, ◌∙◌, subst, List, [], ◌∷◌, ◌++◌, append_assoc, append-nil, length, Some, arith, slice_get, slice_set, get_or, map, option_map, get_or-map, get_or-set_same, length-map, length-set, get_or_from_slice_get, slice_get-get_or, slice_get-map, slice_get_read, slice_get_within, EntryRecord, Mind, Record, place_in, setting_of, Setting, IsSound, IsProcess, HasPosted, Stands, IsStepped, Posted, posted_in, posted_along, ArePosted, Events, Process, step, World, Has, IsLeast, NoneBelow, opening, made, taken, joined, IsTrace, reached_next, reached_end, reached_longer, by_receiver, taken_world}
 use Rattle.std.specs.FinMap as events
-use Rattle.process_api.specs.declared.key.Key.{Key}
-use Rattle.process_api.specs.declared.message.StepInput.{StepInput}
-use Rattle.process_api.proofs.Minds.{mind_place, same_own}
-use Rattle.pending_events.specs.Pending.{IsEmpty}
-use Rattle.trace_laws.specs.World.{IsReached}
-use Rattle.trace_laws.proofs.Runs.{again}
-use Rattle.trace_laws.proofs.Steps.{step_key}
-use Rattle.trace_laws.proofs.Sets.{same_Some}
+use Rattle.process_api.specs.declared.{key.Key.{Key}, message.StepInput.{StepInput}}
+use Rattle.{process_api.proofs.Minds.{mind_place, same_own}, pending_events.specs.Pending.{IsEmpty}}
+use Rattle.{trace_laws.specs.World.{IsReached}, trace_laws.proofs.{Runs.{again}, Steps.{step_key}, Sets.{same_Some}}}
 
 -- ---- the letters of a run, step by step
 

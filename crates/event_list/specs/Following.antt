@@ -1,12 +1,6 @@
 -- What a run leaves with whoever took its entries, and when it is refused.
 use Rattle.std.specs.Prelude.{◌≡◌, ◌⊎◌, ℕ, ◌≤◌, ◌<◌, List, ◌++◌, length, take, IsTrue}
-use Rattle.process_api.specs.Order.{EntryRecord, is_rising}
-use Rattle.process_api.specs.Mind.{Mind}
-use Rattle.process_api.specs.declared.run_error.RunError.{RunError}
-use Rattle.process_api.specs.declared.run_error.RunError.TheVariants.{Limit, Memory}
-use Rattle.trace_laws.specs.Setting.{Setting}
-use Rattle.trace_laws.specs.World.{IsTrace}
-use Rattle.trace_laws.specs.History.{HasCauses, TakesOnce}
+use Rattle.{process_api.specs.{Order.{EntryRecord, is_rising}, Mind.{Mind}, declared.run_error.RunError.{RunError, TheVariants.{Limit, Memory}}}, trace_laws.specs.{Setting.{Setting}, World.{IsTrace}, History.{HasCauses, TakesOnce}}}
 
 -- whatever was taken before, these entries were taken after it, in this order and nothing else
 abbrev pub WereTaken : (old new : List EntryRecord → Type 0) → List EntryRecord → Type 0
@@ -24,8 +18,7 @@ pub record IsRecorded (S : Setting Mind) (limit : ℕ) (old new : List EntryReco
 
 -- of a longer trace just the first so many entries were taken
 abbrev pub IsCutShort : (S : Setting Mind) (limit : ℕ) (old new : List EntryRecord → Type 0) → Type 0
-IsCutShort S limit old new =
-    (whole : List EntryRecord) → IsTrace S whole → WereTaken old new (take limit whole)
+IsCutShort S limit old new = (whole : List EntryRecord) → IsTrace S whole → WereTaken old new (take limit whole)
 
 -- every trace is longer than so many entries
 abbrev pub IsTooLong : (S : Setting Mind) (limit : ℕ) → Type 0

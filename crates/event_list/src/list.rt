@@ -2,14 +2,9 @@
 ghost use Rattle.std.specs.Prelude.{◌≡◌, ◌≤◌, ◌<◌, ◌+◌, ◌^◌, [], ℕ, length, IfErr, IfOk, OnOk, IsErrOf, All, map, vec_len};
 ghost use Rattle.process_api.specs.Place.{most_processes, most_step_actions, numbers_to};
 ghost use Rattle.scenario_record.specs.Record.{opening_mind};
-ghost use Rattle.trace_laws.specs.History.{HasCauses, TakesOnce};
-ghost use Rattle.trace_laws.specs.Taken.{HaveJoined};
-ghost use Rattle.steps.specs.Posting.{WereHeard};
-ghost use Rattle.event_list.specs.Following.{IsCutShort, IsRecorded, IsRefusal, IsTooLong, WasTold};
-ghost use Rattle.trace_laws.specs.Setting.{setting_of, IsProcess};
-ghost use Rattle.steps.specs.Seat.{process_of, IsMindIn, IsSeated};
-ghost use Rattle.event_list.specs.Inside.Standing.{posted_at, processes_of, AreSeated, ForReceiver, Stands, TookStep};
-ghost use Rattle.trace_laws.specs.World.{starts, opened, IsTrace};
+ghost use Rattle.trace_laws.specs.{History.{HasCauses, TakesOnce}, Taken.{HaveJoined}, Setting.{setting_of, IsProcess}, World.{starts, opened, IsTrace}};
+ghost use Rattle.steps.specs.{Posting.{WereHeard}, Seat.{process_of, IsMindIn, IsSeated}};
+ghost use Rattle.event_list.specs.{Following.{IsCutShort, IsRecorded, IsRefusal, IsTooLong, WasTold}, Inside.Standing.{posted_at, processes_of, AreSeated, ForReceiver, Stands, TookStep}};
 
 use pending_events::Pending;
 use process_api::{Action, Entry, Follower, Key, Pid, Process, RunError, StepInput, Trace};

@@ -4,10 +4,7 @@ use Rattle.std.proofs.lemmas.Bool.Decides.{nat_tests}
 use Rattle.std.specs.FinSet as set
 use Rattle.process_api.specs.declared.action.Action.TheVariants as action
 use Rattle.process_api.specs.declared.action.Note.TheVariants as note
-use Rattle.process_api.proofs.Changes.{changes-left}
-use Rattle.process_api.proofs.FreshnessLaws.{contains-suspected, only_others}
-use Rattle.process_api.proofs.Keeping.{apart_from_itself}
-use Rattle.process_api.proofs.LayerNotes.{changes-none}
+use Rattle.process_api.proofs.{Changes.{changes-left}, FreshnessLaws.{contains-suspected, only_others}, Keeping.{apart_from_itself}, LayerNotes.{changes-none}}
 
 module _ (place : Place) (numbers : FreshnessNumbers) (s : FreshnessState) (suspects : Processes) (are : (q : ℕ) → set.contains suspects q ≡ set.contains (suspected place numbers s) q) where
   pub same_suspects : suspects ≡ suspected place numbers s

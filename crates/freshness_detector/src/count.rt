@@ -1,6 +1,5 @@
 //! Counts, and the greatest number that came.
-ghost use Rattle.std.specs.Prelude.{◌≡◌, ℕ, false, nat_le, ◌||◌};
-ghost use Rattle.std.specs.Option.{option_map_or};
+ghost use Rattle.std.specs.{Prelude.{◌≡◌, ℕ, false, nat_le, ◌||◌}, Option.{option_map_or}};
 ghost use Rattle.process_api.specs.Freshness as freshness;
 
 /// The number of the next heartbeat, or of the next point. They are counted up to 1,000,000,000,000, and stay there; no

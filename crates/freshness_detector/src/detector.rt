@@ -1,10 +1,8 @@
 //! The detector of one process.
 ghost use Rattle.std.specs.Prelude.{◌≡◌, ◌≤◌, ◌+◌, ◌++◌, ◌&&◌, nat_le, false, true, IsTrue, IfOk, OnOk, map, vec_len};
 ghost use Rattle.std.specs.FinSet as set;
-ghost use Rattle.process_api.specs.Detector.{is_freshness};
-ghost use Rattle.process_api.specs.declared.numbers.DetectorNumbers.TheVariants.{Freshness};
-ghost use Rattle.scenario_record.specs.Ranges.{AreFreshnessInRange};
-ghost use Rattle.scenario_record.specs.Opening.{base_of};
+ghost use Rattle.process_api.specs.{Detector.{is_freshness}, declared.numbers.DetectorNumbers.TheVariants.{Freshness}};
+ghost use Rattle.scenario_record.specs.{Ranges.{AreFreshnessInRange}, Opening.{base_of}};
 ghost use Rattle.freshness_detector.specs.Inside.Tables.{state_by, AreSuspects};
 
 use crate::count::{greatest, has_come, next};

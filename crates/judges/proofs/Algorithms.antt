@@ -1,11 +1,9 @@
 -- What the algorithms do: they send letters of their own kinds, and note rounds and decisions alone.
 use Rattle.judges.proofs.Words.{ℕ, zero, suc, ◌+◌, Bool, true, false, ◌&&◌, nat_lt, nat_le, nat_eq, Option, None, Some, is_some, unwrap_or, [], ◌∷◌, AllByRecursion, cond_both, Answer, still, after, to_all, Coordinator, broadcast, AlgorithmState, Idle, Exchanging, Coordinating, numbers_to, react_algorithm, Processes, Action, Phase, Collect, Await, Tally, Payload, StepInput, both, images, always}
 use Rattle.std.specs.FinSet as set
-use Rattle.process_api.specs.Rows.{cell}
-use Rattle.process_api.specs.ConsensusS.{Exchange}
+use Rattle.process_api.specs.{Rows.{cell}, ConsensusS.{Exchange}, Coordinator.{coordinator, greatest_round, is_own, majority, count_to}}
 use Rattle.process_api.specs.ConsensusS as exchange
 use Rattle.process_api.specs.Coordinator as rotating
-use Rattle.process_api.specs.Coordinator.{coordinator, greatest_round, is_own, majority, count_to}
 use Rattle.process_api.specs.declared.action.Action.TheVariants as action
 use Rattle.process_api.specs.declared.action.Note.TheVariants as note
 use Rattle.process_api.specs.declared.message.Payload.TheVariants as payload

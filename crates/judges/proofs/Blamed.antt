@@ -1,21 +1,15 @@
 -- Every suspicion of layer 2 has an earlier one of layer 1: a set that is on its way was some base detector's, which had noted
 -- each of its members.
 use Rattle.judges.proofs.Words.{◌≡◌, ℕ, inl, inr, refl, sym, ap, ◌∙◌, subst, Bool, true, false, cond, List, [], ◌∷◌, ◌++◌, append_assoc, append-nil, ◌⊎◌, ◌≤◌, ◌&&◌, ◌==◌, nat_le, arith, fold, cases_eq, cond_both, leb-true, eqb-true, and_parts, Answer, EntryRecord, Processes, Action, Key, StepInput, IsIn, in_left, in_right, in_append, process_at, process_other, taken_cases, taken_world, opening_world, trace_rises, list_all, is_before, is_rising, Suspect, Trust, ticks_rise, IsInRange, Record, setting_of, setting_sound, Set, nobody, with, without, notes_until, after_note, out}
+use Rattle.judges.proofs.{Letters.{added_letter, no_letter_first}, PartsActions.{IsSharing, IsShared, RunsReduction}, Members.{each_of}, Instances.{runs_reduction}, Order.{less_from}}
 use Rattle.std.specs.FinSet as set
 use Rattle.process_api.specs.declared.action.Action.TheVariants as action
 use Rattle.process_api.specs.declared.action.Note.{Note}
 use Rattle.process_api.specs.declared.action.Note.TheVariants as note
 use Rattle.process_api.specs.declared.message.Payload.TheVariants as payload
 use Rattle.process_api.specs.declared.message.StepInput.TheVariants as input
-use Rattle.trace_laws.specs.Setting.{Setting, IsSound, IsProcess, has_crashed}
-use Rattle.trace_laws.specs.Step.{Process, Made, noted, dead, made_by}
-use Rattle.trace_laws.specs.World.{World, Pair, Has, IsWorld, Run, made, taken, opening, entries, IsTrace}
-use Rattle.judges.proofs.Letters.{added_letter, no_letter_first}
-use Rattle.judges.proofs.PartsActions.{IsSharing, IsShared, RunsReduction}
-use Rattle.judges.proofs.Members.{each_of}
+use Rattle.trace_laws.specs.{Setting.{Setting, IsSound, IsProcess, has_crashed}, Step.{Process, Made, noted, dead, made_by}, World.{World, Pair, Has, IsWorld, Run, made, taken, opening, entries, IsTrace}}
 use Rattle.judges.specs.Out.{IsBlamedBy, SharesSuspicions}
-use Rattle.judges.proofs.Instances.{runs_reduction}
-use Rattle.judges.proofs.Order.{less_from}
 
 -- some entry notes that its process suspects p on layer 1
 abbrev pub IsBlamed : List EntryRecord → (p : ℕ) → Type 0

@@ -1,9 +1,6 @@
 -- The verdicts at the close.
 use Rattle.judges.proofs.Words.{◌≡◌, ℕ, zero, suc, ◌+◌, ◌*◌, ◌<◌, Bool, cond, not, ◌&&◌, inl, inr, refl, sym, ap, ◌∙◌, subst, arith, Option, None, Some, List, get_or, cases_lt, lt-ltb, le-ltb, eq-eqb, ne_eqb, not-not, EntryRecord, Record, crash_tick, is_crashed, is_correct, end_of, all_below, any_below, suspects, verdicts, opened, ArePairs, fed, turns, Knows, new_track, passed, suspected_from, trusted_from, latest, earliest, latest_below, earliest_below, pair, place, counts_as_correct, row_suspected, column_suspected, row_trusted, column_trusted, column_right, grid_verdicts, Pairs, Track}
-use Rattle.judges.proofs.Judging.{AreTracks, judged, verdicts_are}
-use Rattle.judges.proofs.Tracks.{tracks_keep, none_known}
-use Rattle.judges.proofs.Standing.{IsKnown, fed_known, shown, shown_all}
-use Rattle.judges.proofs.Below.{any_below-same}
+use Rattle.judges.proofs.{Judging.{AreTracks, judged, verdicts_are}, Tracks.{tracks_keep, none_known}, Standing.{IsKnown, fed_known, shown, shown_all}, Below.{any_below-same}}
 
 latest-same : (o r : ℕ → Option ℕ) (n : ℕ) → ((i : ℕ) → i < n → o i ≡ r i) → latest_below o n ≡ latest_below r n
 latest-same o r zero h = refl

@@ -1,10 +1,8 @@
 -- All pairs, as they open and as they are fed with one more entry.
 use Rattle.judges.proofs.Words.{◌≡◌, ◌≢◌, ℕ, suc, ◌+◌, ◌-◌, ◌*◌, ◌/◌, ◌%◌, ◌<◌, ◌≤◌, min, Bool, cond, ◌&&◌, inl, inr, refl, sym, ap, ◌∙◌, subst, arith, eqb, List, [], ◌∷◌, ◌++◌, set, length, get_or, and-true, cases_eq, cond-true, cond-false, cond_both, lt-ltb, eq-eqb, eqb-true, ne_eqb, with_items_is, get_or_default, get_or-set_same, get_or-set_other, length-set, fold-append, mul-add-lt, div-mul-add, mod-mul-add, EntryRecord, Record, end_of, AreEnds, end_tick, opened_at, opened, turned, all_turned, AreTurned, Turn, noted_turns, entry_turns, turns, Pairs}
-use Rattle.std.specs.Vec.{with_items, vec_len}
-use Rattle.process_api.specs.Place.{most_processes}
-use Rattle.judges.specs.Pairs.{AreUntil, ArePairs, fed}
-use Rattle.judges.specs.declared.pair.Pair.{Pair}
 use Rattle.judges.proofs.Turns.{turns_more, turns_late, turns_quiet, in_order_more}
+use Rattle.{std.specs.Vec.{with_items, vec_len}, process_api.specs.Place.{most_processes}}
+use Rattle.judges.specs.{Pairs.{AreUntil, ArePairs, fed}, declared.pair.Pair.{Pair}}
 
 module _ {K : Type 0} (passed : ℕ → Bool → ℕ → K → K) where
   -- ---- turns of the pairs of n processes

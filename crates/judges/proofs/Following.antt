@@ -1,7 +1,6 @@
 -- Whoever follows a trace, told of one more entry.
-use Rattle.judges.proofs.Words.{ℕ, List, [], ◌∷◌, ◌++◌, EntryRecord, Record}
+use Rattle.judges.proofs.{Words.{ℕ, List, [], ◌∷◌, ◌++◌, EntryRecord, Record}, Order.{before_one, rising_front}}
 use Rattle.judges.specs.Pairs.{AreUntil, HasFollowed}
-use Rattle.judges.proofs.Order.{before_one, rising_front}
 
 pub next_followed : {F : Type 0} (fed : Record → ℕ → List EntryRecord → F → Type 0) (old new : F) (entry : EntryRecord)
     → ((S : Record) (layer : ℕ) (trace : List EntryRecord) → fed S layer trace old → AreUntil trace entry.key.tick → fed S layer (trace ++ entry ∷ []) new)

@@ -1,17 +1,14 @@
 -- The machines of a scenario are such as the promises on traces ask for: their parts act one after the other. Of the base
 -- detector its laws alone are used.
 use Rattle.judges.proofs.Words.{◌≡◌, ℕ, refl, Bool, true, false, ◌++◌, Option, None, Some, inl, inr, sym, ap, ◌∙◌, subst, unwrap_or, IsTrue, AllByRecursion, Answer, Coordinator, opening_coordinator, step_coordinator, Lower, AlgorithmState, Idle, Exchanging, Coordinating, Mind, suspects_of, stands_at, is_mind_at, Place, react_lower, react_algorithm, react, ReductionState, step_reduction, Processes, Action, StepInput, both, weaker, IsIn, in_left, IsOfDetector, Record, proposal, place_in, opening_algorithm, setting_of}
+use Rattle.judges.proofs.{Algorithms.{IsOfAlgorithm, algorithm_acts}, Agreement.Joined.{IsOfLower, IsJoined, RunsCoordinator}}
+use Rattle.judges.proofs.PartsActions.{reduction_shares, detector_is_lower, detector_is_sharing, algorithm_is_sharing, reduction_lower, IsSharing, IsShared, RunsReduction, noted_where_new}
 use Rattle.std.specs.FinSet as set
 use Rattle.process_api.specs.Detector.{DetectorState, suspected_by, step_detector}
-use Rattle.process_api.proofs.Minds.{same_own, same_count, mind_place, mind_trusts, mind_stands}
+use Rattle.process_api.proofs.{Minds.{same_own, same_count, mind_place, mind_trusts, mind_stands}, DetectorLaws.{detector_opens, detector_laws}, Keeping.{lower_place, lower_trusts, suspects_leave_out}}
 use Rattle.process_api.specs.declared.action.Action.TheVariants as action
 use Rattle.process_api.specs.declared.action.Note.TheVariants as note
-use Rattle.process_api.proofs.DetectorLaws.{detector_opens, detector_laws}
-use Rattle.process_api.proofs.Keeping.{lower_place, lower_trusts, suspects_leave_out}
 use Rattle.scenario_record.specs.declared.algorithm.AlgorithmKind.TheVariants as kind
-use Rattle.judges.proofs.Algorithms.{IsOfAlgorithm, algorithm_acts}
-use Rattle.judges.proofs.Agreement.Joined.{IsOfLower, IsJoined, RunsCoordinator}
-use Rattle.judges.proofs.PartsActions.{reduction_shares, detector_is_lower, detector_is_sharing, algorithm_is_sharing, reduction_lower, IsSharing, IsShared, RunsReduction, noted_where_new}
 
 -- the base detector's step
 abbrev pub based : Lower → ℕ → StepInput → Answer DetectorState

@@ -1,9 +1,8 @@
 -- The verdicts are what the tracks tell.
 use Rattle.judges.proofs.Words.{◌≡◌, ℕ, zero, suc, ◌<◌, Bool, true, false, cond, ◌&&◌, ◌||◌, refl, sym, ◌∙◌, arith, Option, None, Some, ◌≤◌, min, not, ap, List, subst, if◌then◌else◌, le-leb, lt-leb, lt-ltb, ltb-true, ltb-false, not-true, not_from_false, cond_both, nat_tests, all_below, any_below, all_from, least_below, IsReached, reached, latest, earliest, latest_below, earliest_below, Knows, suspected_from, trusted_from, EntryRecord, Track, Record, is_crashed, is_correct, end_of, crash_tick, is_up, suspects, strong_accuracy, weak_accuracy, strong_completeness, weak_completeness, eventual_strong_accuracy, eventual_weak_accuracy, verdicts}
-use Rattle.judges.proofs.Lasting.{all_from-and, all_from-from, least_below-is, least_below-none, same_tests}
-use Rattle.judges.specs.declared.verdicts.Verdicts.{Verdicts}
-use Rattle.judges.proofs.Below.{all_below-at, all_below-from, any_below-none, any_below-at, any_below-same, where_at, where_from}
+use Rattle.judges.proofs.{Lasting.{all_from-and, all_from-from, least_below-is, least_below-none, same_tests}, Below.{all_below-at, all_below-from, any_below-none, any_below-at, any_below-same, where_at, where_from}}
 use Rattle.judges.proofs.Tracks.{suspected_reached, trusted_reached}
+use Rattle.judges.specs.declared.verdicts.Verdicts.{Verdicts}
 
 -- ---- tests that pass just from one tick on: all of several, and some of several
 

@@ -1,9 +1,7 @@
 -- The tests of the verdicts are the quantifiers.
 use Rattle.judges.proofs.Words.{◌≡◌, ℕ, zero, suc, ◌<◌, ◌≤◌, Bool, true, false, cond, not, inl, inr, refl, subst, arith, Option, None, Some, List, cases_lt, lt-ltb, le-ltb, ltb-true, ltb-false, both_ways, and_parts, and_from, not-true, not_from_false, EntryRecord, Record, crash_tick, is_up, is_crashed, is_correct, all_below, all_from, least_below, first_of, suspects, each, some, verdicts}
-use Rattle.std.specs.Bool.{Decides}
-use Rattle.judges.specs.Verdicts.{IsLeastTick, IsProcess, Suspects, AreVerdicts}
-use Rattle.judges.proofs.Below.{all_below-at, all_below-from, any_below-from, any_below-some, where_at, where_from}
-use Rattle.judges.proofs.Lasting.{all_from-at, all_from-from}
+use Rattle.judges.proofs.{Below.{all_below-at, all_below-from, any_below-from, any_below-some, where_at, where_from}, Lasting.{all_from-at, all_from-from}}
+use Rattle.{std.specs.Bool.{Decides}, judges.specs.Verdicts.{IsLeastTick, IsProcess, Suspects, AreVerdicts}}
 
 -- a test that decides a fact at each tick finds the least tick
 least_tick : (test : ℕ → Bool) (P : ℕ → Type 0) (end : ℕ) → ((t : ℕ) → Decides (test t) (P t)) → IsLeastTick P end (least_below test end)

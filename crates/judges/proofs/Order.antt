@@ -1,7 +1,6 @@
 -- Rising keys have rising ticks.
 use Rattle.judges.proofs.Words.{◌≡◌, ℕ, suc, ◌<◌, true, refl, sym, ap, ◌∙◌, List, [], ◌∷◌, ◌++◌, take, drop, length, get_or, Ordering, Less, Equal, Greater, list_all, take-append-drop, list_all-append, and_parts, and_from, is_less, is_before, is_rising, EntryRecord, ticks_rise}
-use Rattle.std.proofs.Math.Seq.{drop-cons}
-use Rattle.judges.specs.Pairs.{AreUntil}
+use Rattle.{std.proofs.Math.Seq.{drop-cons}, judges.specs.Pairs.{AreUntil}}
 
 pub less_from : (o : Ordering) → is_less o ≡ true → o ≡ Less
 less_from Less e = refl

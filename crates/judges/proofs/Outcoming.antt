@@ -1,8 +1,7 @@
 -- The outcomes after one more entry.
 use Rattle.judges.proofs.Words.{arith, ◌≡◌, ℕ, max, true, false, cond, refl, sym, ap, ◌∙◌, eqb, Option, None, Some, List, [], ◌∷◌, ◌++◌, append_assoc, append-nil, zero, suc, ◌-◌, ◌<◌, inl, inr, map, length, get_or, set, length-append, fold_push, cond_both, eq-eqb, ne_eqb, cases_eq, cases_lt, same_Some, Round, Decided, NoValue, EntryRecord, Outcome, length-map, map-append, get_or-set_same, get_or-set_other, length-set, get_or_append_left, get_or-append_right, same_lists, numbers_to}
 use Rattle.process_api.specs.declared.action.Note.{Note}
-use Rattle.judges.specs.Outcomes.{timed, notes_of, is_answer, answer_of, round_of, first_answer, value_of, tick_of, greatest_round, outcome_of, outcome, outcomes}
-use Rattle.judges.specs.Inside.Noting.{answered, noted, all_noted}
+use Rattle.judges.specs.{Outcomes.{timed, notes_of, is_answer, answer_of, round_of, first_answer, value_of, tick_of, greatest_round, outcome_of, outcome, outcomes}, Inside.Noting.{answered, noted, all_noted}}
 
 notes_of-push : (trace : List EntryRecord) (entry : EntryRecord) (p : ℕ) → notes_of (trace ++ entry ∷ []) p ≡ notes_of trace p ++ cond (eqb entry.key.receiver p) (timed entry.key.tick entry.notes) []
 notes_of-push [] entry p = elim (eqb entry.key.receiver p) as (λ b. cond b (timed entry.key.tick entry.notes ++ []) [] ≡ cond b (timed entry.key.tick entry.notes) []) [ true ↦ append-nil _ | false ↦ refl ]

@@ -1,22 +1,16 @@
 -- What the parts of a process do at an input: a base detector of any kind, a reduction above it, and above that an algorithm
 -- of any kind.
 use Rattle.judges.proofs.Words.{AllByRecursion, filter, Action, StepInput, IsIn, ◌≡◌, ℕ, inl, inr, refl, sym, ap, ◌∙◌, true, false, ◌&&◌, not, nat_le, map, ◌⊎◌, zero, suc, ◌≤◌, subst, Bool, cond, nat_eq, List, [], ◌∷◌, arith, and_parts, or_cases, not-true, leb-true, cases_eq, to_all, numbers_to, is_process, Place, ReductionState, gathered, next_share, step_reduction, both, images, always, IsDetectorStep, IsOfDetector, in_append, in_left, in_right}
+use Rattle.judges.proofs.{Algorithms.{all_sent, IsOfAlgorithm}, Members.{in_image, in_filter}, Agreement.Joined.{IsOfLower}}
 use Rattle.std.specs.FinSet as set
-use Rattle.process_api.specs.Sets.{Processes, up_to, gone, changes}
+use Rattle.process_api.specs.{Sets.{Processes, up_to, gone, changes}, declared.action.Note.{Note}, Answer.{of_layer, notes_of_layer}, Place.{is_other}}
 use Rattle.process_api.specs.declared.action.Action.TheVariants as action
 use Rattle.process_api.specs.declared.action.Note.TheVariants as note
 use Rattle.process_api.specs.declared.message.Payload.TheVariants as payload
 use Rattle.process_api.specs.declared.message.StepInput.TheVariants as input
 use Rattle.trace_laws.specs.Setting.{Setting, IsProcess}
-use Rattle.std.specs.Cmp.{nat_cmp_total}
-use Rattle.std.specs.FinMap.{nat_cmp-IsAntisymmetric}
-use Rattle.process_api.specs.declared.action.Note.{Note}
+use Rattle.std.specs.{Cmp.{nat_cmp_total}, FinMap.{nat_cmp-IsAntisymmetric}}
 use Rattle.process_api.specs.declared.message.Tag.TheVariants as tag
-use Rattle.judges.proofs.Algorithms.{all_sent, IsOfAlgorithm}
-use Rattle.process_api.specs.Answer.{of_layer, notes_of_layer}
-use Rattle.process_api.specs.Place.{is_other}
-use Rattle.judges.proofs.Members.{in_image, in_filter}
-use Rattle.judges.proofs.Agreement.Joined.{IsOfLower}
 
 -- What a process may do at an input, after which its base detector suspects these: the sets that it sends are these, and whom
 -- it suspects on layer 2 a set has that comes

@@ -1,7 +1,7 @@
 -- What is kept of a pair after its turns in a trace, as all ticks below the horizon are behind.
 use Rattle.judges.proofs.Words.{◌≡◌, ℕ, ◌<◌, ◌≤◌, Bool, true, false, cond, inl, inr, refl, ap, ◌∙◌, subst, arith, List, [], ◌∷◌, beq, cases_lt, cond_both, le-leb, lt-leb, EntryRecord, Record, end_of, suspects, opened, turned, all_turned, kept_at, AreFrom, fed, Turn, turns}
-use Rattle.judges.specs.declared.pair.Pair.{Pair}
 use Rattle.judges.proofs.Turns.{stood, standing, AreWithin, suspects_is, turns_within}
+use Rattle.judges.specs.declared.pair.Pair.{Pair}
 
 pub same_from_beq : (x y : Bool) → beq x y ≡ true → x ≡ y
 same_from_beq x y e = grind arith

@@ -1,9 +1,7 @@
 -- What a track knows as it goes on, and what it tells at the end.
 use Rattle.judges.proofs.Words.{◌≡◌, ℕ, zero, suc, ◌-◌, ◌<◌, ◌≤◌, min, Bool, true, false, cond, not, ◌&&◌, ◌||◌, inl, inr, refl, sym, ap, ◌∙◌, subst, arith, ltb, None, Some, cases_lt, lt-ltb, le-ltb, le-leb, lt-leb, cond-true, cond-false, cond_both, both_ways, false_from_ne_true, nat_tests, or-false, or-true, beq, any_below, all_from, before, Track}
-use Rattle.judges.specs.Track.{Knows, IsSteady, IsReached, new_track, gone, passed, suspected_from, trusted_from}
-use Rattle.judges.proofs.Below.{any_below-from}
-use Rattle.judges.proofs.Lasting.{all_from-at, all_from-from, last_before}
-use Rattle.judges.proofs.Standing.{IsKeeping, same_from_beq}
+use Rattle.judges.proofs.{Below.{any_below-from}, Lasting.{all_from-at, all_from-from, last_before}, Standing.{IsKeeping, same_from_beq}}
+use Rattle.judges.specs.{Inside.Private.{Knows, IsSteady}, Track.{IsReached, new_track, gone, passed, suspected_from, trusted_from}}
 
 before_last : (f : ℕ → Bool) (a b : ℕ) (now : Bool) → a < b → ((u : ℕ) → a ≤ u → u < b → f u ≡ now) → before f b ≡ now
 before_last f a zero now l same = absurd (omega arith)

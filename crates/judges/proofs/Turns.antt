@@ -1,7 +1,6 @@
 -- The turns of a pair in a trace, and whether its observer suspects its subject by them.
 use Rattle.judges.proofs.Words.{◌≡◌, ◌≢◌, ℕ, ◌+◌, ◌<◌, ◌≤◌, Bool, true, false, cond, ◌&&◌, inl, inr, refl, sym, ap, ◌∙◌, arith, leb, ltb, eqb, Option, None, Some, List, [], ◌∷◌, ◌++◌, take, length, get_or, append-nil, cases_Bool, cond-true, cond-false, cond_both, and_parts, and_from, and_left, and_right, le-leb, lt-leb, lt-ltb, le-ltb, eq-eqb, ne_eqb, leb-true, leb-false, ltb-true, flat_map-append, take_more, fold-append, EntryRecord, Suspect, Trust, Set, nobody, with, without, after_note, notes_until, suspects, Turn, turn_of, turns_at, noted_turns, entry_turns, turns}
-use Rattle.std.specs.List.{fold}
-use Rattle.process_api.specs.declared.action.Note.{Note}
+use Rattle.{std.specs.List.{fold}, process_api.specs.declared.action.Note.{Note}}
 use Rattle.judges.specs.Pairs.{AreFrom, AreUntil}
 
 -- whether there is suspicion at a tick, after turns
@@ -17,13 +16,6 @@ AreWithin first horizon [] = first ≤ horizon
 AreWithin first horizon (t ∷ ts) = (first ≤ t.tick) × AreWithin t.tick horizon ts
 
 -- ---- the notes of an entry
-
-pub noted_more : (layer p tick : ℕ) (notes : List Note) (i : ℕ) (note : Note) → i < length notes → note ≡ get_or notes i note
-    → noted_turns layer p tick (take (i + 1) notes) ≡ noted_turns layer p tick (take i notes) ++ turns_at p tick (turn_of layer note)
-noted_more layer p tick notes i note l is =
-    ap (noted_turns layer p tick) (take_more notes i note l ∙ ap (λ n. take i notes ++ n ∷ []) (sym is))
-    ∙ flat_map-append (λ n. turns_at p tick (turn_of layer n)) (take i notes) (note ∷ [])
-    ∙ ap (λ ts. noted_turns layer p tick (take i notes) ++ ts) (append-nil (turns_at p tick (turn_of layer note)))
 
 module _ (layer p tick u : ℕ) where
   module _ (g : ℕ → Bool) where

@@ -42,12 +42,13 @@ pub use Rattle.trace_laws.specs.Step.{Event, Made, added, by_fate, counted, dead
 pub use Rattle.trace_laws.specs.World.{Has, IsTrace, start_of, starts}
 pub use Rattle.judges.specs.Agreement.{Agree, Agrees, DecidesOnce, answers_of}
 pub use Rattle.judges.specs.Out.{crash_tick, end_of, is_correct, is_crashed, is_up, Set, after_note, nobody, notes_until, out, suspects, with, without}
-pub use Rattle.judges.specs.Turns.{AreEnds, end_tick, opened_at, AreTurned, all_turned, kept_at, opened, turned, Turn, entry_turns, noted_turns, turn_of, turns, turns_at}
+pub use Rattle.judges.specs.Inside.Private.{AreEnds, opened_at, Knows}
+pub use Rattle.judges.specs.Turns.{end_tick, AreTurned, all_turned, kept_at, opened, turned, Turn, entry_turns, noted_turns, turn_of, turns, turns_at}
 pub use Rattle.judges.specs.Pairs.{AreFrom, ArePairs, fed, IsJudging}
 pub use Rattle.judges.specs.Verdicts.{column_right, column_suspected, column_trusted, counts_as_correct, grid_verdicts, pair, place, row_right, row_suspected, row_trusted, AreVerdicts, each, eventual_strong_accuracy, eventual_weak_accuracy, some, strong_accuracy, strong_completeness, verdicts, weak_accuracy, weak_completeness}
 pub use Rattle.judges.specs.Inside.Noting.{all_noted}
 pub use Rattle.judges.specs.Outcomes.{is_answer, notes_of, outcome, outcomes, timed, value_of}
-pub use Rattle.judges.specs.Track.{all_below, all_from, any_below, before, first_of, least_below, IsReached, Knows, earliest, earliest_below, latest, latest_below, new_track, passed, reached, suspected_from, trusted_from}
+pub use Rattle.judges.specs.Track.{all_below, all_from, any_below, before, first_of, least_below, IsReached, earliest, earliest_below, latest, latest_below, new_track, passed, reached, suspected_from, trusted_from}
 pub use Rattle.judges.specs.declared.outcomes.Outcome.{Outcome}
 pub use Rattle.judges.specs.declared.pairs.Pairs.{Pairs}
 pub use Rattle.judges.specs.declared.track.Track.{Track}

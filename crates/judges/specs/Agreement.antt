@@ -1,18 +1,8 @@
 -- What a run of the rotating coordinator promises under every scenario: agreement, validity and integrity, the safety
 -- half of the consensus of Chandra and Toueg (Journal of the ACM 43(2), 1996).
 use Rattle.std.specs.Prelude.{◌≡◌, ◌≢◌, ◌⊎◌, ℕ, List, [], ◌∷◌, Some, filter}
-use Rattle.process_api.specs.Order.{EntryRecord}
-use Rattle.process_api.specs.declared.action.Note.{Note}
-use Rattle.process_api.specs.declared.action.Note.TheVariants.{Decided}
-use Rattle.scenario_record.specs.Record.{Record, proposal}
-use Rattle.scenario_record.specs.declared.algorithm.AlgorithmKind.TheVariants.{EventuallyStrong}
-use Rattle.trace_laws.specs.History.{IsIn}
-use Rattle.trace_laws.specs.Setting.{setting_of}
-use Rattle.trace_laws.specs.World.{IsTrace}
-use Rattle.judges.specs.Verdicts.{IsProcess}
-use Rattle.judges.specs.Outcomes.{notes_of, is_answer, outcomes}
-use Rattle.judges.specs.declared.outcomes.Answer.TheVariants.{Value, NoValue}
-use Rattle.judges.specs.declared.outcomes.Outcome.{Outcome}
+use Rattle.{process_api.specs.{Order.{EntryRecord}, declared.action.Note.{Note, TheVariants.{Decided}}}, scenario_record.specs.{Record.{Record, proposal}, declared.algorithm.AlgorithmKind.TheVariants.{EventuallyStrong}}}
+use Rattle.{trace_laws.specs.{History.{IsIn}, Setting.{setting_of}, World.{IsTrace}}, judges.specs.{Verdicts.{IsProcess}, Outcomes.{notes_of, is_answer, outcomes}, declared.outcomes.{Answer.TheVariants.{Value, NoValue}, Outcome.{Outcome}}}}
 
 -- the Decided and NoValue notes of process p, each with its tick, in order
 abbrev pub answers_of : List EntryRecord → (p : ℕ) → List (ℕ × Note)

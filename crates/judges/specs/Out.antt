@@ -1,10 +1,6 @@
 -- Whom a process suspects by a trace's notes: a detector's output (Chen, Toueg, Aguilera, IEEE Trans. Computers, 2002).
 use Rattle.std.specs.Prelude.{ℕ, Bool, true, false, ◌&&◌, ◌==◌, nat_le, if◌then◌else◌, List, [], ◌∷◌, ◌++◌, fold, ◌≡◌, ◌≤◌, suc, min, nat_lt, not, unwrap_or}
-use Rattle.process_api.specs.Order.{EntryRecord, is_before}
-use Rattle.process_api.specs.declared.action.Note.{Note}
-use Rattle.process_api.specs.declared.action.Note.TheVariants.{Suspect, Trust, Round, Decided, NoValue}
-use Rattle.scenario_record.specs.Record.{Record, crash}
-use Rattle.trace_laws.specs.History.{IsIn}
+use Rattle.{process_api.specs.{Order.{EntryRecord, is_before}, declared.action.Note.{Note, TheVariants.{Suspect, Trust, Round, Decided, NoValue}}}, scenario_record.specs.Record.{Record, crash}, trace_laws.specs.History.{IsIn}}
 
 -- a set of processes, as the test of its members
 abbrev pub Set : Type 0
@@ -22,8 +18,7 @@ without set who = λ p. if who == p then false else set p
 -- the notes of process q up to and with tick t, in order
 abbrev pub notes_until : List EntryRecord → (q t : ℕ) → List Note
 notes_until [] q t = []
-notes_until (entry ∷ trace) q t =
-    if entry.key.receiver == q && nat_le entry.key.tick t
+notes_until (entry ∷ trace) q t = if entry.key.receiver == q && nat_le entry.key.tick t
     then entry.notes ++ notes_until trace q t
     else notes_until trace q t
 

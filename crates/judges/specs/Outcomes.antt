@@ -1,12 +1,7 @@
 -- Outcomes: what each process decided, when, and how far its rounds went.
 use Rattle.std.specs.Prelude.{ℕ, max, Bool, true, false, ◌==◌, if◌then◌else◌, Option, None, Some, List, [], ◌∷◌, ◌++◌, map, find, fold}
-use Rattle.process_api.specs.Place.{numbers_to}
-use Rattle.process_api.specs.declared.action.Note.{Note}
-use Rattle.process_api.specs.declared.action.Note.TheVariants.{Suspect, Trust, Round, Decided, NoValue}
-use Rattle.process_api.specs.Order.{EntryRecord}
-use Rattle.judges.specs.declared.outcomes.Answer.{Answer}
+use Rattle.{process_api.specs.{Place.{numbers_to}, declared.action.Note.{Note, TheVariants.{Suspect, Trust, Round, Decided, NoValue}}, Order.{EntryRecord}}, judges.specs.declared.outcomes.{Answer.{Answer}, Outcome.{Outcome}}}
 use Rattle.judges.specs.declared.outcomes.Answer.TheVariants as answer
-use Rattle.judges.specs.declared.outcomes.Outcome.{Outcome}
 
 -- notes, each with the tick
 abbrev pub timed : (tick : ℕ) → List Note → List (ℕ × Note)

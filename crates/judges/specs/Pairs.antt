@@ -1,15 +1,7 @@
 -- What it is that all pairs were fed with the entries of a trace, and how they open.
 use Rattle.std.specs.Prelude.{◌≡◌, ℕ, suc, ◌+◌, ◌*◌, ◌<◌, ◌≤◌, Bool, List, [], ◌∷◌, ◌++◌, get_or, IsTrue}
-use Rattle.process_api.specs.Order.{EntryRecord, is_rising}
-use Rattle.scenario_record.specs.Record.{Record}
-use Rattle.judges.specs.Out.{end_of}
-use Rattle.judges.specs.Track.{new_track, passed}
-use Rattle.judges.specs.Outcomes.{outcomes}
-use Rattle.judges.specs.Turns.{all_turned, opened, turns}
-use Rattle.judges.specs.declared.pair.Pair.{Pair}
-use Rattle.judges.specs.declared.pairs.Pairs.{Pairs}
-use Rattle.judges.specs.declared.outcomes.RunningOutcomes.{RunningOutcomes}
-use Rattle.judges.specs.declared.running.RunningJudge.{RunningJudge}
+use Rattle.{process_api.specs.Order.{EntryRecord, is_rising}, scenario_record.specs.Record.{Record}, judges.specs.{Out.{end_of}, Track.{new_track, passed}, Outcomes.{outcomes}, Turns.{all_turned, opened, turns}}}
+use Rattle.judges.specs.declared.{pair.Pair.{Pair}, pairs.Pairs.{Pairs}, outcomes.RunningOutcomes.{RunningOutcomes}, running.RunningJudge.{RunningJudge}}
 
 -- no entry comes after this tick
 abbrev pub AreUntil : List EntryRecord → (last : ℕ) → Type 0

@@ -1,5 +1,5 @@
 -- The steps of a track, what it knows of a pair whose suspicion is given tick by tick, and quantifiers below an end.
-use Rattle.std.specs.Prelude.{◌≡◌, ℕ, zero, suc, ◌-◌, ◌<◌, ◌≤◌, min, max, Bool, false, not, ◌&&◌, ◌||◌, if◌then◌else◌, nat_lt, nat_le, Option, None, Some, true}
+use Rattle.std.specs.Prelude.{◌≡◌, ℕ, zero, suc, ◌<◌, min, max, Bool, false, ◌&&◌, ◌||◌, if◌then◌else◌, nat_lt, nat_le, Option, None, Some, true}
 use mathlib.Core.Bool.{beq}
 use Rattle.judges.specs.declared.track.Track.{Track}
 
@@ -55,18 +55,6 @@ suspected_from t = if t.was then Some t.since else None
 
 abbrev pub trusted_from : Track → Option ℕ
 trusted_from t = if t.was then None else Some t.since
-
--- the state stood from `since` up to the tick, and was another before
-pub record IsSteady (suspected : ℕ → Bool) (was : Bool) (since tick : ℕ) : Type 0 where
-  pub below : since ≤ tick - 1
-  pub on : (u : ℕ) → since ≤ u → u < tick → suspected u ≡ was
-  pub not_before : (v : ℕ) → since ≡ suc v → suspected v ≡ not was
-
--- a suspicion is a mistake below an end
-pub record Knows (suspected : ℕ → Bool) (end : ℕ) (t : Track) : Type 0 where
-  pub was : t.was ≡ before suspected t.tick
-  pub steady : IsSteady suspected t.was t.since t.tick
-  pub mistaken : t.mistaken ≡ any_below suspected (min t.tick end)
 
 -- whether a tick is at or after the one given, if one is
 abbrev pub reached : Option ℕ → ℕ → Bool

@@ -1,13 +1,8 @@
 -- The turns of a pair, where its observer's notes say that suspicion begins or ends, and what is kept of it.
 use mathlib.Core.Bool.{beq}
-use Rattle.std.specs.Prelude.{◌≡◌, ℕ, suc, ◌+◌, ◌*◌, ◌<◌, Bool, List, [], ◌∷◌, get_or, false, if◌then◌else◌, length, fold, true, ◌&&◌, ◌==◌, nat_lt, Option, None, Some, flat_map, ◌/◌, ◌%◌, min, slice_index}
-use Rattle.process_api.specs.Order.{EntryRecord}
-use Rattle.process_api.specs.declared.action.Note.{Note}
-use Rattle.process_api.specs.declared.action.Note.TheVariants.{Suspect, Trust, Round, Decided, NoValue}
-use Rattle.scenario_record.specs.Record.{Record}
-use Rattle.judges.specs.Out.{crash_tick}
-use Rattle.judges.specs.Track.{passed}
-use Rattle.judges.specs.declared.pair.Pair.{Pair}
+use Rattle.std.specs.Prelude.{◌≡◌, ℕ, suc, ◌+◌, ◌*◌, ◌<◌, Bool, List, [], ◌∷◌, get_or, false, if◌then◌else◌, length, fold, true, ◌&&◌, ◌==◌, nat_lt, Option, None, Some, flat_map, min}
+use Rattle.{process_api.specs.{Order.{EntryRecord}, declared.action.Note.{Note, TheVariants.{Suspect, Trust, Round, Decided, NoValue}}}, scenario_record.specs.Record.{Record}}
+use Rattle.judges.specs.{Out.{crash_tick}, Track.{passed}, declared.pair.Pair.{Pair}}
 
 -- from a tick on there is suspicion, or there is none
 pub record Turn : Type 0 where
@@ -33,8 +28,7 @@ noted_turns layer p tick notes = flat_map (λ note. turns_at p tick (turn_of lay
 
 -- the turns of observer q and subject p that an entry makes, if q takes it below the horizon
 abbrev pub entry_turns : (layer q p horizon : ℕ) → EntryRecord → List Turn
-entry_turns layer q p horizon entry =
-    if entry.key.receiver == q && nat_lt entry.key.tick horizon
+entry_turns layer q p horizon entry = if entry.key.receiver == q && nat_lt entry.key.tick horizon
     then noted_turns layer p entry.key.tick entry.notes
     else []
 
@@ -50,8 +44,7 @@ opened end kept = record { end = end; current = false; kept = kept }
 module _ {K : Type 0} (passed : (until : ℕ) → (suspected : Bool) → (end : ℕ) → K → K) where
   -- only a change moves what is kept
   abbrev pub turned : (tick : ℕ) → (suspected : Bool) → Pair K → Pair K
-  turned tick suspected p =
-      if beq suspected p.current
+  turned tick suspected p = if beq suspected p.current
       then p
       else record p { current = suspected; kept = passed tick p.current p.end p.kept }
 
@@ -71,12 +64,3 @@ module _ {K : Type 0} (passed : (until : ℕ) → (suspected : Bool) → (end : 
 -- up to which tick a process is up, cut at the horizon
 abbrev pub end_tick : Record → (p : ℕ) → ℕ
 end_tick S p = min (crash_tick S p) S.horizon
-
--- of processes 1 to n
-pub record AreEnds (S : Record) (ends : List ℕ) : Type 0 where
-  pub count : length ends ≡ S.processes
-  pub ticks : (i : ℕ) → i < S.processes → slice_index ends i ≡ end_tick S (suc i)
-
--- a pair as it opens, by observer and then by subject
-abbrev pub opened_at : {K : Type 0} → (ends : List ℕ) → (kept : K) → ℕ → Pair K
-opened_at ends kept k = opened (min (slice_index ends (k / length ends)) (slice_index ends (k % length ends))) kept

@@ -1,15 +1,7 @@
 -- Verdicts on a layer: completeness and accuracy (Chandra, Toueg, Journal of the ACM 43(2), 1996), cut at the horizon.
-use Rattle.std.specs.Prelude.{ℕ, suc, Bool, true, not, ◌&&◌, if◌then◌else◌, Option, List, ◌≡◌, ◌<◌, ◌≤◌, None, Some, ◌+◌, ◌*◌, ◌==◌, get_or}
-use Rattle.std.specs.Bool.{Decides}
-use Rattle.process_api.specs.Order.{EntryRecord}
-use Rattle.judges.specs.declared.verdicts.Verdicts.{Verdicts}
-use Rattle.scenario_record.specs.Record.{Record}
-use Rattle.judges.specs.Out.{is_up, is_crashed, is_correct, suspects, crash_tick, out}
-use Rattle.judges.specs.Track.{all_below, any_below, all_from, least_below, suspected_from, trusted_from, latest_below, earliest_below}
-use Rattle.judges.specs.Turns.{opened, kept_at}
-use Rattle.judges.specs.declared.pair.Pair.{Pair}
-use Rattle.judges.specs.declared.pairs.Pairs.{Pairs}
-use Rattle.judges.specs.declared.track.Track.{Track}
+use Rattle.std.specs.{Prelude.{ℕ, suc, Bool, true, not, ◌&&◌, if◌then◌else◌, Option, List, ◌≡◌, ◌<◌, ◌≤◌, None, Some, ◌+◌, ◌*◌, ◌==◌, get_or}, Bool.{Decides}}
+use Rattle.{process_api.specs.Order.{EntryRecord}, judges.specs.{declared.{verdicts.Verdicts.{Verdicts}, pair.Pair.{Pair}, pairs.Pairs.{Pairs}, track.Track.{Track}}, Out.{is_up, is_crashed, is_correct, suspects, crash_tick, out}}}
+use Rattle.{judges.specs.{Track.{all_below, any_below, all_from, least_below, suspected_from, trusted_from, latest_below, earliest_below}, Turns.{opened, kept_at}}, scenario_record.specs.Record.{Record}}
 
 module _ (S : Record) where
   -- whether each of processes 1 to n that passes the first test passes the second, and whether some one passes both

@@ -1,7 +1,6 @@
 //! The tick up to which each process is up.
 ghost use Rattle.std.specs.Prelude.{◌≡◌, ◌≤◌, vec_len, IfOk};
-ghost use Rattle.process_api.specs.Place.{most_processes};
-ghost use Rattle.judges.specs.Turns.{AreEnds, end_tick};
+ghost use Rattle.{process_api.specs.Place.{most_processes}, judges.specs.{Inside.Private.{AreEnds}, Turns.{end_tick}}};
 
 use process_api::Pid;
 use scenario_record::Scenario;

@@ -1,8 +1,7 @@
 //! The verdicts, from the tracks of all pairs at the horizon.
 
 ghost use Rattle.std.specs.Prelude.{◌≡◌, ◌<◌, None, Some, if◌then◌else◌};
-ghost use Rattle.judges.specs.Track.{earliest, latest};
-ghost use Rattle.judges.specs.Verdicts.{column_right, column_suspected, column_trusted, grid_verdicts, place, row_right, row_suspected, row_trusted, counts_as_correct};
+ghost use Rattle.judges.specs.{Track.{earliest, latest}, Verdicts.{column_right, column_suspected, column_trusted, grid_verdicts, place, row_right, row_suspected, row_trusted, counts_as_correct}};
 
 use crate::pair::Gauge;
 use crate::pairs::Pairs;

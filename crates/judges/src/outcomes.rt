@@ -1,10 +1,7 @@
 //! The decisions of a run's processes.
 ghost use Rattle.std.specs.Prelude.{◌≡◌, ◌≤◌, ◌++◌, ◌∷◌, ℕ, List, [], IfOk};
-ghost use Rattle.process_api.specs.Order.{EntryRecord};
-ghost use Rattle.scenario_record.specs.Ranges.{IsInRange};
-ghost use Rattle.judges.specs.Agreement.{Agree, DecidesOnce, IsCoordinated};
-ghost use Rattle.judges.specs.Outcomes.{outcome, outcomes};
-ghost use Rattle.judges.specs.Inside.Noting.{all_noted, noted};
+ghost use Rattle.{process_api.specs.Order.{EntryRecord}, scenario_record.specs.Ranges.{IsInRange}};
+ghost use Rattle.judges.specs.{Agreement.{Agree, DecidesOnce, IsCoordinated}, Outcomes.{outcome, outcomes}, Inside.Noting.{all_noted, noted}};
 
 use process_api::{Entry, Follower, Note, Pid, Trace, follow_all};
 use scenario_record::Scenario;

@@ -1,7 +1,6 @@
 //! One pair of processes, as a trace goes by.
 ghost use Rattle.std.specs.Prelude.{◌≡◌, ℕ, Bool};
-ghost use Rattle.judges.specs.Turns.{noted_turns, turn_of, all_turned, kept_at, opened, turned};
-ghost use Rattle.judges.specs.declared.track.Track.{Track};
+ghost use Rattle.judges.specs.{Turns.{noted_turns, turn_of, all_turned, kept_at, opened, turned}, declared.track.Track.{Track}};
 
 use crate::track::Track;
 use process_api::{Note, Pid};

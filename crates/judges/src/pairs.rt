@@ -1,9 +1,7 @@
 //! All pairs of processes, as a trace goes by.
 ghost use Rattle.std.specs.Prelude.{◌≡◌, ℕ, ◌+◌, ◌*◌, ◌<◌, ◌≤◌, [], ◌==◌, if◌then◌else◌, Some, length, vec_len, get_or, IfOk};
-ghost use Rattle.process_api.specs.Place.{most_processes};
-ghost use Rattle.scenario_record.specs.Record.{Record};
-ghost use Rattle.judges.specs.Turns.{opened_at, AreTurned, noted_turns, turn_of, turns_at};
-ghost use Rattle.judges.specs.declared.pair.Pair.{Pair};
+ghost use Rattle.{process_api.specs.Place.{most_processes}, scenario_record.specs.Record.{Record}};
+ghost use Rattle.judges.specs.{Inside.Private.{opened_at}, Turns.{AreTurned, noted_turns, turn_of, turns_at}, declared.pair.Pair.{Pair}};
 
 use crate::ends::end_ticks;
 use crate::pair::{Gauge, Pair, turn_of};

@@ -19,11 +19,8 @@ pub struct RunningJudge {
 }
 
 impl RunningJudge {
-    ghost use Rattle.process_api.specs.Order.{EntryRecord};
-    ghost use Rattle.scenario_record.specs.Record.{Record};
-    ghost use Rattle.judges.specs.Pairs.{WasFed};
-    ghost use Rattle.judges.specs.Pairs.{IsJudging};
-    ghost use Rattle.judges.specs.Verdicts.{verdicts};
+    ghost use Rattle.{process_api.specs.Order.{EntryRecord}, scenario_record.specs.Record.{Record}};
+    ghost use Rattle.judges.specs.{Pairs.{WasFed, IsJudging}, Verdicts.{verdicts}};
 
     /// A judge that was fed with nothing: of layer 1, the base detector, or layer 2, the reduction's output.
     ///

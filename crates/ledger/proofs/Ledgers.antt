@@ -1,12 +1,9 @@
 -- Each step of a pass keeps the ledger's rule.
 use Rattle.ledger.proofs.Words.{◌≡◌, ◌≢◌, inl, inr, ℕ, zero, suc, ◌+◌, List, [], ◌∷◌, ◌++◌, Option, Some, None, set, sym, refl, ap, ◌∙◌, subst, append_assoc, append-nil, arith, ⊎_elim, length-append, Contains, flat_map, sum_by, IsPermutation, nil_from_length, sum_by-cons, sum_by-append, IsPermutation-refl, IsPermutation-append_left, IsPermutation-middle, IsPermutation-trans, IsPermutation-sym, Contains-permutation, length_permutation, some, some-injective, some-ne-none, get_elem?}
-use Rattle.std.proofs.lemmas.Option.{none-some}
-use Rattle.std.proofs.lemmas.List.Elements.{All-nil, All-cons}
-use Rattle.std.proofs.lemmas.List.Concat.{flat_map-append}
-use Rattle.crossbeam_queue.proofs.Lists.{at_set, at_snoc, set_else}
-use Rattle.ledger.specs.declared.account.Account.{Account}
-use Rattle.ledger.specs.Ledger.{account, first_pass, has_put, has_taken, one_made, new_pass, both_of, given_back, tells, forgets, told_in, MayTell, AreTold, IsBalanced, FirstCounts, IdleIsEmpty, AreToldAlike, IsToldRight, put_by_all, taken_by_all, EachOnce}
 use Rattle.ledger.proofs.Totals.{total_set, total_none, none_total, gather_same, gather_more, gather_none, set_commutes}
+use Rattle.std.proofs.lemmas.{Option.{none-some}, List.{Elements.{All-nil, All-cons}, Concat.{flat_map-append}}}
+use Rattle.{crossbeam_queue.proofs.Lists.{at_set, at_snoc, set_else}, ledger.specs.declared.account.Account.{Account}}
+use Rattle.ledger.specs.Ledger.{account, first_pass, has_put, has_taken, one_made, new_pass, both_of, given_back, tells, forgets, told_in, MayTell, AreTold, IsBalanced, FirstCounts, IdleIsEmpty, AreToldAlike, IsToldRight, put_by_all, taken_by_all, EachOnce}
 
 module _ {T : Type 0} where
   -- ---- lists of passes

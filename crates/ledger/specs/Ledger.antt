@@ -1,7 +1,5 @@
 -- The rule of a queue or a deque: what was put into it is what was taken and what it holds.
-use Rattle.std.specs.Prelude.{◌≡◌, ◌≢◌, ◌⊎◌, ℕ, ◌+◌, List, [], ◌++◌, Option, Some, None, ◌∷◌}
-use Rattle.std.specs.List.{All, Contains, flat_map, sum_by}
-use Rattle.std.specs.List.Sorted.{IsPermutation}
+use Rattle.std.specs.{Prelude.{◌≡◌, ◌≢◌, ◌⊎◌, ℕ, ◌+◌, List, [], ◌++◌, Option, Some, None, ◌∷◌}, List.{All, Contains, flat_map, sum_by, Sorted.{IsPermutation}}}
 use mathlib.Core.Option.{some}
 use lib.ListN.{get_elem?}
 use Rattle.ledger.specs.declared.account.Account.{Account}

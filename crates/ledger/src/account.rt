@@ -66,8 +66,7 @@ impl<T> Split<Account<T>> for Settling {
 pub struct Telling;
 
 impl<T> Split<Account<T>> for Telling {
-    ghost use Rattle.std.specs.Prelude.{Some};
-    ghost use Rattle.ledger.specs.Ledger.{one_made, tells, new_pass};
+    ghost use Rattle.{std.specs.Prelude.{Some}, ledger.specs.Ledger.{one_made, tells, new_pass}};
 
     ghost left = { λ a. one_made (tells a) };
 

@@ -1,6 +1,5 @@
 -- Machines that are made one by one.
-use Rattle.std.proofs.Common.{◌≡◌, ◌+◌, ◌++◌, ◌∷◌, [], ℕ, List, map, arith}
-use Rattle.std.proofs.lemmas.Grind.{common_steps}
+use Rattle.std.proofs.{Common.{◌≡◌, ◌+◌, ◌++◌, ◌∷◌, [], ℕ, List, map, arith}, lemmas.Grind.{common_steps}}
 use Rattle.process_api.specs.Place.{numbers_to}
 
 -- one more is what it should be, so all are

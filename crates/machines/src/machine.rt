@@ -1,8 +1,7 @@
 //! The machine of a process.
 ghost use Rattle.std.specs.Prelude.{◌≡◌, IfOk, map};
 ghost use Rattle.process_api.specs.Place.{numbers_to};
-ghost use Rattle.scenario_record.specs.Opening.{mind_of};
-ghost use Rattle.scenario_record.specs.Record.{opening_mind};
+ghost use Rattle.scenario_record.specs.{Opening.{mind_of}, Record.{opening_mind}};
 
 use crate::detectors::AnyDetector;
 use consensus_es::EsConsensus;

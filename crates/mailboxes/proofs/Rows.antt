@@ -1,6 +1,5 @@
 -- Tickets and lists of letters that change at one place.
-use Rattle.mailboxes.proofs.Words.{◌≡◌, ℕ, zero, suc, ◌<◌, List, [], ◌∷◌, ◌++◌, length, map, replicate, set, get_or, refl, ap, ◌∙◌, arith, append-nil, Vec, Letter, TicketView, letters_in, each_with}
-use Rattle.mailboxes.proofs.Homes.{whose, posted_by}
+use Rattle.mailboxes.proofs.{Words.{◌≡◌, ℕ, zero, suc, ◌<◌, List, [], ◌∷◌, ◌++◌, length, map, replicate, set, get_or, refl, ap, ◌∙◌, arith, append-nil, Vec, Letter, TicketView, letters_in, each_with}, Homes.{whose, posted_by}}
 
 -- the list of letters at one place gets more
 pub row_more : {A : Type 0} (f : A → List Letter) (xs : List A) (i : ℕ) (old new : A) → old ≡ get_or xs i old → (zs : List Letter) → f new ≡ f old ++ zs

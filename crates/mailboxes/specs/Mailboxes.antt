@@ -1,12 +1,6 @@
 -- What contracts see of mailboxes, one for each receiver 1 to n, of slips, of tickets and of an owner's pass.
-use Rattle.std.specs.Coded.{Coded, code_by, coded×, coded_list, coded_ℕ}
-use Rattle.std.specs.Prelude.{◌≡◌, refl, ℕ, ◌-◌, List, [], ◌∷◌, ◌++◌, length, map, replicate, slice_index_or, slice_set, ◌+◌, Option, Some, None, min}
-use Rattle.std.specs.Global.{Vec, Global}
-use Rattle.std.specs.List.{flat_map}
-use Rattle.crossbeam_queue.specs.SegTies.{SegId}
-use Rattle.std.specs.List.Sorted.{IsPermutation}
-use Rattle.process_api.specs.declared.message.Letter.{Letter}
-use Rattle.ledger.specs.Ledger.{each_with}
+use Rattle.std.specs.{Coded.{Coded, code_by, coded×, coded_list, coded_ℕ}, Prelude.{◌≡◌, refl, ℕ, ◌-◌, List, [], ◌∷◌, ◌++◌, length, map, replicate, slice_index_or, slice_set, ◌+◌, Option, Some, None, min}, Global.{Vec, Global}}
+use Rattle.{std.specs.List.{flat_map, Sorted.{IsPermutation}}, crossbeam_queue.specs.SegTies.{SegId}, process_api.specs.declared.message.Letter.{Letter}, ledger.specs.Ledger.{each_with}}
 
 -- which mailbox it is
 abbrev pub MailboxId : Type 0
@@ -25,13 +19,11 @@ pub record HomeView : Type 0 where
 
 -- stored as the pairs of their fields
 abbrev pub ticket_code : Coded MailboxId → Coded Letter → Coded TicketView
-ticket_code mailbox letter =
-    code_by (MailboxId × List Letter) (coded× mailbox (coded_list letter))
+ticket_code mailbox letter = code_by (MailboxId × List Letter) (coded× mailbox (coded_list letter))
     (λ t. (t.mailbox, t.posted)) (λ p. record { mailbox = p.0; posted = p.1 }) (λ _. refl)
 
 abbrev pub home_code : Coded MailboxId → Coded Letter → Coded HomeView
-home_code mailbox letter =
-    code_by (MailboxId × (ℕ × List Letter)) (coded× mailbox (coded× coded_ℕ (coded_list letter)))
+home_code mailbox letter = code_by (MailboxId × (ℕ × List Letter)) (coded× mailbox (coded× coded_ℕ (coded_list letter)))
     (λ h. (h.mailbox, (h.out, h.back))) (λ p. record { mailbox = p.0; out = p.1.0; back = p.1.1 }) (λ _. refl)
 
 abbrev pub ticket_of : MailboxId → List Letter → TicketView

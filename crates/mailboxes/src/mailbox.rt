@@ -1,10 +1,7 @@
 //! The mailbox of one receiver: its queue, which threads share; the tickets by which they post; and the owner's pass.
-ghost use Rattle.std.specs.Prelude.{◌≡◌, ◌≢◌, ◌<◌, ◌+◌, List, [], ◌∷◌, ◌++◌, None, IfOk, IfErr, Ok, OnOk, OnErr};
-ghost use Rattle.std.specs.List.Sorted.{IsPermutation};
-ghost use Rattle.crossbeam_queue.specs.SegBatches.{Holds};
-ghost use Rattle.crossbeam_queue.specs.SegTies.{IsSegPassOf};
-ghost use Rattle.ledger.specs.Ledger.{account, has_taken};
-ghost use Rattle.process_api.specs.declared.message.Letter.{Letter};
+ghost use Rattle.std.specs.{Prelude.{◌≡◌, ◌≢◌, ◌<◌, ◌+◌, List, [], ◌∷◌, ◌++◌, None, IfOk, IfErr, Ok, OnOk, OnErr}, List.Sorted.{IsPermutation}};
+ghost use Rattle.crossbeam_queue.specs.{SegBatches.{Holds}, SegTies.{IsSegPassOf}};
+ghost use Rattle.{ledger.specs.Ledger.{account, has_taken}, process_api.specs.declared.message.Letter.{Letter}};
 ghost use Rattle.mailboxes.specs.Mailboxes.{HasCollected, WasGiven, ticket_of, home_of, one_out, one_back, soonest_in};
 
 use crate::collects::Collects;

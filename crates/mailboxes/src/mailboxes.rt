@@ -1,7 +1,5 @@
 //! The mailboxes whole: the queues, and the owner's pass of each.
-ghost use Rattle.std.specs.Prelude.{◌≡◌, ◌≤◌, ◌<◌, ◌+◌, ℕ, [], true, length, map, IfOk, IfErr, OnOk, OnErr, vec_len};
-ghost use Rattle.std.specs.List.{All, AllZip};
-ghost use Rattle.std.specs.List.Sorted.{IsPermutation};
+ghost use Rattle.std.specs.{Prelude.{◌≡◌, ◌≤◌, ◌<◌, ◌+◌, ℕ, [], true, length, map, IfOk, IfErr, OnOk, OnErr, vec_len}, List.{All, AllZip, Sorted.{IsPermutation}}};
 ghost use Rattle.process_api.specs.declared.run_error.RunError.TheVariants.{Memory};
 ghost use Rattle.mailboxes.specs.Mailboxes.{all_back, IsSlipOf, unused, with_letter, posted_to, list_of, letters_in, letters_of, mailboxes_of};
 
@@ -25,8 +23,7 @@ pub struct Mailboxes {
 
 impl Model for Mailboxes {
     ghost use Rattle.std.specs.Prelude.{◌≡◌};
-    ghost use Rattle.mailboxes.specs.Mailboxes.{homes_of};
-    ghost use Rattle.mailboxes.specs.Mailboxes.{MailboxesView, mailboxes_of};
+    ghost use Rattle.mailboxes.specs.Mailboxes.{homes_of, MailboxesView, mailboxes_of};
 
     ghost Value = { MailboxesView };
 

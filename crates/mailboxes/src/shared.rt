@@ -1,7 +1,6 @@
 //! The part of the mailboxes that threads share: the queues.
 ghost use Rattle.std.specs.Prelude.{◌≡◌, ◌≤◌, ◌<◌, ◌+◌, ◌++◌, [], length, replicate, IfErr, OnOk, OnErr};
-ghost use Rattle.ledger.specs.Ledger.{each_with};
-ghost use Rattle.mailboxes.specs.Mailboxes.{IsSlipOf, with_letter, with_lists};
+ghost use Rattle.{ledger.specs.Ledger.{each_with}, mailboxes.specs.Mailboxes.{IsSlipOf, with_letter, with_lists}};
 
 use crate::mailbox::Mailbox;
 use crate::slip::Slip;
@@ -18,8 +17,7 @@ pub struct SharedMailboxes {
 }
 
 impl Model for SharedMailboxes {
-    ghost use Rattle.std.specs.Prelude.{List};
-    ghost use Rattle.mailboxes.specs.Mailboxes.{MailboxId};
+    ghost use Rattle.{std.specs.Prelude.{List}, mailboxes.specs.Mailboxes.{MailboxId}};
 
     ghost Value = { List MailboxId };
 

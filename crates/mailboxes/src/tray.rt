@@ -14,8 +14,7 @@ pub struct Tray {
 }
 
 impl Model for Tray {
-    ghost use Rattle.std.specs.Coded.{coded_list};
-    ghost use Rattle.std.specs.Prelude.{List};
+    ghost use Rattle.std.specs.{Coded.{coded_list}, Prelude.{List}};
     ghost use Rattle.process_api.specs.declared.message.Letter.{Letter};
     ghost use Rattle.trace_laws.specs.contracts.parcel.Parcel as letter;
     ghost use Rattle.mailboxes.specs.Mailboxes.{letters_in};

@@ -1,8 +1,8 @@
 -- Files and tables that are as they should be.
 use Rattle.network.proofs.Basics.{◌≡◌, ◌≤◌, [], List, length, true, Result, Ok, Err, OnOk, Some, None, refl, sym, subst, arith, All, Data, Members, get_member, most_tables, items_in, key_of, AreTablesOf, IsTableOf, TableKind}
+use Rattle.network.proofs.ArrayTables.{nothing_there, tables_there}
 use Rattle.scenario.specs.Table.{is_of, the_tables, tables_at}
 use Rattle.scenario.specs.declared.field.Kind.TheVariants as kind
-use Rattle.network.proofs.ArrayTables.{nothing_there, tables_there}
 
 no_tables : (k : TableKind) (ts : List Members) → ts ≡ [] → (length ts ≤ most_tables) × All (IsTableOf k) ts
 no_tables k ts e =

@@ -1,7 +1,6 @@
 -- The words that a generator gives next.
 use Rattle.network.proofs.Basics.{◌≡◌, ℕ, ◌+◌, ◌<◌, ◌%◌, ◌^◌, ap, sym, ◌∙◌, add_assoc, add-zero, zero-add, mod-add-mod, mod-eq_of_lt, Words, after, words_of, to_come}
-use Rattle.rand_chacha.specs.ChaCha.{ChaCha, word_at}
-use Rattle.streams.specs.Fate.{key_of_seed}
+use Rattle.{rand_chacha.specs.ChaCha.{ChaCha, word_at}, streams.specs.Fate.{key_of_seed}}
 
 -- the first of them stands at the generator's place
 pub to_come-first : (g : ChaCha) → g.word_pos < 2 ^ 68 → word_at 4 g.key g.stream g.word_pos ≡ to_come g 0

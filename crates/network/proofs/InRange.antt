@@ -1,23 +1,13 @@
 -- The network of a network file is in its ranges.
 use Rattle.std.proofs.Common.{◌≡◌, ℕ, zero, suc, ◌≤◌, ◌==◌, ◌&&◌, ℤ, pos, negsuc, min, nat_le, nat_lt, List, [], ◌∷◌, length, find, Bool, true, false, not, Option, Some, None, option_map, option_and_then, is_some, refl, ap, sym, ◌∙◌, subst, arith, codes, if◌then◌else◌}
+use Rattle.std.proofs.lemmas.{Bool.{leb-true, ltb-true, ltb-false, not-false}, List.Sorted.{All-permutation, length_permutation}, Slice.Zip.{AllZip-long}}
 use Rattle.network.proofs.Basics.{All, AllZip, option_map_or, option_or, All-nil, All-cons, All-head, All-tail, All-weaker, Data, Items, Members, no_items, item, table, integer, array, get_member, all_items, is_number, tables_at, count, Outage, Field, both_field, burst_fields, cut_fields, fault_at, fault_of_value, first_of, first_outside, group_field, has_fault, has_more, is_empty_array, is_numbers, is_spell_table, items_in, key_of, lacks_member, needed, number_outside, outside, pause_fields, replay_fields, spell_field, takes, Said, SaysBurst, SaysCut, SaysNetwork, SaysPause, SaysReplay, SaysRhythm, each, lasts_in, mean, number_of, outage_of, outages_in, said_at, said_in, said_of, ticks, values, IsNetworkFile, IsTableOf, lies_within, replay_fault, most_tables, Replay, Rhythm}
-use Rattle.std.proofs.lemmas.Bool.{leb-true, ltb-true, ltb-false, not-false}
-use Rattle.std.proofs.lemmas.List.Sorted.{All-permutation, length_permutation}
-use Rattle.std.proofs.lemmas.Slice.Zip.{AllZip-long}
-use Rattle.scenario.specs.Text.{natural}
-use Rattle.scenario.specs.Rules.{is_within}
-use Rattle.scenario.proofs.Within.{neither}
+use Rattle.{scenario.specs.{Text.{natural}, Rules.{is_within}}, scenario.proofs.Within.{neither}}
 use Rattle.network.specs.Ranges.{IsNetwork, IsReplay, IsRhythm, IsSpell, IsTicks, IsWithin, most_values}
-use Rattle.network.specs.declared.field.Shape.{Shape}
+use Rattle.network.specs.declared.{field.{Shape.{Shape}, TableKind.TheVariants.{Bursts, Cuts, Pauses, Replays}}, network.{Burst.{Burst}, Cut.{Cut}, Network.{Network}, Pause.{Pause}}, spell.Spell.{Spell}}
 use Rattle.network.specs.declared.field.Shape.TheVariants as shape
-use Rattle.network.specs.declared.field.TableKind.TheVariants.{Bursts, Cuts, Pauses, Replays}
-use Rattle.network.specs.declared.network.Burst.{Burst}
-use Rattle.network.specs.declared.network.Cut.{Cut}
-use Rattle.network.specs.declared.network.Network.{Network}
-use Rattle.network.specs.declared.network.Pause.{Pause}
 use Rattle.network.specs.declared.refusal.TableFault.TheVariants as together
 use Rattle.network.specs.declared.refusal.ValueFault.TheVariants as fault
-use Rattle.network.specs.declared.spell.Spell.{Spell}
 use Rattle.network.specs.declared.spell.Spell.TheVariants as spell
 
 -- ---- tests

@@ -1,6 +1,5 @@
 -- Records that are played again and again, for some links at once.
-use Rattle.network.proofs.Basics.{◌≡◌, ℕ, ◌+◌, ◌*◌, ◌/◌, ◌%◌, ap, sym, ◌∙◌, List, flat_map, range_with_len, Words, on_each, replayed, replayed_in, Ends, Replay}
-use Rattle.network.proofs.Adding.{each_group}
+use Rattle.network.proofs.{Basics.{◌≡◌, ℕ, ◌+◌, ◌*◌, ◌/◌, ◌%◌, ap, sym, ◌∙◌, List, flat_map, range_with_len, Words, on_each, replayed, replayed_in, Ends, Replay}, Adding.{each_group}}
 
 pub replayed-turns : (r : Replay) (words : Words) (links : List Ends) (horizon place : ℕ) → place ≡ words 0 % r.lasts
     → on_each links (replayed r words horizon)

@@ -1,8 +1,7 @@
 -- A file that is refused is no network file.
 use Rattle.network.proofs.Basics.{◌≡◌, ◌≢◌, ℕ, zero, suc, ◌<◌, List, length, get_or, Bool, true, false, not, Some, is_some, refl, ap, ◌∙◌, subst, arith, All, Contains, list_any, All-get_or, list_any_at, slice_get-get_or, slice_get_within, Members, keys_of, tables_at, numbered, Field, fault_at, fields_in, file_keys, has_fault, has_unlisted, is_listed, key_of, keys_in, HasFaultAt, HasOther, IsNetworkFile, IsTableOf, Refuses, TableKind}
-use Rattle.network.specs.declared.refusal.NetworkError.{NetworkError}
+use Rattle.network.specs.declared.refusal.{NetworkError.{NetworkError}, ValueFault.{ValueFault}}
 use Rattle.network.specs.declared.refusal.NetworkError.TheVariants as error
-use Rattle.network.specs.declared.refusal.ValueFault.{ValueFault}
 
 -- a test that one of a list passes
 any_contained : {X : Type 0} (p : X → Bool) (xs : List X) (x : X) → Contains xs x → p x ≡ true → list_any p xs ≡ true

@@ -1,8 +1,7 @@
 -- The episodes of a source, one after the other.
 use Rattle.network.proofs.Basics.{◌≡◌, ℕ, zero, suc, ◌+◌, ◌-◌, ◌<◌, ◌≤◌, Bool, true, false, cond, refl, ap, sym, ◌∙◌, List, [], ◌∷◌, ◌++◌, map, length, min, nat_lt, add-one, add-zero, zero-add, append-nil, append_assoc, length-append, arith, range_with_len, take_while, flat_map-append, map-append, map-range_with_len_more, Outage, Words, after, ticks_of, words_taken, first_ticks_of, first_words_taken, on_each, outage_on, Ends, LinkOutage, Rhythm}
 use borrow.Author.Count.{below_more}
-use Rattle.std.proofs.lemmas.Bool.Decides.{nat_tests}
-use Rattle.std.proofs.lemmas.List.Sums.{take_while-cons}
+use Rattle.std.proofs.lemmas.{Bool.Decides.{nat_tests}, List.Sums.{take_while-cons}}
 use Rattle.network.specs.Drawn.{Coming, coming, cut_at, episodes, first, next}
 
 -- of a list by numbers, a front that passes stays

@@ -1,17 +1,8 @@
 -- The processes that a network names and a run doesn't have.
-use Rattle.std.specs.Prelude.{◌≡◌, ℕ, zero, suc, ◌-◌, ◌&&◌, nat_lt, List, [], ◌∷◌, ◌++◌, map, take, slice_get, codes}
-use Rattle.std.specs.Prelude.{Option, Some, None}
-use Rattle.std.specs.List.{All, find}
+use Rattle.std.specs.{Prelude.{◌≡◌, ℕ, zero, suc, ◌-◌, ◌&&◌, nat_lt, List, [], ◌∷◌, ◌++◌, map, take, slice_get, codes, Option, Some, None}, List.{All, find}}
 use Rattle.std.specs.FinSet as set
-use Rattle.network.specs.Refusals.{all_processes}
-use Rattle.network.specs.declared.field.TableKind.{TableKind}
-use Rattle.network.specs.declared.field.TableKind.TheVariants.{Links, Bursts, Cuts, Pauses, Replays}
-use Rattle.network.specs.declared.group.Group.{Group}
+use Rattle.network.specs.{Refusals.{all_processes}, declared.{field.TableKind.{TableKind, TheVariants.{Links, Bursts, Cuts, Pauses, Replays}}, group.{Group.{Group}, LinkSet.{LinkSet}}, network.{Cut.{Cut}, Pause.{Pause}, Network.{Network}}}}
 use Rattle.network.specs.declared.group.Group.TheVariants as group
-use Rattle.network.specs.declared.group.LinkSet.{LinkSet}
-use Rattle.network.specs.declared.network.Cut.{Cut}
-use Rattle.network.specs.declared.network.Pause.{Pause}
-use Rattle.network.specs.declared.network.Network.{Network}
 
 -- the one of this number, from 1
 abbrev pub numbered : {T : Type 0} → ℕ → List T → Option T

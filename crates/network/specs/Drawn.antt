@@ -1,26 +1,11 @@
 -- The outages of all sources of a network: records that are played again and again, and gaps and lengths in turn.
 use Rattle.std.specs.Prelude.{◌≡◌, ℕ, ◌<◌, Result, Err, List, [], ◌∷◌, ◌++◌, map, filter, length, true, false, ◌+◌, ◌-◌, ◌*◌, ◌/◌, ◌%◌, min, nat_lt, if◌then◌else◌, zero, suc, ◌^◌, Bool, slice_index}
-use Rattle.std.specs.List.{range_with_len, flat_map, enumerate_from, take_while}
-use Rattle.scenario_record.specs.declared.outage.Outage.{Outage}
-use Rattle.network.specs.Laid.{holds, links_between, links_of, only}
-use Rattle.network.specs.Words.{Words, place_of, stream_number, stream_of, words_of, after}
-use Rattle.network.specs.declared.outages.TheConstants.{MOST_OUTAGES}
+use Rattle.{std.specs.List.{range_with_len, flat_map, enumerate_from, take_while}, scenario_record.specs.declared.outage.Outage.{Outage}}
+use Rattle.network.specs.{Laid.{holds, links_between, links_of, only}, Words.{Words, place_of, stream_number, stream_of, words_of, after}}
+use Rattle.network.specs.declared.{outages.TheConstants.{MOST_OUTAGES}, error.DrawError.{DrawError, TheVariants.{TooManyOutages}}, group.{Ends.{Ends}, Group.TheVariants.{All}, LinkSet.{LinkSet}}, kind.Kind.{Kind}}
+use Rattle.network.specs.declared.{network.{Burst.{Burst}, Cut.{Cut}, Pause.{Pause}, Replay.{Replay}, Network.{Network}}, rhythm.Rhythm.{Rhythm}, spell.Spell.{Spell, TheVariants.{Ticks, Values, Mean}}}
 use Rattle.scenario.specs.declared.drawn.LinkOutage.{LinkOutage}
-use Rattle.network.specs.declared.error.DrawError.{DrawError}
-use Rattle.network.specs.declared.error.DrawError.TheVariants.{TooManyOutages}
-use Rattle.network.specs.declared.group.Ends.{Ends}
-use Rattle.network.specs.declared.group.Group.TheVariants.{All}
-use Rattle.network.specs.declared.group.LinkSet.{LinkSet}
-use Rattle.network.specs.declared.kind.Kind.{Kind}
 use Rattle.network.specs.declared.kind.Kind.TheVariants as kind
-use Rattle.network.specs.declared.network.Burst.{Burst}
-use Rattle.network.specs.declared.network.Cut.{Cut}
-use Rattle.network.specs.declared.network.Pause.{Pause}
-use Rattle.network.specs.declared.network.Replay.{Replay}
-use Rattle.network.specs.declared.network.Network.{Network}
-use Rattle.network.specs.declared.rhythm.Rhythm.{Rhythm}
-use Rattle.network.specs.declared.spell.Spell.{Spell}
-use Rattle.network.specs.declared.spell.Spell.TheVariants.{Ticks, Values, Mean}
 
 -- a geometric number of a mean: 1 plus its binary digits, which are independent. Digit i is 1 with the odds r_i to
 -- 2^32, where r_0 is (mean - 1) / mean and each next one the square of the one before, all in units of 2^-32
@@ -84,8 +69,7 @@ module _ (its : Rhythm) where
 
   -- the next one comes a gap after the end
   abbrev pub next : Coming → Coming
-  next e =
-      let rest = after (words_taken its.length) e.words in
+  next e = let rest = after (words_taken its.length) e.words in
       record { begin = until e + ticks_of its.gap rest; words = after (words_taken its.gap) rest }
 
   -- the one with so many before it
@@ -109,8 +93,7 @@ in_turn turn place horizon o =
 
 -- the same, where it isn't empty
 abbrev pub left_of : (turn place horizon : ℕ) → Outage → List Outage
-left_of turn place horizon o =
-    let its = in_turn turn place horizon o in
+left_of turn place horizon o = let its = in_turn turn place horizon o in
     if nat_lt its.begin its.until then its ∷ [] else []
 
 -- those of such a turn
@@ -120,8 +103,7 @@ replayed_in its turn place horizon = flat_map (left_of turn place horizon) its
 -- at tick 0 the record stands at a place that a word says, and it begins anew whenever it has lasted. The last turn
 -- here is the last one that begins at the horizon or below
 unfoldable pub replayed : Replay → Words → (horizon : ℕ) → List Outage
-replayed r words horizon =
-    let place = words 0 % r.lasts in
+replayed r words horizon = let place = words 0 % r.lasts in
     flat_map (λ m. replayed_in r.outages.items (m * r.lasts) place horizon)
     (range_with_len 0 ((horizon + place) / r.lasts + 1))
 
@@ -162,14 +144,12 @@ module _ (n horizon seed : ℕ) where
 
   -- all links between the groups, both ways, are cut at once
   unfoldable pub of_cut : ℕ → Cut → List LinkOutage
-  of_cut i its =
-      let words = words_of seed (stream_number kind.Cut i 0) in
+  of_cut i its = let words = words_of seed (stream_number kind.Cut i 0) in
       on_each (links_between its.one its.other true n) (episodes its.rhythm words horizon)
 
   -- all links from a process that pauses, which is a source by itself
   abbrev pub pause_of : ℕ → Pause → ℕ → List LinkOutage
-  pause_of i its p =
-      let words = words_of seed (stream_number kind.Pause i (place_of p)) in
+  pause_of i its p = let words = words_of seed (stream_number kind.Pause i (place_of p)) in
       on_each (links_between (only p) All false n) (episodes its.rhythm words horizon)
 
   unfoldable pub of_pause : ℕ → Pause → List LinkOutage
@@ -180,8 +160,7 @@ module _ (n horizon seed : ℕ) where
 
   -- all bursts, then all cuts, all pauses and all replays
   unfoldable pub drawn_of : Network → List LinkOutage
-  drawn_of its =
-      of_each of_burst its.bursts.items
+  drawn_of its = of_each of_burst its.bursts.items
       ++ of_each of_cut its.cuts.items
       ++ of_each of_pause its.pauses.items
       ++ of_each of_replay its.replays.items

@@ -1,23 +1,11 @@
 -- The keys that the tables of a network file may have, and which values a key may have.
-use Rattle.std.specs.Prelude.{ℕ, ◌==◌, nat_lt, ℤ, List, [], ◌∷◌, map, Bool, true, false, not, ◌&&◌, ◌||◌}
-use Rattle.std.specs.Prelude.{if◌then◌else◌, Option, Some, None, option_map, option_and_then, unwrap_or, is_some}
-use Rattle.std.specs.Prelude.{codes, length}
-use Rattle.std.specs.List.{list_any}
-use Rattle.std.specs.Option.{option_map_or, option_or}
-use Rattle.toml.specs.Data.{Data, Items, no_items, item, Members, get_member, as_integer, as_str, as_bool, as_array}
-use Rattle.toml.specs.Data.{as_table}
-use Rattle.process_api.specs.Place.{most_processes}
-use Rattle.scenario.specs.Table.{all_items, is_number, is_of, keys_of, same_text}
-use Rattle.scenario.specs.Rules.{is_within}
-use Rattle.scenario.specs.Faults.{count}
+use Rattle.std.specs.{Prelude.{ℕ, ◌==◌, nat_lt, ℤ, List, [], ◌∷◌, map, Bool, true, false, not, ◌&&◌, ◌||◌, if◌then◌else◌, Option, Some, None, option_map, option_and_then, unwrap_or, is_some, codes, length}, List.{list_any}}
+use Rattle.{std.specs.Option.{option_map_or, option_or}, toml.specs.Data.{Data, Items, no_items, item, Members, get_member, as_integer, as_str, as_bool, as_array, as_table}, process_api.specs.Place.{most_processes}}
+use Rattle.scenario.specs.{Table.{all_items, is_number, is_of, keys_of, same_text}, Rules.{is_within}, Faults.{count}}
 use Rattle.scenario.specs.declared.field.Kind.TheVariants as kind
-use Rattle.network.specs.Ranges.{most_values}
+use Rattle.network.specs.{Ranges.{most_values}, declared.{field.{TableKind.{TableKind, TheVariants.{Links, Bursts, Cuts, Pauses, Replays}}, Shape.{Shape}}, refusal.ValueFault.{ValueFault}}}
 use Rattle.network.specs.declared.field.Field as code
-use Rattle.network.specs.declared.field.TableKind.{TableKind}
-use Rattle.network.specs.declared.field.TableKind.TheVariants.{Links, Bursts, Cuts, Pauses, Replays}
-use Rattle.network.specs.declared.field.Shape.{Shape}
 use Rattle.network.specs.declared.field.Shape.TheVariants as shape
-use Rattle.network.specs.declared.refusal.ValueFault.{ValueFault}
 use Rattle.network.specs.declared.refusal.ValueFault.TheVariants as fault
 
 -- the key of a kind's array of tables
@@ -28,7 +16,6 @@ key_of Cuts = codes "cuts"
 key_of Pauses = codes "pauses"
 key_of Replays = codes "replays"
 
--- the keys of the file
 abbrev pub file_keys : List (List ℕ)
 file_keys = codes "links" ∷ codes "bursts" ∷ codes "cuts" ∷ codes "pauses" ∷ codes "replays" ∷ []
 
@@ -60,31 +47,25 @@ abbrev pub spell_field : List ℕ → Field
 spell_field key = needed key shape.Spell 1 10000000
 
 unfoldable pub link_fields : List Field
-link_fields =
-    group_field (codes "from") ∷ group_field (codes "to") ∷ both_field
+link_fields = group_field (codes "from") ∷ group_field (codes "to") ∷ both_field
     ∷ needed (codes "min") shape.Number 1 1000000 ∷ needed (codes "max") shape.Number 1 1000000
     ∷ record (needed (codes "loss") shape.Number 0 1000) { needed = false } ∷ []
 
 unfoldable pub burst_fields : List Field
-burst_fields =
-    group_field (codes "from") ∷ group_field (codes "to") ∷ both_field
+burst_fields = group_field (codes "from") ∷ group_field (codes "to") ∷ both_field
     ∷ spell_field (codes "gap") ∷ spell_field (codes "length") ∷ []
 
 unfoldable pub cut_fields : List Field
-cut_fields =
-    needed (codes "between") shape.Sides 1 most_processes
+cut_fields = needed (codes "between") shape.Sides 1 most_processes
     ∷ spell_field (codes "gap") ∷ spell_field (codes "length") ∷ []
 
 unfoldable pub pause_fields : List Field
-pause_fields =
-    group_field (codes "processes") ∷ spell_field (codes "gap") ∷ spell_field (codes "length") ∷ []
+pause_fields = group_field (codes "processes") ∷ spell_field (codes "gap") ∷ spell_field (codes "length") ∷ []
 
 unfoldable pub replay_fields : List Field
-replay_fields =
-    group_field (codes "from") ∷ group_field (codes "to") ∷ both_field
+replay_fields = group_field (codes "from") ∷ group_field (codes "to") ∷ both_field
     ∷ needed (codes "lasts") shape.Number 1 10000000 ∷ needed (codes "outages") shape.Outages 0 10000000 ∷ []
 
--- the keys of a table
 abbrev pub fields_in : TableKind → List Field
 fields_in Links = link_fields
 fields_in Bursts = burst_fields
@@ -129,8 +110,7 @@ values_in d = option_and_then (get_member (codes "values")) (as_table d)
 
 -- a table with one key: `mean`, an integer, or else `values`, an array of integers
 unfoldable pub is_spell_table : Data → Bool
-is_spell_table d =
-    length (option_map_or keys_of (as_table d) []) == 1
+is_spell_table d = length (option_map_or keys_of (as_table d) []) == 1
     && option_map_or is_number (mean_in d) (option_map_or is_numbers (values_in d) false)
 
 abbrev pub takes : Shape → Data → Bool
@@ -181,24 +161,21 @@ number_outside shape.Group low high d = first_outside low high d
 number_outside shape.Sides low high d = first_of (first_outside low high) (items_in d)
 number_outside shape.Flag low high d = None
 number_outside shape.Number low high d = outside low high d
-number_outside shape.Spell low high d =
-    option_or (outside low high d)
+number_outside shape.Spell low high d = option_or (outside low high d)
     (option_or (option_and_then (outside low high) (mean_in d))
     (option_and_then (first_outside low high) (values_in d)))
 number_outside shape.Outages low high d = first_of (first_outside low high) (items_in d)
 
 -- what is wrong with a value
 unfoldable pub fault_of_value : Field → Data → Option ValueFault
-fault_of_value f d =
-    if not (takes f.shape d) then Some (fault.OtherShape f.shape)
+fault_of_value f d = if not (takes f.shape d) then Some (fault.OtherShape f.shape)
     else if lacks_member f.shape d then Some fault.NoMember
     else if has_more f.shape d then Some fault.TooManyValues
     else option_map (λ z. fault.OutOfRange z f.low f.high) (number_outside f.shape f.low f.high d)
 
 -- what is wrong with what a table has at a key
 unfoldable pub fault_at : Field → Members → Option ValueFault
-fault_at f t =
-    option_map_or (fault_of_value f) (get_member f.key t) (if f.needed then Some fault.Missing else None)
+fault_at f t = option_map_or (fault_of_value f) (get_member f.key t) (if f.needed then Some fault.Missing else None)
 
 -- something is wrong with a value of a table
 unfoldable pub has_fault : List Field → Members → Bool

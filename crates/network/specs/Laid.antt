@@ -1,15 +1,7 @@
 -- The links that a network lays over a scenario's. Groups of processes, and the links between them.
-use Rattle.std.specs.Prelude.{ℕ, List, map, filter, Bool, Option, None, option_map, ◌==◌, true, not, ◌&&◌, ◌||◌}
-use Rattle.std.specs.List.{range_with_len, flat_map, last_or}
-use Rattle.std.specs.Option.{option_to_list}
+use Rattle.std.specs.{Prelude.{ℕ, List, map, filter, Bool, Option, None, option_map, ◌==◌, true, not, ◌&&◌, ◌||◌}, List.{range_with_len, flat_map, last_or}, Option.{option_to_list}}
 use Rattle.std.specs.FinSet as set
-use Rattle.scenario_record.specs.declared.link.Link.{Link}
-use Rattle.network.specs.declared.network.LinkTable.{LinkTable}
-use Rattle.network.specs.declared.laid.LaidLink.{LaidLink}
-use Rattle.network.specs.declared.group.Group.{Group}
-use Rattle.network.specs.declared.group.Group.TheVariants.{All, Members}
-use Rattle.network.specs.declared.group.Ends.{Ends}
-use Rattle.network.specs.declared.group.LinkSet.{LinkSet}
+use Rattle.{scenario_record.specs.declared.link.Link.{Link}, network.specs.declared.{network.LinkTable.{LinkTable}, laid.LaidLink.{LaidLink}, group.{Group.{Group, TheVariants.{All, Members}}, Ends.{Ends}, LinkSet.{LinkSet}}}}
 
 -- the process is one of the group
 abbrev pub holds : Group → ℕ → Bool
@@ -18,8 +10,7 @@ holds (Members members) p = set.contains members p
 
 -- the link from one process to another is one of those from a group to a group, or of both directions
 unfoldable pub joins : (senders receivers : Group) → (both : Bool) → (from to : ℕ) → Bool
-joins senders receivers both from to =
-    not (from == to)
+joins senders receivers both from to = not (from == to)
     && ((holds senders from && holds receivers to) || (both && (holds senders to && holds receivers from)))
 
 -- the links of those from one process, of 1 to n, by receiver

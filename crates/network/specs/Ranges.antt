@@ -1,19 +1,7 @@
 -- What drawing asks of the numbers of a network.
-use Rattle.std.specs.Prelude.{ℕ, ◌≤◌, ◌<◌, List, length}
-use Rattle.std.specs.List.{All}
-use Rattle.std.specs.List.Sorted.{IsSorted}
-use Rattle.std.specs.Ordering.{ordering_then, nat_cmp}
-use Rattle.std.specs.declared.cmp.Ordering.{Ordering}
+use Rattle.std.specs.{Prelude.{ℕ, ◌≤◌, ◌<◌, List, length}, List.{All, Sorted.{IsSorted}}, Ordering.{ordering_then, nat_cmp}, declared.cmp.Ordering.{Ordering}}
 use Rattle.scenario_record.specs.declared.outage.Outage.{Outage}
-use Rattle.network.specs.Words.{most_tables}
-use Rattle.network.specs.declared.spell.Spell.{Spell}
-use Rattle.network.specs.declared.spell.Spell.TheVariants.{Ticks, Values, Mean}
-use Rattle.network.specs.declared.rhythm.Rhythm.{Rhythm}
-use Rattle.network.specs.declared.network.Burst.{Burst}
-use Rattle.network.specs.declared.network.Cut.{Cut}
-use Rattle.network.specs.declared.network.Pause.{Pause}
-use Rattle.network.specs.declared.network.Replay.{Replay}
-use Rattle.network.specs.declared.network.Network.{Network}
+use Rattle.network.specs.{Words.{most_tables}, declared.{spell.Spell.{Spell, TheVariants.{Ticks, Values, Mean}}, rhythm.Rhythm.{Rhythm}, network.{Burst.{Burst}, Cut.{Cut}, Pause.{Pause}, Replay.{Replay}, Network.{Network}}}}
 
 -- the most values of a gap or a length
 abbrev pub most_values : ℕ

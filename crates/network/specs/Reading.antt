@@ -1,33 +1,13 @@
 -- What a network file says: which network its table stands for.
-use Rattle.std.specs.Prelude.{◌≡◌, ℕ, ℤ, pos, List, [], ◌∷◌, ◌++◌, Bool, false, Option, Some, None, option_and_then}
-use Rattle.std.specs.Prelude.{unwrap_or, if◌then◌else◌, codes, IsPermutation, min}
-use Rattle.std.specs.List.{AllZip}
-use Rattle.std.specs.List.Sorted.{IsSorted}
+use Rattle.std.specs.{Prelude.{◌≡◌, ℕ, ℤ, pos, List, [], ◌∷◌, ◌++◌, Bool, false, Option, Some, None, option_and_then, unwrap_or, if◌then◌else◌, codes, IsPermutation, min}, List.{AllZip, Sorted.{IsSorted}}}
 use Rattle.std.specs.Option.{option_map_or, option_to_list}
 use Rattle.std.specs.FinSet as set
-use Rattle.toml.specs.Data.{Data, Items, Members, no_items, item, at, get_member, as_integer, as_bool}
-use Rattle.process_api.specs.Place.{most_processes}
-use Rattle.process_api.specs.Sets.{insert_all}
-use Rattle.scenario.specs.Table.{tables_at}
-use Rattle.scenario.specs.Text.{natural}
-use Rattle.scenario.specs.Rules.{is_within}
-use Rattle.scenario_record.specs.declared.link.Link.{Link}
-use Rattle.scenario_record.specs.declared.outage.Outage.{Outage}
-use Rattle.network.specs.Ranges.{outage_cmp}
-use Rattle.network.specs.Fields.{key_of, items_in, is_all, mean_in, values_in}
-use Rattle.network.specs.declared.field.TableKind.TheVariants.{Links, Bursts, Cuts, Pauses, Replays}
-use Rattle.network.specs.declared.group.Group.{Group}
+use Rattle.{toml.specs.Data.{Data, Items, Members, no_items, item, at, get_member, as_integer, as_bool}, process_api.specs.{Place.{most_processes}, Sets.{insert_all}}, scenario.specs.{Table.{tables_at}, Text.{natural}, Rules.{is_within}}}
+use Rattle.{scenario_record.specs.declared.{link.Link.{Link}, outage.Outage.{Outage}}, network.specs.{Ranges.{outage_cmp}, Fields.{key_of, items_in, is_all, mean_in, values_in}}}
+use Rattle.network.specs.declared.{field.TableKind.TheVariants.{Links, Bursts, Cuts, Pauses, Replays}, group.{Group.{Group}, LinkSet.{LinkSet}}, spell.Spell.{Spell}, rhythm.Rhythm.{Rhythm}}
+use Rattle.network.specs.declared.network.{LinkTable.{LinkTable}, Burst.{Burst}, Cut.{Cut}, Pause.{Pause}, Replay.{Replay}, Network.{Network}}
 use Rattle.network.specs.declared.group.Group.TheVariants as group
-use Rattle.network.specs.declared.group.LinkSet.{LinkSet}
-use Rattle.network.specs.declared.spell.Spell.{Spell}
 use Rattle.network.specs.declared.spell.Spell.TheVariants as spell
-use Rattle.network.specs.declared.rhythm.Rhythm.{Rhythm}
-use Rattle.network.specs.declared.network.LinkTable.{LinkTable}
-use Rattle.network.specs.declared.network.Burst.{Burst}
-use Rattle.network.specs.declared.network.Cut.{Cut}
-use Rattle.network.specs.declared.network.Pause.{Pause}
-use Rattle.network.specs.declared.network.Replay.{Replay}
-use Rattle.network.specs.declared.network.Network.{Network}
 
 -- the integer of a value; 0 of another one
 abbrev pub integer_of : Data → ℤ
@@ -94,8 +74,7 @@ abbrev pub listed_in : Data → List ℕ
 listed_in d = option_map_or (λ v. each number_of (items_in v)) (values_in d) []
 
 abbrev pub said_in : Data → Said
-said_in d =
-    option_map_or (λ z. ticks (number_of d)) (as_integer d)
+said_in d = option_map_or (λ z. ticks (number_of d)) (as_integer d)
     (option_map_or (λ m. mean (number_of m)) (mean_in d) (values (listed_in d)))
 
 abbrev pub said_at : List ℕ → Members → Said

@@ -1,27 +1,11 @@
 -- Which tables are network files, and why others are refused.
-use Rattle.std.specs.Prelude.{◌≡◌, ◌≢◌, ℕ, ◌<◌, ◌≤◌, ◌&&◌, nat_lt, nat_le, not, List, length, Bool, true, false}
-use Rattle.std.specs.Prelude.{string_bytes, Option, Some, None, option_map, if◌then◌else◌}
-use Rattle.std.specs.List.{All, Contains, find, range_with_len}
-use Rattle.std.specs.Option.{option_map_or}
-use Rattle.toml.specs.Data.{Members, get_member}
-use Rattle.process_api.specs.Place.{most_processes}
-use Rattle.scenario.specs.Table.{is_of, keys_of, tables_at}
-use Rattle.scenario.specs.Keys.{numbered}
+use Rattle.std.specs.{Prelude.{◌≡◌, ◌≢◌, ℕ, ◌<◌, ◌≤◌, ◌&&◌, nat_lt, nat_le, not, List, length, Bool, true, false, string_bytes, Option, Some, None, option_map, if◌then◌else◌}, List.{All, Contains, find, range_with_len}}
+use Rattle.{std.specs.Option.{option_map_or}, toml.specs.Data.{Members, get_member}, process_api.specs.Place.{most_processes}, scenario.specs.{Table.{is_of, keys_of, tables_at}, Keys.{numbered}}}
 use Rattle.scenario.specs.declared.field.Kind.TheVariants as kind
-use Rattle.scenario_record.specs.declared.outage.Outage.{Outage}
-use Rattle.network.specs.Laid.{holds}
-use Rattle.network.specs.Words.{most_tables}
-use Rattle.network.specs.Ranges.{IsNetwork}
-use Rattle.network.specs.Fields.{Field, fault_at, fields_in, file_keys, has_fault, has_unlisted, key_of, keys_in}
-use Rattle.network.specs.Fields.{is_listed}
+use Rattle.{scenario_record.specs.declared.outage.Outage.{Outage}, network.specs.{Laid.{holds}, Words.{most_tables}, Ranges.{IsNetwork}, Fields.{Field, fault_at, fields_in, file_keys, has_fault, has_unlisted, key_of, keys_in, is_listed}}}
 use Rattle.network.specs.Reading.{SaysNetwork, lasts_in, link_in, outages_in, side_at}
-use Rattle.network.specs.declared.field.TableKind.{TableKind}
-use Rattle.network.specs.declared.field.TableKind.TheVariants.{Links, Bursts, Cuts, Pauses, Replays}
-use Rattle.network.specs.declared.network.Network.{Network}
-use Rattle.network.specs.declared.refusal.TableFault.{TableFault}
+use Rattle.network.specs.declared.{field.TableKind.{TableKind, TheVariants.{Links, Bursts, Cuts, Pauses, Replays}}, network.Network.{Network}, refusal.{TableFault.{TableFault}, ValueFault.{ValueFault}, NetworkError.{NetworkError}}}
 use Rattle.network.specs.declared.refusal.TableFault.TheVariants as fault
-use Rattle.network.specs.declared.refusal.ValueFault.{ValueFault}
-use Rattle.network.specs.declared.refusal.NetworkError.{NetworkError}
 use Rattle.network.specs.declared.refusal.NetworkError.TheVariants as error
 
 -- values that don't fit each other
@@ -35,17 +19,14 @@ all_processes = range_with_len 1 most_processes
 
 -- the least process of both groups
 unfoldable pub cut_fault : Members → Option TableFault
-cut_fault t =
-    option_map fault.CommonMember
-    (find (λ p. holds (side_at 0 t) p && holds (side_at 1 t) p) all_processes)
+cut_fault t = option_map fault.CommonMember (find (λ p. holds (side_at 0 t) p && holds (side_at 1 t) p) all_processes)
 
 -- the first outage that doesn't begin before its end, or ends after the record
 abbrev pub lies_within : (lasts : ℕ) → Outage → Bool
 lies_within lasts o = nat_lt o.begin o.until && nat_le o.until lasts
 
 unfoldable pub replay_fault : Members → Option TableFault
-replay_fault t =
-    option_map (λ o. fault.NotWithin o.begin o.until (lasts_in t))
+replay_fault t = option_map (λ o. fault.NotWithin o.begin o.until (lasts_in t))
     (find (λ o. not (lies_within (lasts_in t) o)) (outages_in t))
 
 abbrev pub fault_of : TableKind → Members → Option TableFault

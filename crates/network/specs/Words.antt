@@ -1,10 +1,8 @@
 -- The words that a source draws by: a stream of its own, which no other source has, nor any link.
 use Rattle.std.specs.Prelude.{ℕ, ◌≡◌, ◌<◌, ◌≤◌, ◌+◌, ◌-◌, ◌*◌, ◌%◌, ◌^◌}
-use Rattle.rand_chacha.specs.ChaCha.{word_at}
-use Rattle.process_api.specs.Place.{most_processes}
+use Rattle.{rand_chacha.specs.ChaCha.{word_at}, process_api.specs.Place.{most_processes}}
 use Rattle.streams.specs.Fate as fate
-use Rattle.network.specs.declared.kind.Kind.{Kind}
-use Rattle.network.specs.declared.kind.Kind.TheVariants.{Burst, Cut, Pause, Replay}
+use Rattle.network.specs.declared.kind.Kind.{Kind, TheVariants.{Burst, Cut, Pause, Replay}}
 
 -- words in turn, the next one at place 0
 abbrev pub Words : Type 0

@@ -1,12 +1,9 @@
 //! Processes that a network names and a run doesn't have.
-ghost use Rattle.std.specs.Prelude.{◌≡◌, ◌≤◌, ◌&&◌, nat_lt, List, Some, None, map, IfSome};
+ghost use Rattle.std.specs.{Prelude.{◌≡◌, ◌≤◌, ◌&&◌, nat_lt, List, Some, None, map, IfSome}, List.{All, find, range_with_len}};
 ghost use Rattle.std.specs.FinSet as set;
-ghost use Rattle.std.specs.List.{All, find, range_with_len};
 ghost use Rattle.process_api.specs.Place.{most_processes};
 ghost use Rattle.network.specs.Above as spec;
-ghost use Rattle.network.specs.Above.{AreAllWithin, AreWithin, HasAbove, HasKeyAbove, Named};
-ghost use Rattle.network.specs.Above.{earlier, groups_of, link_groups};
-ghost use Rattle.network.specs.declared.field.TableKind.{TableKind};
+ghost use Rattle.network.specs.{Above.{AreAllWithin, AreWithin, HasAbove, HasKeyAbove, Named, earlier, groups_of, link_groups}, declared.field.TableKind.{TableKind}};
 
 use crate::field::TableKind;
 use crate::group::{Group, LinkSet};

@@ -1,7 +1,6 @@
 //! Outages of several links at once, and the course of a run.
 ghost use Rattle.std.specs.Prelude.{◌≡◌, ◌≤◌, ◌++◌, map, OnOk};
-ghost use Rattle.process_api.specs.Place.{most_processes};
-ghost use Rattle.network.specs.Drawn.{OnTooMany, outage_on};
+ghost use Rattle.{process_api.specs.Place.{most_processes}, network.specs.Drawn.{OnTooMany, outage_on}};
 
 use crate::error::DrawError;
 use crate::group::Ends;

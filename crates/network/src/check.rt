@@ -1,13 +1,9 @@
 //! Whether a table is a network file.
-ghost use Rattle.std.specs.Prelude.{◌≡◌, Some, false, true, is_some, map, IfErr, IfSome, OnOk};
-ghost use Rattle.std.specs.List.{All, Contains};
-ghost use Rattle.toml.specs.Data.{Members};
-ghost use Rattle.toml.specs.View.{items_view, table_view};
-ghost use Rattle.scenario.specs.Keys.{numbered};
+ghost use Rattle.std.specs.{Prelude.{◌≡◌, Some, false, true, is_some, map, IfErr, IfSome, OnOk}, List.{All, Contains}};
+ghost use Rattle.toml.specs.{Data.{Members}, View.{items_view, table_view}};
+ghost use Rattle.scenario.specs.{Keys.{numbered}, Table.{all_items, is_table, tables_at, the_tables}};
 ghost use Rattle.scenario.specs.Table as scenario_table;
-ghost use Rattle.scenario.specs.Table.{all_items, is_table, tables_at, the_tables};
-ghost use Rattle.network.specs.Fields.{fields_of, has_fault, has_unlisted, is_listed, key_of};
-ghost use Rattle.network.specs.Refusals.{AreTablesOf, HasFaultAt, IsNetworkFile, IsTableOf, Refuses};
+ghost use Rattle.network.specs.{Fields.{fields_of, has_fault, has_unlisted, is_listed, key_of}, Refusals.{AreTablesOf, HasFaultAt, IsNetworkFile, IsTableOf, Refuses}};
 
 use crate::field::{Field, TableKind, file_keys, keys_of};
 use crate::refusal::{NetworkError, ValueFault};

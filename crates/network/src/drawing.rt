@@ -1,10 +1,7 @@
 //! All outages of a network.
-ghost use Rattle.std.specs.Prelude.{◌≡◌, ◌≤◌, ◌++◌, length, OnOk, IfOk};
-ghost use Rattle.std.specs.List.{All};
+ghost use Rattle.std.specs.{Prelude.{◌≡◌, ◌≤◌, ◌++◌, length, OnOk, IfOk}, List.{All}};
 ghost use Rattle.process_api.specs.Place.{most_processes};
-ghost use Rattle.network.specs.Drawn.{drawn_of, OnTooMany, most_outages, of_each};
-ghost use Rattle.network.specs.Ranges.{IsNetwork};
-ghost use Rattle.network.specs.Words.{most_tables};
+ghost use Rattle.network.specs.{Drawn.{drawn_of, OnTooMany, most_outages, of_each}, Ranges.{IsNetwork}, Words.{most_tables}};
 
 use crate::add::Course;
 use crate::error::DrawError;

@@ -1,6 +1,5 @@
 //! Groups of processes, and the links between them.
-ghost use Rattle.std.specs.Prelude.{◌≡◌, ◌≤◌, ◌++◌, ◌∷◌, [], filter, IfOk, OnOk, if◌then◌else◌};
-ghost use Rattle.std.specs.List.{range_with_len};
+ghost use Rattle.std.specs.{Prelude.{◌≡◌, ◌≤◌, ◌++◌, ◌∷◌, [], filter, IfOk, OnOk, if◌then◌else◌}, List.{range_with_len}};
 ghost use Rattle.process_api.specs.Place.{most_processes};
 ghost use Rattle.network.specs.Laid.{holds, joins, links_between, links_from};
 

@@ -1,7 +1,6 @@
 //! Kinds of sources.
 ghost use Rattle.std.specs.Prelude.{◌≡◌, ◌<◌, ◌≤◌, ◌^◌};
-ghost use Rattle.network.specs.Words.{AreAboveLinks, AreApart, AreLinksApart, AreProcessesApart};
-ghost use Rattle.network.specs.Words.{kind_number, most_tables, stream_number, stream_of};
+ghost use Rattle.network.specs.Words.{AreAboveLinks, AreApart, AreLinksApart, AreProcessesApart, kind_number, most_tables, stream_number, stream_of};
 
 use crate::group::Ends;
 

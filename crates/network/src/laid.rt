@@ -1,6 +1,5 @@
 //! The links that a network lays over a scenario's.
-ghost use Rattle.std.specs.Prelude.{◌≡◌, ◌≤◌, ◌++◌, IfOk, OnOk, if◌then◌else◌};
-ghost use Rattle.std.specs.Option.{option_to_list};
+ghost use Rattle.std.specs.{Prelude.{◌≡◌, ◌≤◌, ◌++◌, IfOk, OnOk, if◌then◌else◌}, Option.{option_to_list}};
 ghost use Rattle.process_api.specs.Place.{most_processes};
 ghost use Rattle.network.specs.Laid.{is_of, laid_from, laid_links, laid_on, link_said};
 

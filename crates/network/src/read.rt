@@ -1,12 +1,8 @@
 //! Networks, read from the tables of a file.
-ghost use Rattle.std.specs.Prelude.{IfOk, IfErr};
-ghost use Rattle.std.specs.List.{AllZip};
-ghost use Rattle.toml.specs.Data.{Members};
-ghost use Rattle.toml.specs.View.{items_view, table_view};
+ghost use Rattle.std.specs.{Prelude.{IfOk, IfErr}, List.{AllZip}};
+ghost use Rattle.toml.specs.{Data.{Members}, View.{items_view, table_view}};
 ghost use Rattle.scenario.specs.Table.{tables_at, the_tables};
-ghost use Rattle.network.specs.Fields.{key_of};
-ghost use Rattle.network.specs.Reading.{SaysNetwork};
-ghost use Rattle.network.specs.Refusals.{IsNetworkOf, Refuses};
+ghost use Rattle.network.specs.{Fields.{key_of}, Reading.{SaysNetwork}, Refusals.{IsNetworkOf, Refuses}};
 
 use crate::check::check_file;
 use crate::field::TableKind;

@@ -1,15 +1,10 @@
 //! The meaning of a network file's tables. A value that isn't as it should be was refused before, and is read as
 //! nothing.
-ghost use Rattle.std.specs.Prelude.{◌≡◌, option_map, IfOk, IsPermutation};
+ghost use Rattle.std.specs.{Prelude.{◌≡◌, option_map, IfOk, IsPermutation}, List.Sorted.{IsSorted}, Option.{option_map_or}};
 ghost use Rattle.std.specs.FinSet as set;
-ghost use Rattle.std.specs.List.Sorted.{IsSorted};
-ghost use Rattle.std.specs.Option.{option_map_or};
-ghost use Rattle.process_api.specs.Sets.{insert_all};
-ghost use Rattle.toml.specs.View.{view, items_view, table_view};
-ghost use Rattle.toml.specs.Data.{at};
-ghost use Rattle.network.specs.Ranges.{outage_cmp};
+ghost use Rattle.{process_api.specs.Sets.{insert_all}, toml.specs.{View.{view, items_view, table_view}, Data.{at}}};
+ghost use Rattle.network.specs.{Ranges.{outage_cmp}, Reading.{SaysRhythm, each, processes_in, said_of, said_in}};
 ghost use Rattle.network.specs.Reading as reading;
-ghost use Rattle.network.specs.Reading.{SaysRhythm, each, processes_in, said_of, said_in};
 
 use crate::group::{Group, LinkSet};
 use crate::rhythm::Rhythm;

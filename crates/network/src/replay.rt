@@ -1,8 +1,6 @@
 //! Records that are played again and again.
-ghost use Rattle.std.specs.Prelude.{◌≡◌, ◌<◌, ◌≤◌, ◌++◌, ◌+◌, ◌^◌, OnOk};
-ghost use Rattle.std.specs.Option.{option_to_list};
-ghost use Rattle.network.specs.Drawn.{OnTooMany, on_each, left_of, replayed_in};
-ghost use Rattle.network.specs.Ranges.{IsReplay};
+ghost use Rattle.std.specs.{Prelude.{◌≡◌, ◌<◌, ◌≤◌, ◌++◌, ◌+◌, ◌^◌, OnOk}, Option.{option_to_list}};
+ghost use Rattle.network.specs.{Drawn.{OnTooMany, on_each, left_of, replayed_in}, Ranges.{IsReplay}};
 
 use crate::error::DrawError;
 use crate::group::Ends;
@@ -67,8 +65,7 @@ impl Replay {
 }
 
 impl Source for Replay {
-    ghost use Rattle.network.specs.Ranges.{IsReplay};
-    ghost use Rattle.network.specs.Drawn.{replayed};
+    ghost use Rattle.network.specs.{Ranges.{IsReplay}, Drawn.{replayed}};
 
     ghost is_in_range = { IsReplay };
 

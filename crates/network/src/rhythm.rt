@@ -18,8 +18,7 @@ pub struct Rhythm {
 }
 
 impl Source for Rhythm {
-    ghost use Rattle.network.specs.Drawn.{episodes};
-    ghost use Rattle.network.specs.Ranges.{IsRhythm};
+    ghost use Rattle.network.specs.{Drawn.{episodes}, Ranges.{IsRhythm}};
 
     ghost is_in_range = { IsRhythm };
 

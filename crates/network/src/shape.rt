@@ -1,13 +1,10 @@
 //! The values that have a shape, and the faults of a key's value.
-ghost use Rattle.std.specs.Prelude.{◌≡◌, [], false, length, option_map, option_and_then};
-ghost use Rattle.std.specs.Option.{option_map_or};
-ghost use Rattle.toml.specs.Data.{as_table, get_member};
-ghost use Rattle.toml.specs.View.{view, items_view, table_view};
+ghost use Rattle.std.specs.{Prelude.{◌≡◌, [], false, length, option_map, option_and_then}, Option.{option_map_or}};
+ghost use Rattle.toml.specs.{Data.{as_table, get_member}, View.{view, items_view, table_view}};
 ghost use Rattle.scenario.specs.Table.{all_items, is_number, keys_of};
 ghost use Rattle.scenario.specs.Faults as faults;
 ghost use Rattle.network.specs.Fields as fields;
-ghost use Rattle.network.specs.Fields.{any_item, field_of, first_of, items_in, mean_in, values_in, takes};
-ghost use Rattle.network.specs.Fields.{lacks_member, has_more, number_outside};
+ghost use Rattle.network.specs.Fields.{any_item, field_of, first_of, items_in, mean_in, values_in, takes, lacks_member, has_more, number_outside};
 
 use crate::field::{Field, Shape};
 use crate::refusal::ValueFault;

@@ -1,9 +1,7 @@
 //! What a source draws.
 ghost use Rattle.std.specs.Prelude.{◌≡◌, ◌≤◌, ◌++◌, ℕ, List, OnOk};
 ghost use Rattle.scenario_record.specs.declared.outage.Outage.{Outage};
-ghost use Rattle.network.specs.Drawn.{OnTooMany, on_each};
-ghost use Rattle.network.specs.Words.{Words};
-ghost use Rattle.network.specs.Inside.Coming.{to_come};
+ghost use Rattle.network.specs.{Drawn.{OnTooMany, on_each}, Words.{Words}, Inside.Coming.{to_come}};
 
 use crate::error::DrawError;
 use crate::group::Ends;

@@ -1,9 +1,6 @@
 //! How long a gap or an outage lasts.
 ghost use Rattle.std.specs.Prelude.{◌≡◌, ◌<◌, ◌≤◌, ◌*◌, ◌+◌, ◌%◌, ◌^◌, length, slice_index, if◌then◌else◌};
-ghost use Rattle.network.specs.Words.{after};
-ghost use Rattle.network.specs.Drawn.{digits_drawn, first_ticks_of, first_words_taken, geometric, is_one, ticks_of, words_taken};
-ghost use Rattle.network.specs.Ranges.{AreValues, IsSpell, IsTicks};
-ghost use Rattle.network.specs.Inside.Coming.{to_come};
+ghost use Rattle.network.specs.{Words.{after}, Drawn.{digits_drawn, first_ticks_of, first_words_taken, geometric, is_one, ticks_of, words_taken}, Ranges.{AreValues, IsSpell, IsTicks}, Inside.Coming.{to_come}};
 
 use crate::words::SourceWords;
 

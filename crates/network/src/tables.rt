@@ -1,9 +1,7 @@
 //! The outages of each table.
 ghost use Rattle.std.specs.Prelude.{◌≡◌, ◌<◌, ◌++◌, ℕ, List, OnOk};
 ghost use Rattle.scenario.specs.declared.drawn.LinkOutage.{LinkOutage};
-ghost use Rattle.network.specs.Drawn.{OnTooMany, of_links, pause_of};
-ghost use Rattle.network.specs.Ranges.{IsRhythm};
-ghost use Rattle.network.specs.Words.{most_tables};
+ghost use Rattle.network.specs.{Drawn.{OnTooMany, of_links, pause_of}, Ranges.{IsRhythm}, Words.{most_tables}};
 
 use crate::add::Course;
 use crate::error::DrawError;
@@ -60,8 +58,7 @@ fn draw_alone<S: Source>(
 }
 
 impl DrawsOutages for Burst {
-    ghost use Rattle.network.specs.Drawn.{of_burst};
-    ghost use Rattle.network.specs.Ranges.{IsRhythm};
+    ghost use Rattle.network.specs.{Drawn.{of_burst}, Ranges.{IsRhythm}};
 
     ghost is_in_range = { λ b. IsRhythm b.rhythm };
 
@@ -81,8 +78,7 @@ impl DrawsOutages for Burst {
 }
 
 impl DrawsOutages for Cut {
-    ghost use Rattle.network.specs.Drawn.{of_cut};
-    ghost use Rattle.network.specs.Ranges.{IsRhythm};
+    ghost use Rattle.network.specs.{Drawn.{of_cut}, Ranges.{IsRhythm}};
 
     ghost is_in_range = { λ c. IsRhythm c.rhythm };
 
@@ -125,8 +121,7 @@ impl Pause {
 }
 
 impl DrawsOutages for Pause {
-    ghost use Rattle.network.specs.Drawn.{of_pause};
-    ghost use Rattle.network.specs.Ranges.{IsRhythm};
+    ghost use Rattle.network.specs.{Drawn.{of_pause}, Ranges.{IsRhythm}};
 
     ghost is_in_range = { λ p. IsRhythm p.rhythm };
 
@@ -142,8 +137,7 @@ impl DrawsOutages for Pause {
 }
 
 impl DrawsOutages for Replay {
-    ghost use Rattle.network.specs.Drawn.{of_replay};
-    ghost use Rattle.network.specs.Ranges.{IsReplay};
+    ghost use Rattle.network.specs.{Drawn.{of_replay}, Ranges.{IsReplay}};
 
     ghost is_in_range = { IsReplay };
 

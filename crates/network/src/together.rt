@@ -1,13 +1,9 @@
 //! Faults of several values of a table, each of which is right by itself.
-ghost use Rattle.std.specs.Prelude.{◌≡◌, ◌≤◌, ◌&&◌, not};
-ghost use Rattle.std.specs.List.{find, range_with_len};
-ghost use Rattle.process_api.specs.Place.{most_processes};
-ghost use Rattle.toml.specs.View.{items_view, table_view};
-ghost use Rattle.network.specs.Laid.{holds};
+ghost use Rattle.std.specs.{Prelude.{◌≡◌, ◌≤◌, ◌&&◌, not}, List.{find, range_with_len}};
+ghost use Rattle.{process_api.specs.Place.{most_processes}, toml.specs.View.{items_view, table_view}};
+ghost use Rattle.network.specs.{Laid.{holds}, Reading.{each}, Refusals.{all_processes, lies_within}};
 ghost use Rattle.network.specs.Reading as reading;
-ghost use Rattle.network.specs.Reading.{each};
 ghost use Rattle.network.specs.Refusals as refusals;
-ghost use Rattle.network.specs.Refusals.{all_processes, lies_within};
 
 use crate::field::TableKind;
 use crate::group::Group;

@@ -1,8 +1,6 @@
 //! The words of a source, in turn.
 ghost use Rattle.std.specs.Prelude.{◌≡◌, ◌<◌, ◌^◌};
-ghost use Rattle.streams.specs.Fate.{key_of_seed};
-ghost use Rattle.network.specs.Words.{after, words_of};
-ghost use Rattle.network.specs.Inside.Coming.{to_come};
+ghost use Rattle.{streams.specs.Fate.{key_of_seed}, network.specs.{Words.{after, words_of}, Inside.Coming.{to_come}}};
 
 use rand_chacha::ChaCha8Rng;
 use rand_core::SeedableRng;

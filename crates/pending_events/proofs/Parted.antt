@@ -1,9 +1,7 @@
 -- Events in a row and all later ones, as a finite set of events.
 use Rattle.pending_events.proofs.Words.{◌≡◌, ◌≢◌, ◌≤◌, ◌<◌, ℕ, zero, suc, ◌+◌, inl, inr, refl, sym, ap, ◌∙◌, subst, arith, Bool, cond, true, false, List, [], ◌∷◌, length, reverse, Option, Some, None, MatchOption, Result, Ok, Err, OnOk, OnErr, AllocError, find, cases_eq, option_or, eq_by_cmp, key_cmp, Key, StepInput, keys_total, exact_keys, Calendar, latest, all_in, due, found, came, AllByRecursion, IsCalendar, IsParted, IsPut, IsTaken, IsVacant, IsEmpty, Event, Events, IsLeast, joined, not_None, weaker, cases_lt, length-reverse, ticks_rise, due_before, inserted, removed, tie}
+use Rattle.pending_events.proofs.{Falling.{found_here, latest_append, none_latest, or_assoc, or_None}, Nearby.{all_came}, Rows.{get_joined}}
 use Rattle.std.specs.FinMap as events
-use Rattle.pending_events.proofs.Falling.{found_here, latest_append, none_latest, or_assoc, or_None}
-use Rattle.pending_events.proofs.Nearby.{all_came}
-use Rattle.pending_events.proofs.Rows.{get_joined}
 
 -- events of another tick are not found
 other_tick : (t : ℕ) (q : Key) (es : List Event) → AllByRecursion (λ e. e.0.tick ≡ t) es → q.tick ≢ t → latest q es ≡ None

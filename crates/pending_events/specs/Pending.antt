@@ -1,9 +1,6 @@
 -- How a map of pending events is seen, and what its clauses say.
 use Rattle.std.specs.Prelude.{◌≡◌, ℕ}
-use Rattle.process_api.specs.declared.key.Key.{Key}
-use Rattle.process_api.specs.declared.message.StepInput.{StepInput}
-use Rattle.trace_laws.specs.Step.{Events}
-use Rattle.trace_laws.specs.World.{Has, IsLeast}
+use Rattle.{process_api.specs.declared.{key.Key.{Key}, message.StepInput.{StepInput}}, trace_laws.specs.{Step.{Events}, World.{Has, IsLeast}}}
 
 -- no event is in the set
 abbrev pub IsEmpty : Events → Type 0

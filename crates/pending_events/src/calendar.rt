@@ -1,7 +1,5 @@
 //! Events by their ticks: a ring of buckets for the ticks ahead, and a map of buckets for all others.
-ghost use Rattle.std.specs.Prelude.{◌≡◌, ◌++◌, ◌<◌, ◌≤◌, ◌%◌, ℕ, [], IfNone, IfOk, IfSome, MatchOption, false, length, true, vec_len};
-ghost use Rattle.std.specs.BTreeMap.{IsLowerBound};
-ghost use Rattle.std.specs.Ordering.{nat_cmp};
+ghost use Rattle.std.specs.{Prelude.{◌≡◌, ◌++◌, ◌<◌, ◌≤◌, ◌%◌, ℕ, [], IfNone, IfOk, IfSome, MatchOption, false, length, true, vec_len}, BTreeMap.{IsLowerBound}, Ordering.{nat_cmp}};
 ghost use Rattle.pending_events.specs.Inside.Calendar.{HasTick, IsCleared, IsFull, IsPut, bucket, came, IsCalendar, IsFirst, IsTaken, IsVacant, NoneAhead, due, lane, year};
 
 use std::alloc::{AllocError, Global};

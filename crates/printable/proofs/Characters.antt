@@ -1,14 +1,7 @@
 -- Texts that are written character by character.
-use Rattle.std.proofs.Common.{◌≡◌, ℕ, List, [], ◌++◌, length, IsUtf8, refl, ap, sym, ◌∙◌, append_assoc, append-nil}
-use Rattle.std.specs.Char.{encode_utf8}
-use Rattle.std.specs.Fmt.{HasWritten, IsPlainFormatter}
-use Rattle.std.specs.List.{flat_map}
-use Rattle.std.specs.Str.{chars}
-use Rattle.std.specs.declared.fmt.Formatter.{Formatter}
-use Rattle.std.proofs.Output.{has_written_append, has_written_of_eq, writes_in_calls_nil}
-use Rattle.std.proofs.StrCases.{chars_of_empty}
-use Rattle.std.proofs.lemmas.Str.{chars_past_char}
-use Rattle.std.proofs.lemmas.List.Concat.{flat_map-cons}
+use Rattle.std.proofs.{Common.{◌≡◌, ℕ, List, [], ◌++◌, length, IsUtf8, refl, ap, sym, ◌∙◌, append_assoc, append-nil}, Output.{has_written_append, has_written_of_eq, writes_in_calls_nil}, StrCases.{chars_of_empty}}
+use Rattle.std.proofs.lemmas.{Str.{chars_past_char}, List.Concat.{flat_map-cons}}
+use Rattle.std.specs.{Char.{encode_utf8}, Fmt.{HasWritten, IsPlainFormatter}, List.{flat_map}, Str.{chars}, declared.fmt.Formatter.{Formatter}}
 
 module _ {W : Type 0} (took : W → List ℕ → W → Type 0) (shows : ℕ → List ℕ) where
   -- what was written of a text, and what the rest gives, are what all of it gives

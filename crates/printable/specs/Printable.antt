@@ -1,9 +1,5 @@
 -- Texts as they are printed.
-use Rattle.std.specs.Prelude.{ℕ, List, [], ◌∷◌, ◌++◌, ◌==◌, Bool, true, false, if◌then◌else◌, codes}
-use Rattle.std.specs.Char.{encode_utf8, is_control}
-use Rattle.std.specs.Fmt.{digits}
-use Rattle.std.specs.List.{flat_map}
-use Rattle.std.specs.Str.{chars}
+use Rattle.std.specs.{Prelude.{ℕ, List, [], ◌∷◌, ◌++◌, ◌==◌, Bool, true, false, if◌then◌else◌, codes}, Char.{encode_utf8, is_control}, Fmt.{digits}, List.{flat_map}, Str.{chars}}
 
 -- a character; a control character by its number, as `\u{1b}`
 abbrev pub shown : ℕ → List ℕ

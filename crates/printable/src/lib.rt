@@ -7,9 +7,7 @@
 //! For example, a key `a` with an escape sequence after it is printed as `a\u{1b}[31m`.
 #![tactic(auto)]
 
-ghost use Rattle.std.specs.Fmt.{WritesOnOk};
-ghost use Rattle.std.specs.List.{flat_map};
-ghost use Rattle.std.specs.Str.{chars};
+ghost use Rattle.std.specs.{Fmt.{WritesOnOk}, List.{flat_map}, Str.{chars}};
 ghost use Rattle.printable.specs.Printable.{shown, shown_in_lines, shown_as};
 
 use std::fmt;
@@ -67,8 +65,7 @@ fn write_text<W: fmt::Write>(f: &mut fmt::Formatter<W>, text: &str, in_lines: bo
 }
 
 impl fmt::Display for Printable<'_> {
-    ghost use Rattle.std.specs.Prelude.{Some};
-    ghost use Rattle.printable.specs.Printable.{printable};
+    ghost use Rattle.{std.specs.Prelude.{Some}, printable.specs.Printable.{printable}};
 
     ghost output = { λ p. Some (printable p.0.now) };
 
@@ -79,8 +76,7 @@ impl fmt::Display for Printable<'_> {
 }
 
 impl fmt::Display for PrintableLines<'_> {
-    ghost use Rattle.std.specs.Prelude.{Some};
-    ghost use Rattle.printable.specs.Printable.{printable_lines};
+    ghost use Rattle.{std.specs.Prelude.{Some}, printable.specs.Printable.{printable_lines}};
 
     ghost output = { λ p. Some (printable_lines p.0.now) };
 

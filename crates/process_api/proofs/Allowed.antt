@@ -1,21 +1,15 @@
 -- What a process does is allowed: receivers are among 1 to n, and pauses are at least 1.
 use Rattle.process_api.proofs.Basics.{ℕ, ◌+◌, ◌%◌, ◌<◌, ◌≤◌, refl, sym, subst, Bool, true, false, cond, ◌&&◌, arith, nat_eq, nat_lt, nat_le, Option, None, Some, IfSome, is_some, unwrap_or, List, [], ◌∷◌, ◌++◌, mod-lt, IsTrue, AllByRecursion, All, All-from_recursion, IsAllowed, Answer, still, after, to_all, Exchange, Coordinator, Lower, AlgorithmState, Idle, Exchanging, Coordinating, Mind, is_mind_at, is_paced, suspects_of, stands_at, Place, react_lower, react_algorithm, react, ReductionState, step_reduction, gathered, coordinator, greatest_round, is_own, majority, count_to, Processes, changes, suspected_by, step_detector, Action, Payload, StepInput, cond_both, leb-true}
+use Rattle.process_api.proofs.{DetectorLaws.{detector_laws}, Lists.{both, images, always, option_both}, Minds.{both_true, same_count, mind_place, mind_paced, mind_stands}, Sending.{sent_to_all}, Waits.{all_do}}
 use Rattle.std.specs.FinSet as set
 use Rattle.process_api.specs.ConsensusS as exchange
 use Rattle.process_api.specs.Coordinator as rotating
-use Rattle.process_api.specs.Coordinator.{also_seen}
+use Rattle.process_api.specs.{Coordinator.{also_seen}, declared.consensus.Phase.{Phase, TheVariants.{Opening, Collect, Await, Tally, Decided, Ended}}}
 use Rattle.process_api.specs.declared.action.Action.TheVariants as action
 use Rattle.process_api.specs.declared.action.Note.TheVariants as note
-use Rattle.process_api.specs.declared.consensus.Phase.{Phase}
-use Rattle.process_api.specs.declared.consensus.Phase.TheVariants.{Opening, Collect, Await, Tally, Decided, Ended}
 use Rattle.process_api.specs.declared.message.Payload.TheVariants as payload
 use Rattle.process_api.specs.declared.message.StepInput.TheVariants as input
 use Rattle.process_api.specs.declared.message.Tag.TheVariants as tag
-use Rattle.process_api.proofs.DetectorLaws.{detector_laws}
-use Rattle.process_api.proofs.Lists.{both, images, always, option_both}
-use Rattle.process_api.proofs.Minds.{both_true, same_count, mind_place, mind_paced, mind_stands}
-use Rattle.process_api.proofs.Sending.{sent_to_all}
-use Rattle.process_api.proofs.Waits.{all_do}
 
 -- all of these actions are allowed among n
 abbrev pub AllAllowed : ℕ → List Action → Type 0

@@ -1,8 +1,8 @@
 -- The bits of words in a row.
 use Rattle.process_api.proofs.Basics.{◌≡◌, ◌≢◌, ℕ, zero, suc, ◌+◌, ◌-◌, ◌*◌, ◌/◌, ◌%◌, ◌^◌, ◌<◌, ◌≤◌, inl, inr, refl, sym, ap, ◌∙◌, true, false, cond, not, ◌&&◌, ◌||◌, nat_eq, nat_lt, List, get_or, set, length, max, min, bit_and, bit_or, bit_xor, arith, nat_cmp, w64, bit_at, bit_not, trailing_zeros, count_ones, mod-one, mod-eq_of_lt, cases_eq, cases_lt, nat_tests, get_or-set_same, get_or-set_other, pow_pos, mod-pow-add, mod_below, ones_cat, bit_at-zero, bit_at-lt, bit_at_or, bit_at_and, bit_at_xor, bit_at_ones, bit_at_ones_above, bit_at_set_same, bit_at_set_other, bit_at_clear_same, bit_at_clear_other, bit_at-trailing_zeros, is_set, members}
+use Rattle.process_api.proofs.Told.{len-more}
 use Rattle.std.specs.FinSet as finite
 use lib.Count.{ones}
-use Rattle.process_api.proofs.Told.{len-more}
 
 -- the place of a bit in its word
 split : (i k : ℕ) → i / 64 ≡ k → k * 64 + i % 64 ≡ i
@@ -75,14 +75,6 @@ module _ (a b all : List ℕ) (place : ℕ) where
 -- a word below a bit
 pub low_bit : (word most i : ℕ) → bit_at (bit_and word (2 ^ most - 1)) i ≡ cond (nat_lt i most) (bit_at word i) 0
 low_bit word most i = grind (bit_at_and word (2 ^ most - 1) i, bit_at_ones most i, bit_at_ones_above most i, bit_at-lt word i, arith, nat_tests)
-
--- words that have the lowest bits
-pub is_set-low : (words low : List ℕ) (most place : ℕ) → bit_at (get_or low (place / 64) 0) (place % 64) ≡ cond (nat_lt (place % 64) (most - place / 64 * 64)) (bit_at (get_or words (place / 64) 0) (place % 64)) 0
-    → is_set low place ≡ (is_set words place && nat_lt place most)
-is_set-low words low most place each = moved (place % 64) (place / 64 * 64) _ _ (split place (place / 64) refl) each
-  where
-    moved : (r b before after : ℕ) → b + r ≡ place → after ≡ cond (nat_lt r (most - b)) before 0 → nat_eq after 1 ≡ (nat_eq before 1 && nat_lt place most)
-    moved r b before after e each = grind (arith, nat_tests)
 
 -- where a word is 0, none of its bits is set
 pub none_set : (words : List ℕ) (place : ℕ) → get_or words (place / 64) 0 ≡ 0 → is_set words place ≡ false

@@ -1,11 +1,10 @@
 -- How the suspects of a layer change: some join, or one leaves.
 use Rattle.process_api.proofs.Basics.{◌≤◌, length, length-append, arith, ◌≡◌, ℕ, sym, ap, ◌∙◌, append-nil, [], ◌∷◌, ◌++◌, map, Bool, true, false, not, ◌&&◌, leb-true, and_parts, nat_tests, length-map, filter, numbers_to, is_process, Processes, insert_all, gone, changes}
+use Rattle.process_api.proofs.{Numbering.{length-apart, filter-same, filter-none, filter-one}, Contains.{contains-insert_all, contains-remove_is}}
 use Rattle.std.proofs.lemmas.Simd.{map-map}
 use Rattle.std.specs.FinSet as set
 use Rattle.process_api.specs.declared.action.Action.TheVariants as action
 use Rattle.process_api.specs.declared.action.Note.TheVariants as note
-use Rattle.process_api.proofs.Numbering.{length-apart, filter-same, filter-none, filter-one}
-use Rattle.process_api.proofs.Contains.{contains-insert_all, contains-remove_is}
 
 module _ (n : ℕ) (s : Processes) where
   -- those of 1 to n that pass a test, none of whom is in the set, join it

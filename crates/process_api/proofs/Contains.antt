@@ -1,7 +1,7 @@
 -- Who is in a set after a change.
 use Rattle.process_api.proofs.Basics.{◌≡◌, ◌≢◌, ℕ, zero, suc, ◌+◌, add-one, refl, sym, ap, ◌∙◌, List, [], ◌∷◌, ◌++◌, Bool, true, false, cond, not, ◌&&◌, ◌||◌, nat_eq, nat_le, arith, nat_cmp_total, unsigned_tied, filter, nat_cmp-IsAntisymmetric, ne_eqb, and_right, nat_tests, numbers_to, is_process, Processes, insert_all, up_to}
-use Rattle.std.specs.FinSet as set
 use Rattle.process_api.proofs.Numbering.{filter-suc}
+use Rattle.std.specs.FinSet as set
 
 pub contains-insert_is : (s : Processes) (q p : ℕ) → set.contains (set.insert s q) p ≡ (nat_eq p q || set.contains s p)
 contains-insert_is s q p = set.contains-insert nat_cmp_total s q p ∙ ap (λ b. b || set.contains s p) (unsigned_tied p q)

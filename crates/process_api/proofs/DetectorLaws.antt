@@ -1,9 +1,8 @@
 -- Each kind of base detector has the laws of a base detector; and what these make of a base detector alone.
 use Rattle.process_api.proofs.Basics.{◌≡◌, ℕ, ◌+◌, ◌≤◌, ap, sym, ◌∙◌, length, None, arith, All, All-from_recursion, IsTrue, IsAllowed, notes_of_layer, most_first_actions, DetectorState, ByTimeout, ByFreshness, suspected_by, has_pauses, step_detector, Lower, most_actions, Place, react_lower, Processes, changes, StepInput}
+use Rattle.process_api.proofs.{FreshnessLaws.{freshness_opens, freshness_laws}, TimeoutLaws.{timeout_opens, timeout_laws}}
 use Rattle.process_api.specs.BaseDetector.{OpensTrusting, StepsByLaws}
 use Rattle.process_api.specs.declared.numbers.DetectorNumbers.TheVariants as numbers
-use Rattle.process_api.proofs.FreshnessLaws.{freshness_opens, freshness_laws}
-use Rattle.process_api.proofs.TimeoutLaws.{timeout_opens, timeout_laws}
 
 pub detector_opens : OpensTrusting
 detector_opens place (numbers.Timeout its) = timeout_opens its

@@ -1,10 +1,8 @@
 -- The first entry of a table leaves.
 use Rattle.process_api.proofs.Basics.{◌≡◌, ◌<◌, ◌≤◌, arith, IsSome, ℕ, refl, sym, ap, ◌∙◌, subst, Bool, true, false, cond, Option, None, Some, List, [], ◌∷◌, length, nat_eq, nat_lt, BTreeMap, slice_get, IfSome, IfNone, true≢false, eqb-true, lt-ltb, ltb-true, Row, by_number, by_row, in_row, since, since_round}
-use Rattle.std.specs.Ordering.{nat_cmp}
+use Rattle.{process_api.proofs.Rows.{same_number}, std.specs.{Ordering.{nat_cmp}, Map.{lookup}}}
 use Rattle.std.proofs.lemmas.Map.Keys.{le_from_not_gt}
-use Rattle.std.specs.Map.{lookup}
 use Rattle.std.specs.BTreeMap as tree
-use Rattle.process_api.proofs.Rows.{same_number}
 
 unsome : {A : Type 0} (d : A) (a b : A) → Some a ≡ Some b → a ≡ b
 unsome d a b e = ap (λ o. elim o [ None ↦ d | Some x ↦ x ]) e

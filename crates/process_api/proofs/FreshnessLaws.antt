@@ -1,19 +1,14 @@
 -- The detector with freshness points has the laws of a base detector.
 use Rattle.process_api.proofs.Basics.{◌≡◌, inr, ℕ, ◌+◌, ◌≤◌, refl, sym, ap, ◌∙◌, [], ◌++◌, map, length, length-append, append-nil, true, ◌&&◌, ◌||◌, nat_le, nat_cmp, arith, leb-true, and_parts, and_right, cond_both, and-false, or-false, AllByRecursion, IsTrue, IsAllowed, notes_of_layer, Answer, still, IsOfDetector, TrustsAll, IsDetectorStep, is_process, others, Place, Processes, gone, changes, is_other, Action, StepInput}
+use Rattle.process_api.proofs.{Changes.{length-changes}, LayerNotes.{notes_of_layer-append, no_letters, changes_kept, changes-none}, Lists.{both, images, always}, Contains.{contains-insert_all}, Sending.{sent_to_others, length-to_others}}
 use Rattle.std.specs.FinSet as set
 use Rattle.process_api.specs.Freshness.{FreshnessState, opening_freshness, next, watches, is_stale, suspected, noted, heartbeat_to_others, next_beat, next_check, checked, heard, step_freshness}
+use Rattle.process_api.specs.declared.{message.Tag.{Tag}, numbers.FreshnessNumbers.{FreshnessNumbers}}
 use Rattle.process_api.specs.declared.action.Action.TheVariants as action
 use Rattle.process_api.specs.declared.action.Note.TheVariants as note
 use Rattle.process_api.specs.declared.message.Payload.TheVariants as payload
 use Rattle.process_api.specs.declared.message.StepInput.TheVariants as input
-use Rattle.process_api.specs.declared.message.Tag.{Tag}
 use Rattle.process_api.specs.declared.message.Tag.TheVariants as tag
-use Rattle.process_api.specs.declared.numbers.FreshnessNumbers.{FreshnessNumbers}
-use Rattle.process_api.proofs.Changes.{length-changes}
-use Rattle.process_api.proofs.LayerNotes.{notes_of_layer-append, no_letters, changes_kept, changes-none}
-use Rattle.process_api.proofs.Lists.{both, images, always}
-use Rattle.process_api.proofs.Contains.{contains-insert_all}
-use Rattle.process_api.proofs.Sending.{sent_to_others, length-to_others}
 
 module _ (place : Place) (numbers : FreshnessNumbers) where
   -- q is suspected just where it is one of 1 to n and stale

@@ -1,12 +1,10 @@
 -- What a step keeps of a mind: where it stands, its pauses, and that the process suspects itself on no layer.
 use Rattle.process_api.proofs.Basics.{◌≡◌, ◌⊎◌, inl, inr, ℕ, ◌≤◌, refl, sym, ap, ◌∙◌, true, false, not, ◌&&◌, nat_le, Option, None, Some, true≢false, IsTrue, eq-eqb, not-true, both_ways, false_from_ne_true, Lower, AlgorithmState, Idle, Exchanging, Coordinating, Mind, is_mind_at, is_paced, trusts_itself, stands_at, suspects_of, Place, same_place, react_lower, react_algorithm, react, is_other, ReductionState, step_reduction, Processes, up_to, DetectorState, suspected_by, step_detector, StepInput}
+use Rattle.process_api.proofs.{DetectorLaws.{detector_laws}, Contains.{contains-remove_is}, Minds.{both_true, and_true, mind_place, mind_paced, mind_trusts, mind_stands}}
 use Rattle.std.specs.FinSet as set
 use Rattle.process_api.specs.declared.message.Payload.TheVariants as payload
 use Rattle.process_api.specs.declared.message.StepInput.TheVariants as input
 use Rattle.process_api.specs.declared.message.Tag.TheVariants as tag
-use Rattle.process_api.proofs.DetectorLaws.{detector_laws}
-use Rattle.process_api.proofs.Contains.{contains-remove_is}
-use Rattle.process_api.proofs.Minds.{both_true, and_true, mind_place, mind_paced, mind_trusts, mind_stands}
 
 pub without_itself : (s : Processes) (p : ℕ) → set.contains (set.remove s p) p ≡ false
 without_itself s p = contains-remove_is s p p ∙ ap (λ b. not b && set.contains s p) (eq-eqb p p refl)

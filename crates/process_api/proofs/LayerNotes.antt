@@ -1,10 +1,10 @@
 -- Which notes of a layer some actions leave.
 use Rattle.process_api.proofs.Basics.{◌≡◌, ℕ, refl, sym, ap, ◌∙◌, cond, nat_eq, List, [], ◌∷◌, ◌++◌, map, append_assoc, eq-eqb, cond-true, and-not_self, map-append, AllByRecursion, of_layer, notes_of_layer, IsOfDetector, Processes, changes, gone, Action, Payload}
+use Rattle.process_api.proofs.Numbering.{filter-none}
 use Rattle.std.specs.FinSet as set
 use Rattle.process_api.specs.declared.action.Action.TheVariants as action
 use Rattle.process_api.specs.declared.action.Note.{Note}
 use Rattle.process_api.specs.declared.action.Note.TheVariants as note
-use Rattle.process_api.proofs.Numbering.{filter-none}
 
 pub notes_of_layer-append : (layer : ℕ) (xs ys : List Action) → notes_of_layer layer (xs ++ ys) ≡ notes_of_layer layer xs ++ notes_of_layer layer ys
 notes_of_layer-append layer [] ys = refl

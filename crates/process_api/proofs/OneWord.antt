@@ -1,10 +1,8 @@
 -- The words of a set that one word says, and of one that it doesn't.
 use Rattle.std.proofs.Common.{◌≡◌, ℕ, zero, suc, ◌+◌, ◌-◌, ◌*◌, ◌/◌, ◌%◌, ◌^◌, ◌<◌, ◌≤◌, inl, inr, ap, ◌∙◌, Bool, ◌&&◌, nat_eq, nat_lt, List, filter, get_or, bit_or, arith, nat_cmp, w64}
-use Rattle.process_api.proofs.Basics.{bit_at, trailing_zeros, eq-zero-or-pos, cases_lt, nat_tests, le_or_l, le_or_r, bit_at-trailing_zeros, most_processes, numbers_to, HasAbove, insert_all, of_word, is_set, members}
+use Rattle.process_api.proofs.{Basics.{bit_at, trailing_zeros, eq-zero-or-pos, cases_lt, nat_tests, le_or_l, le_or_r, bit_at-trailing_zeros, most_processes, numbers_to, HasAbove, insert_all, of_word, is_set, members}, BitWords.{none_set}}
+use Rattle.process_api.proofs.{Contains.{contains-insert_all, same_members}, Told.{contains-members, told_in_range}}
 use Rattle.std.specs.FinSet as set
-use Rattle.process_api.proofs.BitWords.{none_set}
-use Rattle.process_api.proofs.Contains.{contains-insert_all, same_members}
-use Rattle.process_api.proofs.Told.{contains-members, told_in_range}
 
 -- where a test tells no one above m
 told_to : (m n : ℕ) (told own : ℕ → Bool) → m ≤ n → ((i : ℕ) → i < n → told i ≡ (nat_lt i m && own i))

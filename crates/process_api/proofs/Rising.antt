@@ -1,11 +1,9 @@
 -- The members of a set in rising order, one after the other.
 use Rattle.process_api.proofs.Basics.{◌≡◌, ◌≢◌, ℕ, zero, suc, ◌+◌, ◌-◌, ◌<◌, ◌≤◌, refl, sym, ap, ◌∙◌, subst, Bool, true, false, cond, not, ◌&&◌, nat_le, List, [], ◌∷◌, ◌++◌, arith, ⊎_elim, append-nil, nat_cmp, length, Option, Some, cases_eq, filter, nat_cmp_total, nat_tests, members, most_processes, in_order, numbers_to, Processes, up_to, gone}
+use Rattle.process_api.proofs.{Contains.{contains-remove_is, contains-up_to}, Numbering.{filter-suc, filter-none, filter-same}, Told.{told_in_range, members-none, members-remove}}
 use Rattle.std.specs.FinSet as set
 use Rattle.std.specs.Iterator.{YieldsFirst, MakesProgress, item_count}
 use borrow.Author.Tests.{eq-eqb, ne_eqb}
-use Rattle.process_api.proofs.Contains.{contains-remove_is, contains-up_to}
-use Rattle.process_api.proofs.Numbering.{filter-suc, filter-none, filter-same}
-use Rattle.process_api.proofs.Told.{told_in_range, members-none, members-remove}
 
 -- the first that passes, and then those that pass besides it
 module _ (p others : ℕ → Bool) (q : ℕ) (some : 1 ≤ q) (passes : p q ≡ true) (none : (x : ℕ) → 1 ≤ x → x < q → p x ≡ false) (without : others q ≡ false) (alike : (x : ℕ) → x ≢ q → others x ≡ p x) where

@@ -1,11 +1,10 @@
 -- One more in a row of cells.
 use Rattle.process_api.proofs.Basics.{◌≡◌, ◌⊎◌, ℕ, zero, suc, ◌+◌, ◌-◌, ◌<◌, ◌≤◌, inl, inr, refl, sym, ap, ◌∙◌, subst, Bool, true, false, cond, ◌&&◌, ◌||◌, nat_eq, nat_le, nat_lt, Option, None, Some, is_some, unwrap_or, Ordering, Less, Equal, Greater, is_eq, nat_cmp, true≢false, BTreeMap, List, [], ◌∷◌, ◌++◌, length, get_or, arith, nat_cmp-IsAntisymmetric, get_or-set_same, get_or-set_other, cases_eq, eq-eqb, ne_eqb, eqb-true, nat_tests, members, all_to, keep, by_number, by_row, in_row, of_sender, count_to, keep_one, cell_of, AreSenders, Processes, up_to, Row}
+use Rattle.process_api.proofs.{Contains.{contains-up_to, same_members}, Told.{contains-members, len-more}}
 use Rattle.std.specs.FinSet as set
 use Rattle.std.specs.BTreeMap as tree
 use Rattle.std.proofs.Math.ListN as list
 use Rattle.std.proofs.lemmas.Cmp.{tied_itself, nat_cmp_total}
-use Rattle.process_api.proofs.Contains.{contains-up_to, same_members}
-use Rattle.process_api.proofs.Told.{contains-members, len-more}
 
 pub same_number : (a b : ℕ) → is_eq (nat_cmp a b) ≡ nat_eq b a
 same_number a b = go (cases_eq b a)

@@ -1,6 +1,5 @@
 -- Letters to all, and to all others.
-use Rattle.process_api.proofs.Basics.{◌≡◌, ℕ, ◌≤◌, ◌∙◌, not, nat_eq, length, arith, length-map, AllByRecursion, to_all, to_others, numbers_to, others, Action, Send, Payload}
-use Rattle.process_api.proofs.Lists.{images, weaker, filtered, numbers_are}
+use Rattle.process_api.proofs.{Basics.{◌≡◌, ℕ, ◌≤◌, ◌∙◌, not, nat_eq, length, arith, length-map, AllByRecursion, to_all, to_others, numbers_to, others, Action, Send, Payload}, Lists.{images, weaker, filtered, numbers_are}}
 use Rattle.process_api.proofs.Numbering.{length-numbers_to, length-filter_to}
 
 -- what holds of a letter to each of 1 to n

@@ -1,19 +1,14 @@
 -- The time-out detector has the laws of a base detector.
 use Rattle.process_api.proofs.Basics.{◌≡◌, ◌⊎◌, inl, inr, ℕ, ◌+◌, ◌-◌, ◌≤◌, refl, sym, ap, ◌∙◌, List, [], ◌∷◌, ◌++◌, map, length, length-append, true, false, not, ◌&&◌, nat_eq, nat_le, nat_cmp, arith, leb-true, and_parts, or_cases, cond_both, and-false, length-map, AllByRecursion, IsTrue, IsAllowed, notes_of_layer, Answer, still, IsOfDetector, TrustsAll, IsDetectorStep, is_process, others, Place, changes, is_other, Action, StepInput}
+use Rattle.process_api.proofs.{Changes.{changes-joined, changes-left}, LayerNotes.{notes_of_layer-append, no_letters, changes-none}, Lists.{both, images, always}, Contains.{contains-insert_all, contains-remove_is}}
+use Rattle.process_api.proofs.{Numbering.{length-filter_to}, Sending.{sent_to_others, length-to_others}}
 use Rattle.std.specs.FinSet as set
-use Rattle.process_api.specs.Timeout.{TimeoutState, opening_timeout, alive_to_others, next_beat, next_check, watches, is_overdue, overdue, noticed, trusted_again, heard, step_timeout}
+use Rattle.process_api.specs.{Timeout.{TimeoutState, opening_timeout, alive_to_others, next_beat, next_check, watches, is_overdue, overdue, noticed, trusted_again, heard, step_timeout}, declared.numbers.TimeoutNumbers.{TimeoutNumbers}}
 use Rattle.process_api.specs.declared.action.Action.TheVariants as action
 use Rattle.process_api.specs.declared.action.Note.TheVariants as note
 use Rattle.process_api.specs.declared.message.Payload.TheVariants as payload
 use Rattle.process_api.specs.declared.message.StepInput.TheVariants as input
 use Rattle.process_api.specs.declared.message.Tag.TheVariants as tag
-use Rattle.process_api.specs.declared.numbers.TimeoutNumbers.{TimeoutNumbers}
-use Rattle.process_api.proofs.Changes.{changes-joined, changes-left}
-use Rattle.process_api.proofs.LayerNotes.{notes_of_layer-append, no_letters, changes-none}
-use Rattle.process_api.proofs.Lists.{both, images, always}
-use Rattle.process_api.proofs.Contains.{contains-insert_all, contains-remove_is}
-use Rattle.process_api.proofs.Numbering.{length-filter_to}
-use Rattle.process_api.proofs.Sending.{sent_to_others, length-to_others}
 
 noted_suspicions : (qs : List ℕ) → notes_of_layer 1 (map (λ q. action.Note (note.Suspect 1 q)) qs) ≡ map (note.Suspect 1) qs
 noted_suspicions [] = refl

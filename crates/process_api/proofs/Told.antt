@@ -1,7 +1,7 @@
 -- The set of those that a test tells: process q is told at place q - 1.
 use Rattle.process_api.proofs.Basics.{◌≡◌, ◌≢◌, ℕ, zero, suc, ◌+◌, ◌-◌, ◌<◌, ◌≤◌, ap, ◌∙◌, Bool, true, false, cond, not, ◌&&◌, ◌||◌, nat_lt, nat_le, arith, nat_cmp, nat_cmp_total, nat_tests, Processes, up_to, members}
-use Rattle.std.specs.FinSet as set
 use Rattle.process_api.proofs.Contains.{contains-insert_is, contains-remove_is, contains-up_to, same_members}
+use Rattle.std.specs.FinSet as set
 
 -- q is among 1 to n, and told
 abbrev pub has : ℕ → (ℕ → Bool) → ℕ → Bool

@@ -20,10 +20,6 @@ pub refuted : (b : Bool) → true ≡ not b → b ≡ false
 refuted true e = absurd (true≢false e)
 refuted false e = refl
 
-pub granted : (b : Bool) → false ≡ not b → b ≡ true
-granted true e = refl
-granted false e = absurd (true≢false (sym e))
-
 last_of : (j n : ℕ) → j < n + 1 → (j ≡ n) ⊎ (j < n)
 last_of j n h = grind arith
 

@@ -1,6 +1,5 @@
 -- Waits that end one after the other, each as soon as it can, of whichever algorithm.
-use Rattle.process_api.proofs.Basics.{◌≡◌, ℕ, zero, suc, ◌<◌, ◌≤◌, refl, sym, ap, ◌∙◌, subst, arith, Option, None, Some, IfSome, AllByRecursion, Answer, still, after, Action}
-use Rattle.process_api.proofs.Lists.{both}
+use Rattle.process_api.proofs.{Basics.{◌≡◌, ℕ, zero, suc, ◌<◌, ◌≤◌, refl, sym, ap, ◌∙◌, subst, arith, Option, None, Some, IfSome, AllByRecursion, Answer, still, after, Action}, Lists.{both}}
 
 module _ {S : Type 0} (end_wait : S → Option (Answer S)) (end_waits : ℕ → S → Answer S) where
   -- nothing, or the end of a wait and what comes after it

@@ -1,11 +1,7 @@
 -- What an input makes of a part of a process, and what the part does.
 use Rattle.std.specs.Prelude.{ℕ, List, [], ◌++◌, map, Bool, true, false, Option, None, Some, ◌≤◌, nat_eq, ◌∷◌, if◌then◌else◌}
-use Rattle.process_api.specs.Place.{numbers_to, others}
-use Rattle.process_api.specs.Order.{EntryRecord}
-use Rattle.process_api.specs.declared.action.Action.{Action}
+use Rattle.process_api.specs.{Place.{numbers_to, others}, Order.{EntryRecord}, declared.{action.{Action.{Action}, Note.{Note}}, message.Payload.{Payload}}}
 use Rattle.process_api.specs.declared.action.Action.TheVariants as action
-use Rattle.process_api.specs.declared.message.Payload.{Payload}
-use Rattle.process_api.specs.declared.action.Note.{Note}
 use Rattle.process_api.specs.declared.action.Note.TheVariants as note
 
 -- the state after an input, and the actions

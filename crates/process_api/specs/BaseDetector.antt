@@ -1,17 +1,9 @@
 -- The laws of a base detector of whichever kind: what stands above it rests on these, not on the definition of a kind.
-use Rattle.std.specs.Prelude.{◌≡◌, ◌⊎◌, ℕ, ◌+◌, ◌≤◌, Bool, true, false, IsTrue, List, length}
-use Rattle.std.specs.List.{AllByRecursion}
+use Rattle.std.specs.{Prelude.{◌≡◌, ◌⊎◌, ℕ, ◌+◌, ◌≤◌, Bool, true, false, IsTrue, List, length}, List.{AllByRecursion}}
 use Rattle.std.specs.FinSet as set
-use Rattle.process_api.specs.Answer.{IsAllowed, notes_of_layer}
-use Rattle.process_api.specs.Place.{Place, is_other}
-use Rattle.process_api.specs.Sets.{Processes, changes}
-use Rattle.process_api.specs.Detector.{DetectorState, opening_detector, suspected_by, has_pauses, step_detector}
-use Rattle.process_api.specs.declared.action.Action.{Action}
-use Rattle.process_api.specs.declared.action.Action.TheVariants.{Send, Wake, Note}
-use Rattle.process_api.specs.declared.action.Note.TheVariants.{Suspect, Trust, Round, Decided, NoValue}
-use Rattle.process_api.specs.declared.message.Payload.TheVariants.{Alive, Heartbeat, Suspects, Vector, Last, Estimate, Proposal, Reply, Decide}
-use Rattle.process_api.specs.declared.message.StepInput.{StepInput}
-use Rattle.process_api.specs.declared.numbers.DetectorNumbers.{DetectorNumbers}
+use Rattle.process_api.specs.{Answer.{IsAllowed, notes_of_layer}, Place.{Place, is_other}, Sets.{Processes, changes}, Detector.{DetectorState, opening_detector, suspected_by, has_pauses, step_detector}}
+use Rattle.process_api.specs.declared.action.{Action.{Action, TheVariants.{Send, Wake, Note}}, Note.TheVariants.{Suspect, Trust, Round, Decided, NoValue}}
+use Rattle.process_api.specs.declared.{message.{Payload.TheVariants.{Alive, Heartbeat, Suspects, Vector, Last, Estimate, Proposal, Reply, Decide}, StepInput.{StepInput}}, numbers.DetectorNumbers.{DetectorNumbers}}
 
 -- a base detector sends no letter of another part, and notes suspicion and trust on layer 1 alone
 abbrev pub IsOfDetector : Action → Type 0

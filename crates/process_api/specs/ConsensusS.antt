@@ -1,14 +1,10 @@
 -- Consensus with a detector of class S, by an exchange of vectors (Chandra and Toueg, Journal of the ACM 43(2), 1996):
 -- what one input makes of it, and what it does.
 use Rattle.std.specs.Prelude.{ℕ, zero, suc, ◌+◌, ◌-◌, Bool, true, false, not, ◌&&◌, ◌||◌, nat_eq, nat_le, nat_lt, if◌then◌else◌, [], ◌∷◌, map, length, Option, None, Some, is_some, unwrap_or}
-use Rattle.process_api.specs.Place.{numbers_to}
-use Rattle.process_api.specs.Rows.{Vector, cell}
-use Rattle.process_api.specs.Answer.{Answer, still, after, to_all}
+use Rattle.process_api.specs.{Place.{numbers_to}, Rows.{Vector, cell}, Answer.{Answer, still, after, to_all}, declared.message.{Payload.{Payload}, StepInput.{StepInput}}}
 use Rattle.process_api.specs.declared.action.Action.TheVariants as action
 use Rattle.process_api.specs.declared.action.Note.TheVariants as note
-use Rattle.process_api.specs.declared.message.Payload.{Payload}
 use Rattle.process_api.specs.declared.message.Payload.TheVariants as payload
-use Rattle.process_api.specs.declared.message.StepInput.{StepInput}
 use Rattle.process_api.specs.declared.message.StepInput.TheVariants as input
 
 -- whether all of 1 to n are meant, and whether any is
@@ -61,16 +57,14 @@ above round kept = λ r q. if nat_le r round then None else kept r q
 module _ (n own : ℕ) where
   -- the opening state of a process with a proposal
   abbrev pub opening_exchange : ℕ → Exchange
-  opening_exchange proposal =
-      let cells = cells_of n (λ k. if nat_eq k own then Some proposal else None) in
+  opening_exchange proposal = let cells = cells_of n (λ k. if nat_eq k own then Some proposal else None) in
       record { round = 0; known = cells; news = cells; kept = λ r q. None }
 
   -- a round begins: what is new goes to all, and in round n all that is known
   abbrev pub enter : ℕ → Exchange → Answer Exchange
   enter round s = record {
     state = record s { round = round };
-    actions =
-        action.Note (note.Round round)
+    actions = action.Note (note.Round round)
         ∷ to_all n (if nat_lt round n then payload.Vector round s.news else payload.Last s.known);
   }
 
@@ -97,8 +91,7 @@ module _ (n own : ℕ) where
 
   -- cell k is empty in some letter of the round
   abbrev pub is_missed : Exchange → ℕ → Bool
-  is_missed s k =
-      any_to n (λ q. elim (s.kept s.round q) [ None ↦ false | Some cells ↦ not (is_some (cell cells k)) ])
+  is_missed s k = any_to n (λ q. elim (s.kept s.round q) [ None ↦ false | Some cells ↦ not (is_some (cell cells k)) ])
 
   -- what all that were heard of know
   abbrev pub common : Exchange → Vector
@@ -108,17 +101,15 @@ module _ (n own : ℕ) where
   abbrev pub decide : Exchange → Answer Exchange
   decide s = record {
     state = record s { round = n + 1; known = common s; kept = above s.round s.kept };
-    actions =
-        action.Note (elim (first_to n (cell (common s))) [
-          | None ↦ note.NoValue
-          | Some value ↦ note.Decided value
-        ]) ∷ [];
+    actions = action.Note (elim (first_to n (cell (common s))) [
+      | None ↦ note.NoValue
+      | Some value ↦ note.Decided value
+    ]) ∷ [];
   }
 
   -- the end of the wait, where it is over
   abbrev pub end_wait : (ℕ → Bool) → Exchange → Option (Answer Exchange)
-  end_wait is_suspected s =
-      if is_running s && is_over is_suspected s
+  end_wait is_suspected s = if is_running s && is_over is_suspected s
       then Some (if nat_lt s.round n then enter (s.round + 1) (gather s) else decide s)
       else None
 
@@ -140,8 +131,7 @@ module _ (n own : ℕ) where
 
   -- a letter of one of the n processes, of n cells, of the own round or, by another, of a later one
   abbrev pub is_timely : Exchange → ℕ → ℕ → Vector → Bool
-  is_timely s sender round cells =
-      is_running s && (nat_le sender n && (nat_eq (length cells) n
+  is_timely s sender round cells = is_running s && (nat_le sender n && (nat_eq (length cells) n
       && (nat_le s.round round && not (nat_eq sender own && nat_lt s.round round))))
 
   abbrev pub receive_cells : ℕ → ℕ → Vector → Exchange → Exchange

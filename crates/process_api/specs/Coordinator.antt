@@ -2,18 +2,12 @@
 -- 43(2), 1996): what one input makes of it, and what it does. Decisions spread by diffusion, their reliable broadcast:
 -- who receives one for the first time passes it on.
 use Rattle.std.specs.Prelude.{ℕ, zero, suc, ◌+◌, ◌-◌, ◌*◌, Bool, true, false, not, ◌&&◌, nat_eq, nat_le, nat_lt, if◌then◌else◌, [], ◌∷◌, ◌++◌, Option, None, Some, is_some, unwrap_or, List, ◌/◌, ◌%◌}
-use Rattle.process_api.specs.Answer.{Answer, still, after, to_all}
-use Rattle.process_api.specs.Rows.{keep_one}
+use Rattle.process_api.specs.{Answer.{Answer, still, after, to_all}, Rows.{keep_one}}
+use Rattle.process_api.specs.declared.{consensus.{Estimate.{Estimate}, Phase.{Phase, TheVariants.{Opening, Collect, Await, Tally, Decided, Ended}}}, message.{Payload.{Payload}, StepInput.{StepInput}}, action.Action.{Action}}
 use Rattle.process_api.specs.declared.action.Action.TheVariants as action
 use Rattle.process_api.specs.declared.action.Note.TheVariants as note
-use Rattle.process_api.specs.declared.consensus.Estimate.{Estimate}
-use Rattle.process_api.specs.declared.consensus.Phase.{Phase}
-use Rattle.process_api.specs.declared.consensus.Phase.TheVariants.{Opening, Collect, Await, Tally, Decided, Ended}
-use Rattle.process_api.specs.declared.message.Payload.{Payload}
 use Rattle.process_api.specs.declared.message.Payload.TheVariants as payload
-use Rattle.process_api.specs.declared.message.StepInput.{StepInput}
 use Rattle.process_api.specs.declared.message.StepInput.TheVariants as input
-use Rattle.process_api.specs.declared.action.Action.{Action}
 
 abbrev pub greatest_round : ℕ
 greatest_round = 1_000_000_000_000
@@ -125,8 +119,7 @@ module _ (n own : ℕ) where
       phase = if is_own n own round then Collect else Await;
       kept = from_round round s.kept;
     };
-    actions =
-        action.Note (note.Round round)
+    actions = action.Note (note.Round round)
         ∷ action.Send (coordinator n round) (payload.Estimate round s.estimate.value s.estimate.stamp) ∷ [];
   }
 
@@ -142,31 +135,27 @@ module _ (n own : ℕ) where
   }
 
   abbrev pub collect : Coordinator → Option (Answer Coordinator)
-  collect s =
-      if nat_le (majority n) (count_to n (λ q. is_some (s.kept.estimates s.round q)))
+  collect s = if nat_le (majority n) (count_to n (λ q. is_some (s.kept.estimates s.round q)))
       then elim (best_to n (s.kept.estimates s.round)) [ None ↦ None | Some best ↦ Some (propose s best) ]
       else None
 
   -- the proposal is answered: the coordinator counts the replies, others leave the round
   abbrev pub reply : Bool → Coordinator → Answer Coordinator
-  reply ack s =
-      after (action.Send (coordinator n s.round) (payload.Reply s.round ack) ∷ [])
+  reply ack s = after (action.Send (coordinator n s.round) (payload.Reply s.round ack) ∷ [])
       (if is_own n own s.round then still (record s { phase = Tally }) else leave s)
 
   abbrev pub adopt : Coordinator → ℕ → Coordinator
   adopt s value = record s { estimate = record { value = value; stamp = s.round } }
 
   abbrev pub await : (ℕ → Bool) → Coordinator → Option (Answer Coordinator)
-  await is_suspected s =
-      elim (s.kept.proposals s.round) [
-        | Some value ↦ Some (reply true (adopt s value))
-        | None ↦ if is_suspected (coordinator n s.round) then Some (reply false s) else None
-      ]
+  await is_suspected s = elim (s.kept.proposals s.round) [
+    | Some value ↦ Some (reply true (adopt s value))
+    | None ↦ if is_suspected (coordinator n s.round) then Some (reply false s) else None
+  ]
 
   -- a majority of replies came: where a majority of acks is among them, the decision is spread
   abbrev pub tally : Coordinator → Option (Answer Coordinator)
-  tally s =
-      if nat_le (majority n) (count_to n (λ q. is_some (s.kept.replies s.round q)))
+  tally s = if nat_le (majority n) (count_to n (λ q. is_some (s.kept.replies s.round q)))
       then Some
       (after
       (if nat_le (majority n) (count_to n (λ q. unwrap_or (s.kept.replies s.round q) false))
@@ -188,8 +177,7 @@ module _ (n own : ℕ) where
 
   -- how many waits can end from here on: three in each round
   abbrev pub waits_left : Coordinator → ℕ
-  waits_left s =
-      (greatest_round - s.round) * 3
+  waits_left s = (greatest_round - s.round) * 3
       + elim s.phase [ Opening ↦ 0 | Collect ↦ 3 | Await ↦ 2 | Tally ↦ 1 | Decided ↦ 0 | Ended ↦ 0 ]
 
   -- at most so many waits end, each as soon as the one before has
@@ -206,8 +194,7 @@ module _ (n own : ℕ) where
 
   -- a letter of a round that the algorithm has, of the own round or, by another, of a later one
   abbrev pub is_timely : Coordinator → ℕ → ℕ → Bool
-  is_timely s sender round =
-      is_running s.phase && (nat_le s.round round && (nat_le round greatest_round
+  is_timely s sender round = is_running s.phase && (nat_le s.round round && (nat_le round greatest_round
       && not (nat_eq sender own && nat_lt s.round round)))
 
   -- the own proposal does not count while estimates are still collected
@@ -223,13 +210,11 @@ module _ (n own : ℕ) where
 
   -- the decision of a round is received
   abbrev pub deliver : ℕ → ℕ → Coordinator → Answer Coordinator
-  deliver round value s =
-      if s.seen round
+  deliver round value s = if s.seen round
       then still s
       else record {
         state = record s { seen = also_seen s.seen round; phase = Decided };
-        actions =
-            relay n own round value ++ (if is_decided s.phase then [] else action.Note (note.Decided value) ∷ []);
+        actions = relay n own round value ++ (if is_decided s.phase then [] else action.Note (note.Decided value) ∷ []);
       }
 
   -- a letter of one of the n processes
@@ -239,8 +224,7 @@ module _ (n own : ℕ) where
   receive sender (payload.Suspects shared) s = still s
   receive sender (payload.Vector round cells) s = still s
   receive sender (payload.Last cells) s = still s
-  receive sender (payload.Estimate round value stamp) s =
-      still (if is_timely s sender round && is_own n own round
+  receive sender (payload.Estimate round value stamp) s = still (if is_timely s sender round && is_own n own round
       then record s {
         kept = record s.kept {
           estimates = keep s.kept.estimates round sender (record { value = value; stamp = stamp });
@@ -251,8 +235,7 @@ module _ (n own : ℕ) where
       still (if is_timely s sender round && (nat_eq sender (coordinator n round) && not (is_early s sender))
       then record s { kept = record s.kept { proposals = keep_one s.kept.proposals round value } }
       else s)
-  receive sender (payload.Reply round ack) s =
-      still (if is_timely s sender round && is_own n own round
+  receive sender (payload.Reply round ack) s = still (if is_timely s sender round && is_own n own round
       then record s { kept = record s.kept { replies = keep s.kept.replies round sender ack } }
       else s)
   receive sender (payload.Decide round value) s =

@@ -1,15 +1,8 @@
 -- A base detector, of a kind that is defined elsewhere: how it opens, whom it suspects, what one input makes of it.
 use Rattle.std.specs.Prelude.{ℕ, Bool, true, false, ◌&&◌, nat_le}
-use Rattle.process_api.specs.Sets.{Processes}
-use Rattle.process_api.specs.Place.{Place}
-use Rattle.process_api.specs.Answer.{Answer}
-use Rattle.process_api.specs.Timeout.{TimeoutState, opening_timeout, step_timeout}
-use Rattle.process_api.specs.Freshness.{FreshnessState, opening_freshness, suspected, step_freshness}
-use Rattle.process_api.specs.declared.message.StepInput.{StepInput}
-use Rattle.process_api.specs.declared.numbers.DetectorNumbers.{DetectorNumbers}
+use Rattle.process_api.specs.{Sets.{Processes}, Place.{Place}, Answer.{Answer}, Timeout.{TimeoutState, opening_timeout, step_timeout}, Freshness.{FreshnessState, opening_freshness, suspected, step_freshness}}
+use Rattle.process_api.specs.declared.{message.StepInput.{StepInput}, numbers.{DetectorNumbers.{DetectorNumbers}, FreshnessNumbers.{FreshnessNumbers}, TimeoutNumbers.{TimeoutNumbers}}}
 use Rattle.process_api.specs.declared.numbers.DetectorNumbers.TheVariants as numbers
-use Rattle.process_api.specs.declared.numbers.FreshnessNumbers.{FreshnessNumbers}
-use Rattle.process_api.specs.declared.numbers.TimeoutNumbers.{TimeoutNumbers}
 
 -- its numbers, and its state
 pub data DetectorState : Type 0 where
@@ -42,9 +35,7 @@ has_pauses (ByTimeout its s) = nat_le 1 its.period && nat_le 1 its.check
 has_pauses (ByFreshness its s) = nat_le 1 its.eta
 
 unfoldable pub step_detector : Place → DetectorState → ℕ → StepInput → Answer DetectorState
-step_detector place (ByTimeout its s) now input =
-    let next = step_timeout place its s now input in
+step_detector place (ByTimeout its s) now input = let next = step_timeout place its s now input in
     record { state = ByTimeout its next.state; actions = next.actions }
-step_detector place (ByFreshness its s) now input =
-    let next = step_freshness place its s input in
+step_detector place (ByFreshness its s) now input = let next = step_freshness place its s input in
     record { state = ByFreshness its next.state; actions = next.actions }

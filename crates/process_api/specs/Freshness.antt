@@ -4,16 +4,12 @@
 -- asks for the tick, since both come by wakes.
 use Rattle.std.specs.Prelude.{ℕ, ◌+◌, min, Bool, false, not, ◌&&◌, ◌||◌, nat_le, if◌then◌else◌, List, [], ◌∷◌, ◌++◌, map, filter}
 use Rattle.std.specs.FinSet as set
-use Rattle.process_api.specs.Place.{numbers_to, change, Place, is_watched}
-use Rattle.process_api.specs.Sets.{Processes, insert_all, changes}
-use Rattle.process_api.specs.Answer.{Answer, still, to_others}
-use Rattle.process_api.specs.declared.action.Action.{Action}
+use Rattle.process_api.specs.{Place.{numbers_to, change, Place, is_watched}, Sets.{Processes, insert_all, changes}, Answer.{Answer, still, to_others}}
+use Rattle.process_api.specs.declared.{action.Action.{Action}, message.StepInput.{StepInput}, numbers.FreshnessNumbers.{FreshnessNumbers}}
 use Rattle.process_api.specs.declared.action.Action.TheVariants as action
 use Rattle.process_api.specs.declared.message.Payload.TheVariants as payload
-use Rattle.process_api.specs.declared.message.StepInput.{StepInput}
 use Rattle.process_api.specs.declared.message.StepInput.TheVariants as input
 use Rattle.process_api.specs.declared.message.Tag.TheVariants as tag
-use Rattle.process_api.specs.declared.numbers.FreshnessNumbers.{FreshnessNumbers}
 
 pub record FreshnessState : Type 0 where
   -- the last heartbeat that was sent, and the last point that was reached; 0 before the first
@@ -71,10 +67,7 @@ module _ (place : Place) (numbers : FreshnessNumbers) where
     state = record s { sent = next s.sent };
     actions = heartbeat_to_others (next s.sent) ++ next_beat;
   }
-  step_freshness s (input.Wake tag.Check) = record {
-    state = checked s;
-    actions = noted s (checked s) ++ next_check;
-  }
+  step_freshness s (input.Wake tag.Check) = record { state = checked s; actions = noted s (checked s) ++ next_check }
   step_freshness s (input.Letter sender (payload.Heartbeat j)) =
       if watches sender then record { state = heard s sender j; actions = noted s (heard s sender j) } else still s
   step_freshness s x = still s

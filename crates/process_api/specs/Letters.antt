@@ -1,11 +1,7 @@
 -- Tables of letters, seen by round and sender.
-use Rattle.std.specs.Prelude.{ℕ, Option, None, Some, nat_lt, if◌then◌else◌}
-use Rattle.std.specs.Ordering.{nat_cmp}
+use Rattle.std.specs.{Prelude.{ℕ, Option, None, Some, nat_lt, if◌then◌else◌}, Ordering.{nat_cmp}, BTreeMap.{BTreeMap}}
 use Rattle.std.specs.BTreeMap as tree
-use Rattle.std.specs.BTreeMap.{BTreeMap}
-use Rattle.process_api.specs.Rows.{cell_of}
-use Rattle.process_api.specs.declared.letters.Letters.{Letters}
-use Rattle.process_api.specs.declared.row.Row.{Row}
+use Rattle.process_api.specs.{Rows.{cell_of}, declared.{letters.Letters.{Letters}, row.Row.{Row}}}
 
 abbrev pub by_number : {X : Type 0} → BTreeMap ℕ X → ℕ → Option X
 by_number m = λ round. tree.get nat_cmp m round

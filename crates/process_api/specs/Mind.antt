@@ -1,11 +1,7 @@
 -- What a process is, as plain data: its parts, and where each stands.
 use Rattle.std.specs.Prelude.{ℕ, Bool, true, not, ◌&&◌, nat_le, Option, None, Some}
 use Rattle.std.specs.FinSet as set
-use Rattle.process_api.specs.Place.{most_first_actions, most_second_actions, Place, same_place}
-use Rattle.process_api.specs.Sets.{Processes}
-use Rattle.process_api.specs.Detector.{DetectorState, suspected_by, has_pauses}
-use Rattle.process_api.specs.Reduction.{ReductionState}
-use Rattle.process_api.specs.ConsensusS.{Exchange}
+use Rattle.process_api.specs.{Place.{most_first_actions, most_second_actions, Place, same_place}, Sets.{Processes}, Detector.{DetectorState, suspected_by, has_pauses}, Reduction.{ReductionState}, ConsensusS.{Exchange}}
 use Rattle.process_api.specs.Coordinator.{Coordinator}
 
 -- the detector's part: the base detector, and the reduction over it where there is one
@@ -59,18 +55,14 @@ leaves_out suspects (Coordinating place s) = not (set.contains suspects place.ow
 
 -- the pauses of the detector's part are at least 1
 abbrev pub is_paced : Lower → Bool
-is_paced m =
-    has_pauses m.detector
-    && elim m.reduction [ None ↦ true | Some reduction ↦ nat_le 1 reduction.period ]
+is_paced m = has_pauses m.detector && elim m.reduction [ None ↦ true | Some reduction ↦ nat_le 1 reduction.period ]
 
 -- the process suspects itself on no layer
 abbrev pub trusts_itself : Lower → Bool
-trusts_itself m =
-    not (set.contains (suspected_by m.place m.detector) m.place.own)
+trusts_itself m = not (set.contains (suspected_by m.place m.detector) m.place.own)
     && elim m.reduction [ None ↦ true | Some reduction ↦ not (set.contains reduction.output m.place.own) ]
 
 -- a mind of the process that stands in this place
 abbrev pub is_mind_at : Place → Mind → Bool
-is_mind_at place m =
-    (same_place m.lower.place place && is_paced m.lower)
+is_mind_at place m = (same_place m.lower.place place && is_paced m.lower)
     && (trusts_itself m.lower && stands_at place m.algorithm)

@@ -1,12 +1,6 @@
 -- The order of keys, and of the entries of a trace. What a step leaves in the trace.
-use Rattle.std.specs.Prelude.{Bool, true, false, ◌&&◌, List, [], ◌∷◌, ℕ}
-use Rattle.std.specs.List.{list_all}
-use Rattle.std.specs.Ordering.{ordering_then, nat_cmp}
-use Rattle.std.specs.declared.cmp.Ordering.{Ordering}
-use Rattle.std.specs.declared.cmp.Ordering.TheVariants.{Less, Equal, Greater}
-use Rattle.process_api.specs.declared.key.Key.{Key}
-use Rattle.process_api.specs.declared.action.Note.{Note}
-use Rattle.process_api.specs.declared.entry.Kind.{Kind}
+use Rattle.std.specs.{Prelude.{Bool, true, false, ◌&&◌, List, [], ◌∷◌, ℕ}, List.{list_all}, Ordering.{ordering_then, nat_cmp}, declared.cmp.Ordering.{Ordering, TheVariants.{Less, Equal, Greater}}}
+use Rattle.process_api.specs.declared.{key.Key.{Key}, action.Note.{Note}, entry.Kind.{Kind}}
 
 -- an entry, without where it lies in memory
 pub record EntryRecord : Type 0 where
@@ -18,8 +12,7 @@ pub record EntryRecord : Type 0 where
 
 -- by tick, then receiver, then sender, then number
 abbrev pub key_cmp : Key → Key → Ordering
-key_cmp a b =
-    ordering_then (nat_cmp a.tick b.tick)
+key_cmp a b = ordering_then (nat_cmp a.tick b.tick)
     (ordering_then (nat_cmp a.receiver b.receiver)
     (ordering_then (nat_cmp a.sender b.sender) (nat_cmp a.number b.number)))
 

@@ -1,8 +1,6 @@
 -- Where a process stands.
 use Rattle.std.specs.Prelude.{ℕ, Bool, ◌&&◌, nat_eq, zero, suc, not, nat_le, List, [], ◌∷◌, ◌++◌, filter, if◌then◌else◌, ◌+◌, ◌%◌, true}
-use Rattle.process_api.specs.declared.numbers.Watch.{Watch}
-use Rattle.process_api.specs.declared.numbers.Watch.TheVariants.{All, Next}
-use Rattle.process_api.specs.declared.pid.TheConstants.{MOST_PROCESSES}
+use Rattle.process_api.specs.declared.{numbers.Watch.{Watch, TheVariants.{All, Next}}, pid.TheConstants.{MOST_PROCESSES}}
 
 -- its own number, how many processes there are, and the tick at which the run ends
 pub record Place : Type 0 where

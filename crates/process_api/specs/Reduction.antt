@@ -2,13 +2,9 @@
 -- shares whom the detector below it suspects, and gathers what others share.
 use Rattle.std.specs.Prelude.{ℕ, List, [], ◌∷◌, ◌++◌, map}
 use Rattle.std.specs.FinSet as set
-use Rattle.process_api.specs.Sets.{Processes, up_to, changes}
-use Rattle.process_api.specs.Place.{Place}
-use Rattle.process_api.specs.Answer.{Answer, still, to_all}
-use Rattle.process_api.specs.declared.action.Action.{Action}
+use Rattle.process_api.specs.{Sets.{Processes, up_to, changes}, Place.{Place}, Answer.{Answer, still, to_all}, declared.{action.Action.{Action}, message.StepInput.{StepInput}}}
 use Rattle.process_api.specs.declared.action.Action.TheVariants as action
 use Rattle.process_api.specs.declared.message.Payload.TheVariants as payload
-use Rattle.process_api.specs.declared.message.StepInput.{StepInput}
 use Rattle.process_api.specs.declared.message.StepInput.TheVariants as input
 use Rattle.process_api.specs.declared.message.Tag.TheVariants as tag
 

@@ -1,7 +1,6 @@
 -- What is kept by number, and a row of cells, one for each process, seen by process.
-use Rattle.std.specs.Prelude.{◌≡◌, ℕ, zero, suc, nat_eq, List, Option, None, Some, get_or, is_some, unwrap_or, if◌then◌else◌, ◌-◌, ◌<◌, length}
+use Rattle.std.specs.{Prelude.{◌≡◌, ℕ, zero, suc, nat_eq, List, Option, None, Some, get_or, is_some, unwrap_or, if◌then◌else◌, ◌-◌, ◌<◌, length}, List.{slice_get}}
 use Rattle.std.specs.FinSet as set
-use Rattle.std.specs.List.{slice_get}
 use Rattle.process_api.specs.Sets.{Processes}
 
 -- of two of one number the first counts

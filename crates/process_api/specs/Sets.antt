@@ -1,10 +1,7 @@
 -- Sets of processes, and how they change.
-use Rattle.std.specs.Prelude.{◌≡◌, ℕ, ◌-◌, ◌<◌, true, not, ◌&&◌, nat_eq, nat_le, List, [], ◌∷◌, ◌++◌, map, filter}
-use Rattle.std.specs.Int.{bit_at}
-use Rattle.std.specs.Ordering.{nat_cmp}
+use Rattle.std.specs.{Prelude.{◌≡◌, ℕ, ◌-◌, ◌<◌, true, not, ◌&&◌, nat_eq, nat_le, List, [], ◌∷◌, ◌++◌, map, filter}, Int.{bit_at}, Ordering.{nat_cmp}}
 use Rattle.std.specs.FinSet as set
-use Rattle.process_api.specs.Place.{numbers_to, most_processes}
-use Rattle.process_api.specs.declared.action.Note.{Note}
+use Rattle.process_api.specs.{Place.{numbers_to, most_processes}, declared.action.Note.{Note}}
 use Rattle.process_api.specs.declared.action.Note.TheVariants as note
 
 -- a set of processes, by their numbers

@@ -2,17 +2,13 @@
 -- one input makes of it, and what it does.
 use Rattle.std.specs.Prelude.{ℕ, ◌+◌, ◌-◌, min, max, Bool, not, ◌&&◌, nat_le, if◌then◌else◌, List, [], ◌∷◌, ◌++◌, map, filter}
 use Rattle.std.specs.FinSet as set
-use Rattle.process_api.specs.Place.{numbers_to, change, Place, is_watched}
-use Rattle.process_api.specs.Sets.{Processes, insert_all}
-use Rattle.process_api.specs.Answer.{Answer, still, to_others}
-use Rattle.process_api.specs.declared.action.Action.{Action}
+use Rattle.process_api.specs.{Place.{numbers_to, change, Place, is_watched}, Sets.{Processes, insert_all}, Answer.{Answer, still, to_others}}
+use Rattle.process_api.specs.declared.{action.Action.{Action}, message.StepInput.{StepInput}, numbers.TimeoutNumbers.{TimeoutNumbers}}
 use Rattle.process_api.specs.declared.action.Action.TheVariants as action
 use Rattle.process_api.specs.declared.action.Note.TheVariants as note
 use Rattle.process_api.specs.declared.message.Payload.TheVariants as payload
-use Rattle.process_api.specs.declared.message.StepInput.{StepInput}
 use Rattle.process_api.specs.declared.message.StepInput.TheVariants as input
 use Rattle.process_api.specs.declared.message.Tag.TheVariants as tag
-use Rattle.process_api.specs.declared.numbers.TimeoutNumbers.{TimeoutNumbers}
 
 pub record TimeoutState : Type 0 where
   -- the tick at which a process was heard of last

@@ -1,7 +1,6 @@
 //! Actions and notes.
 ghost use Rattle.std.specs.Prelude.{◌≡◌, ◌≤◌, ◌++◌, ◌∷◌, [], OnOk, OnErr};
-ghost use Rattle.process_api.specs.Answer.{to_all, to_others};
-ghost use Rattle.process_api.specs.Place.{most_processes};
+ghost use Rattle.process_api.specs.{Answer.{to_all, to_others}, Place.{most_processes}};
 
 use crate::message::{Payload, Tag};
 use crate::pid::Pid;

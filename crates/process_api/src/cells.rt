@@ -1,11 +1,6 @@
 //! Vectors of proposals.
-ghost use Rattle.std.specs.Prelude.{◌≡◌, ◌==◌, ◌-◌, IfOk, MatchOption, None, Some, false, get_or, length, nat_eq, replicate, true};
-ghost use Rattle.std.specs.List.{slice_get};
-ghost use Rattle.std.specs.Option.{option_eq};
-ghost use Rattle.std.specs.Cmp.Lexicographic.{pointwise};
-ghost use Rattle.std.specs.Cmp.Rules.{comparing};
-ghost use Rattle.std.proofs.Common.{rules};
-ghost use Rattle.process_api.specs.Rows.{EndsFilled, IsSomeKnown, cell};
+ghost use Rattle.std.specs.{Prelude.{◌≡◌, ◌==◌, ◌-◌, IfOk, MatchOption, None, Some, false, get_or, length, nat_eq, replicate, true}, List.{slice_get}, Option.{option_eq}, Cmp.{Lexicographic.{pointwise}, Rules.{comparing}}};
+ghost use Rattle.{std.proofs.Common.{rules}, process_api.specs.Rows.{EndsFilled, IsSomeKnown, cell}};
 
 use crate::pid::Pid;
 use std::alloc::{AllocError, Global};

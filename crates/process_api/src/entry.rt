@@ -62,7 +62,7 @@ impl Model for Entry {
 }
 
 impl PartialEq for Entry {
-    ghost use Rattle.process_api.specs.Same.{is_same_entry, entry_equiv};
+    ghost use Rattle.process_api.specs.{Same.{is_same_entry}, Inside.SameLaws.{entry_equiv}};
 
     ghost eq = { is_same_entry };
 
@@ -78,7 +78,7 @@ impl PartialEq for Entry {
 }
 
 impl Eq for Entry {
-    ghost use Rattle.process_api.specs.Same.{entry_equiv};
+    ghost use Rattle.process_api.specs.Inside.SameLaws.{entry_equiv};
 
     ghost laws = { entry_equiv };
 }

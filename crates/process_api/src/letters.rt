@@ -1,8 +1,6 @@
 //! Tables of letters. A letter is a message from one process to another.
-ghost use Rattle.std.specs.Prelude.{◌≡◌, OnOk, is_some};
-ghost use Rattle.std.specs.Option.{option_copied};
-ghost use Rattle.process_api.specs.Coordinator.{keep as keep_of, count_to};
-ghost use Rattle.process_api.specs.Letters.{by_number, since_round};
+ghost use Rattle.std.specs.{Prelude.{◌≡◌, OnOk, is_some}, Option.{option_copied}};
+ghost use Rattle.process_api.specs.{Coordinator.{keep as keep_of, count_to}, Letters.{by_number, since_round}};
 
 use crate::membership::Membership;
 use crate::pid::Pid;

@@ -1,7 +1,6 @@
 //! The number of a process, and the number of all processes.
 ghost use Rattle.std.specs.Prelude.{◌≡◌, ◌≤◌, ◌<◌, ◌+◌};
-ghost use Rattle.process_api.specs.Place.{most_processes};
-ghost use Rattle.process_api.specs.Coordinator.{coordinator as coordinator_of, is_own, majority as majority_of};
+ghost use Rattle.process_api.specs.{Place.{most_processes}, Coordinator.{coordinator as coordinator_of, is_own, majority as majority_of}};
 
 use crate::pid::Pid;
 

@@ -1,8 +1,6 @@
 //! Notes of how suspects change.
 ghost use Rattle.std.specs.Prelude.{◌≡◌, ◌≤◌, ◌++◌, OnOk, map};
-ghost use Rattle.process_api.specs.Place.{most_processes};
-ghost use Rattle.process_api.specs.Sets.{changes, gone};
-ghost use Rattle.process_api.specs.Inside.Noting.{note_of};
+ghost use Rattle.process_api.specs.{Place.{most_processes}, Sets.{changes, gone}, Inside.Noting.{note_of}};
 ghost use Rattle.process_api.specs.declared.action.Action.TheVariants as Action;
 
 use crate::action::{Action, Note, note_that};

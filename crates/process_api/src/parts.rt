@@ -1,9 +1,7 @@
 //! The traits of a machine's parts.
 ghost use Rattle.std.specs.Prelude.{◌≡◌, ◌≤◌, ◌++◌, Bool, false, IsTrue, OnOk, OnErr, IsErr, length, All};
 ghost use Rattle.std.specs.FinSet as set;
-ghost use Rattle.process_api.specs.Answer.{IsAllowed};
-ghost use Rattle.process_api.specs.Place.{most_algorithm_actions, Place};
-ghost use Rattle.process_api.specs.Mind.{Lower, AlgorithmState, layer_of, most_actions, suspects_of, processes_of, leaves_out, stands_at};
+ghost use Rattle.process_api.specs.{Answer.{IsAllowed}, Place.{most_algorithm_actions, Place}, Mind.{Lower, AlgorithmState, layer_of, most_actions, suspects_of, processes_of, leaves_out, stands_at}};
 ghost use Rattle.process_api.specs.React.{TellsChanges, react_lower, react_algorithm};
 
 use crate::action::Action;

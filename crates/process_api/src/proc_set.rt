@@ -1,10 +1,7 @@
 //! Sets of processes, as bit words.
-ghost use Rattle.std.specs.Prelude.{◌≡◌, nat_eq, IsNone, IfSome};
-ghost use Rattle.std.specs.Iterator.{YieldsFirst, item_count};
+ghost use Rattle.std.specs.{Prelude.{◌≡◌, nat_eq, IsNone, IfSome}, Iterator.{YieldsFirst, item_count}, Cmp.{partial_equiv_from_equiv}};
 ghost use Rattle.std.specs.FinSet as set;
-ghost use Rattle.std.specs.Cmp.{partial_equiv_from_equiv};
-ghost use Rattle.process_api.specs.ConsensusS.{all_to};
-ghost use Rattle.process_api.specs.Sets.{in_order, HasAbove, of_word, up_to};
+ghost use Rattle.process_api.specs.{ConsensusS.{all_to}, Sets.{in_order, HasAbove, of_word, up_to}};
 
 use crate::pid::Pid;
 use crate::words::{WORDS, clear, count, either, first_with_bits, low, put, without};
@@ -20,9 +17,7 @@ pub struct ProcSet {
 impl Model for ProcSet {
     ghost use Rattle.std.specs.Coded.{coded_ℕ};
     ghost use Rattle.std.specs.FinSet as set;
-    ghost use Rattle.process_api.specs.Sets.{Processes};
-    ghost use Rattle.process_api.specs.Inside.Bits.{is_set, members};
-    ghost use Rattle.process_api.specs.Place.{most_processes};
+    ghost use Rattle.process_api.specs.{Sets.{Processes}, Inside.Bits.{is_set, members}, Place.{most_processes}};
 
     ghost Value = { Processes };
 
@@ -148,7 +143,7 @@ impl ProcSet {
 }
 
 impl PartialEq for ProcSet {
-    ghost use Rattle.process_api.specs.Same.{has_same, same_equiv};
+    ghost use Rattle.process_api.specs.{Same.{has_same}, Inside.SameLaws.{same_equiv}};
 
     ghost eq = { has_same };
 
@@ -160,7 +155,7 @@ impl PartialEq for ProcSet {
 }
 
 impl Eq for ProcSet {
-    ghost use Rattle.process_api.specs.Same.{same_equiv};
+    ghost use Rattle.process_api.specs.Inside.SameLaws.{same_equiv};
 
     ghost laws = { same_equiv };
 }
@@ -186,9 +181,7 @@ pub struct Members {
 
 impl Model for Members {
     ghost use Rattle.std.specs.Prelude.{ℕ, List};
-    ghost use Rattle.process_api.specs.Inside.Bits.{is_set, members};
-    ghost use Rattle.process_api.specs.Place.{most_processes};
-    ghost use Rattle.process_api.specs.Sets.{in_order};
+    ghost use Rattle.process_api.specs.{Inside.Bits.{is_set, members}, Place.{most_processes}, Sets.{in_order}};
 
     ghost Value = { List ℕ };
 

@@ -1,9 +1,6 @@
 //! The trait of machines.
 ghost use Rattle.std.specs.Prelude.{◌≡◌, ◌≤◌, ◌++◌, Bool, true, IsTrue, OnOk, OnErr, IsErr, length, All};
-ghost use Rattle.process_api.specs.Answer.{IsAllowed};
-ghost use Rattle.process_api.specs.Place.{most_step_actions};
-ghost use Rattle.process_api.specs.Mind.{Mind};
-ghost use Rattle.process_api.specs.React.{react};
+ghost use Rattle.process_api.specs.{Answer.{IsAllowed}, Place.{most_step_actions}, Mind.{Mind}, React.{react}};
 
 use crate::action::Action;
 use crate::message::StepInput;

@@ -1,9 +1,7 @@
 //! One round's letters of one kind.
-ghost use Rattle.std.specs.Prelude.{◌≡◌, ◌≤◌, ◌||◌, ℕ, None, OnOk, is_some, length};
+ghost use Rattle.std.specs.{Prelude.{◌≡◌, ◌≤◌, ◌||◌, ℕ, None, OnOk, is_some, length}, Option.{option_copied}};
 ghost use Rattle.std.specs.FinSet as set;
-ghost use Rattle.std.specs.Option.{option_copied};
-ghost use Rattle.process_api.specs.Coordinator.{count_to};
-ghost use Rattle.process_api.specs.Rows.{keep_one, cell_of, AreSenders};
+ghost use Rattle.process_api.specs.{Coordinator.{count_to}, Rows.{keep_one, cell_of, AreSenders}};
 
 use crate::pid::Pid;
 use crate::proc_set::ProcSet;

@@ -1,6 +1,5 @@
 //! Traces.
-ghost use Rattle.std.specs.Prelude.{◌≡◌, IsTrue};
-ghost use Rattle.std.specs.Cmp.{partial_equiv_from_equiv};
+ghost use Rattle.std.specs.{Prelude.{◌≡◌, IsTrue}, Cmp.{partial_equiv_from_equiv}};
 ghost use Rattle.process_api.specs.Order.{is_rising};
 
 use crate::entry::Entry;
@@ -13,9 +12,7 @@ pub struct Trace {
 }
 
 impl Model for Trace {
-    ghost use Rattle.std.specs.Prelude.{List, IsTrue};
-    ghost use Rattle.process_api.specs.Order.{EntryRecord};
-    ghost use Rattle.process_api.specs.Order.{is_rising};
+    ghost use Rattle.{std.specs.Prelude.{List, IsTrue}, process_api.specs.Order.{EntryRecord, is_rising}};
 
     ghost Value = { List EntryRecord };
 
@@ -25,7 +22,7 @@ impl Model for Trace {
 }
 
 impl PartialEq for Trace {
-    ghost use Rattle.process_api.specs.Same.{are_same_entries, entries_equiv};
+    ghost use Rattle.process_api.specs.{Same.{are_same_entries}, Inside.SameLaws.{entries_equiv}};
 
     ghost eq = { are_same_entries };
 
@@ -37,7 +34,7 @@ impl PartialEq for Trace {
 }
 
 impl Eq for Trace {
-    ghost use Rattle.process_api.specs.Same.{entries_equiv};
+    ghost use Rattle.process_api.specs.Inside.SameLaws.{entries_equiv};
 
     ghost laws = { entries_equiv };
 }

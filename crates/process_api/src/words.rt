@@ -1,9 +1,7 @@
 //! Words of bits in a row: bit 64 is the lowest of the second word.
-ghost use Rattle.std.specs.Prelude.{◌≡◌, ◌≢◌, ℕ, ◌*◌, ◌<◌, ◌&&◌, ◌||◌, not, true, false, nat_lt, cond, IsNone, IfSome, slice_index};
+ghost use Rattle.std.specs.{Prelude.{◌≡◌, ◌≢◌, ℕ, ◌*◌, ◌<◌, ◌&&◌, ◌||◌, not, true, false, nat_lt, cond, IsNone, IfSome, slice_index}, Int.{bit_at}};
 ghost use Rattle.std.specs.FinSet as set;
-ghost use Rattle.std.specs.Int.{bit_at};
-ghost use Rattle.process_api.specs.Inside.Bits.{is_set, members};
-ghost use Rattle.process_api.specs.Place.{most_processes};
+ghost use Rattle.process_api.specs.{Inside.Bits.{is_set, members}, Place.{most_processes}};
 
 use crate::pid::MOST_PROCESSES;
 

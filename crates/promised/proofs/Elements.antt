@@ -1,7 +1,6 @@
 -- What holds of an element, where something is known of the whole list.
 use Rattle.promised.proofs.Words.{◌≡◌, ◌⊎◌, ◌∙◌, sym, ap, subst, refl, inl, inr, ℕ, zero, suc, ◌+◌, ◌<◌, ◌≤◌, max, Bool, true, false, cond, ◌||◌, true≢false, Option, None, Some, List, [], ◌∷◌, filter, flat_map, filter_map, fold, length, count_by, arith, list_any, range_with_len, reduce, cons_option, IsIn}
-use Rattle.std.proofs.lemmas.List.Concat.{flat_map-cons}
-use Rattle.std.proofs.lemmas.List.Sums.{count_by-le-length, length-filter}
+use Rattle.std.proofs.lemmas.List.{Concat.{flat_map-cons}, Sums.{count_by-le-length, length-filter}}
 use Rattle.trace_laws.proofs.Steps.{in_append, in_left, in_right}
 
 first_or_later : (p a : ℕ) → a ≤ p → (p ≡ a) ⊎ (a + 1 ≤ p)

@@ -1,18 +1,11 @@
 -- The numbers of a scenario say of its traces what they are to.
 use Rattle.promised.proofs.Words.{◌≡◌, ◌∙◌, sym, ap, refl, ℕ, ◌+◌, ◌-◌, ◌<◌, ◌≤◌, suc, nat_le, nat_lt, Bool, true, false, true≢false, not, ◌&&◌, Option, Some, None, List, [], map, filter_map, arith, unwrap_or, option_map, if◌then◌else◌, le-leb, leb-true, ltb-true, range_with_len, both_true, and_true, is_watched, is_other, is_chosen, DetectorNumbers, Timeout, Freshness, Record, crash, link, outages_on, Link, IsIn, trusts, detected_by, Watches, IsReliable, IsTimely, watch_of, HasNotGrown, IsToDetect, IsLossless, AlwaysSuspects, KeepsPromises, waiting, crash_for, watched_link, watched_by, links_to, watched_links, loses, needed, patience, is_reliable, latency, is_late, lossless, promised, WatchedLink}
-use Rattle.std.specs.Option.{option_map_or}
-use Rattle.process_api.specs.Order.{EntryRecord}
-use Rattle.process_api.specs.Place.{is_process}
-use Rattle.scenario_record.specs.Ranges.{IsInRange}
-use Rattle.trace_laws.specs.Setting.{setting_of}
-use Rattle.trace_laws.specs.World.{IsTrace}
-use Rattle.judges.specs.Out.{crash_tick, is_correct, is_crashed}
-use Rattle.judges.specs.Verdicts.{IsProcess, strong_accuracy}
-use Rattle.judges.proofs.Members.{in_filter, in_image, of_image}
-use Rattle.detector_bounds.specs.Bounds.{HasNoMistake}
+use Rattle.promised.proofs.{Elements.{in_range, in_each, in_chosen, below_greatest, none_passes, all_pass, of_range, of_each, of_filter, of_chosen, greatest_in, some_passes}, Reliable.{timely_from, is_lossless, lossless_keeps, reliable_is}}
+use Rattle.{std.specs.Option.{option_map_or}, process_api.specs.{Order.{EntryRecord}, Place.{is_process}}}
+use Rattle.{scenario_record.specs.Ranges.{IsInRange}, trace_laws.specs.{Setting.{setting_of}, World.{IsTrace}}}
+use Rattle.judges.specs.{Out.{crash_tick, is_correct, is_crashed}, Verdicts.{IsProcess, strong_accuracy}}
+use Rattle.{judges.proofs.Members.{in_filter, in_image, of_image}, detector_bounds.specs.Bounds.{HasNoMistake}}
 use Rattle.detector_bounds.proofs.Kept.{bounds_kept}
-use Rattle.promised.proofs.Elements.{in_range, in_each, in_chosen, below_greatest, none_passes, all_pass, of_range, of_each, of_filter, of_chosen, greatest_in, some_passes}
-use Rattle.promised.proofs.Reliable.{timely_from, is_lossless, lossless_keeps, reliable_is}
 
 -- a bound without a trust is the bound, where it hasn't grown
 same_bound : (d : DetectorNumbers) (l : Link) (trusts c : ℕ) → HasNotGrown d trusts → detected_by d l trusts c ≡ detected_by d l 0 c

@@ -1,8 +1,6 @@
 -- Lists over processes 1 to n, one process more.
 use Rattle.promised.proofs.Words.{◌≡◌, ◌∙◌, ap, append-nil, ℕ, zero, suc, ◌+◌, Bool, true, false, cond, List, [], ◌∷◌, ◌++◌, filter, map, flat_map, arith, add-one, range_with_len}
-use Rattle.std.proofs.lemmas.Grind.{flat_map-append}
-use Rattle.std.proofs.lemmas.List.{map-append}
-use Rattle.std.proofs.lemmas.List.Elements.{filter-append}
+use Rattle.std.proofs.lemmas.{Grind.{flat_map-append}, List.{map-append, Elements.{filter-append}}}
 
 range_last : (a n j : ℕ) → a + n ≡ j → range_with_len a (suc n) ≡ range_with_len a n ++ j ∷ []
 range_last a zero j e = ap (λ i. i ∷ []) (omega (arith, e))

@@ -1,8 +1,7 @@
 -- A link counts as reliable exactly where the bounds call it so.
 use Rattle.promised.proofs.Words.{◌≡◌, ◌∙◌, sym, ap, refl, ℕ, ◌≤◌, ◌==◌, Bool, true, false, not, ◌||◌, true≢false, List, [], ◌∷◌, length, arith, le-leb, eq-eqb, both_true, and_true, DetectorNumbers, Timeout, Freshness, Record, link, outages_on, Link, IsTimely, IsReliable, watched_link, loses, needed, patience, is_timely, is_reliable}
 use Rattle.std.specs.Prelude.{◌↔◌}
-use Rattle.std.proofs.lemmas.Bool.{leb-true, eqb-true}
-use Rattle.scenario_record.specs.declared.outage.Outage.{Outage}
+use Rattle.{std.proofs.lemmas.Bool.{leb-true, eqb-true}, scenario_record.specs.declared.outage.Outage.{Outage}}
 
 neither : (a b : Bool) → not (not a || not b) ≡ true → (a ≡ true) × (b ≡ true)
 neither true true h = (refl, refl)

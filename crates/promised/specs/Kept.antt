@@ -1,16 +1,9 @@
 -- What the numbers of a scenario say of its traces, on layer 1.
 use Rattle.std.specs.Prelude.{◌≡◌, ◌↔◌, ℕ, ◌+◌, ◌-◌, ◌<◌, ◌≤◌, true, false, List, [], Some}
-use Rattle.process_api.specs.Order.{EntryRecord}
-use Rattle.process_api.specs.declared.numbers.DetectorNumbers.{DetectorNumbers}
-use Rattle.process_api.specs.declared.numbers.DetectorNumbers.TheVariants.{Timeout, Freshness}
-use Rattle.scenario_record.specs.Record.{Record, crash, link, outages_on}
-use Rattle.trace_laws.specs.Setting.{setting_of}
-use Rattle.trace_laws.specs.World.{IsTrace}
-use Rattle.judges.specs.Verdicts.{IsCorrect, From, Suspects, strong_accuracy}
-use Rattle.detector_bounds.specs.Bounds.{HasNoMistake}
-use Rattle.detector_bounds.specs.Detected.{detected_by, trusts, Watches, IsReliable, IsTimely}
-use Rattle.promised.specs.Promised.{watched_link, is_reliable, latency, patience}
-use Rattle.promised.specs.declared.bounds.PromisedBounds.{PromisedBounds}
+use Rattle.{process_api.specs.{Order.{EntryRecord}, declared.numbers.DetectorNumbers.{DetectorNumbers, TheVariants.{Timeout, Freshness}}}, scenario_record.specs.Record.{Record, crash, link, outages_on}}
+use Rattle.{trace_laws.specs.{Setting.{setting_of}, World.{IsTrace}}, judges.specs.Verdicts.{IsCorrect, From, Suspects, strong_accuracy}}
+use Rattle.detector_bounds.specs.{Bounds.{HasNoMistake}, Detected.{detected_by, trusts, Watches, IsReliable, IsTimely}}
+use Rattle.promised.specs.{Promised.{watched_link, is_reliable, latency, patience}, declared.bounds.PromisedBounds.{PromisedBounds}}
 
 -- the detector waits no longer than at first: with time-outs, it took no suspicion back
 abbrev pub HasNotGrown : DetectorNumbers → (trusts : ℕ) → Type 0
@@ -49,8 +42,7 @@ module _ (S : Record) where
 
   pub record KeepsPromises (b : PromisedBounds) : Type 0 where
     -- the links that count as reliable are those that the bounds call so
-    pub reliable : (q p : ℕ) → Watches S q p
-        → (is_reliable S.detector (watched_link S q p) ≡ true) ↔ IsReliable S p q
+    pub reliable : (q p : ℕ) → Watches S q p → (is_reliable S.detector (watched_link S q p) ≡ true) ↔ IsReliable S p q
     -- over such a link no trace has a mistake
     pub no_mistake : (q p : ℕ) → Watches S q p → is_reliable S.detector (watched_link S q p) ≡ true
         → (trace : List EntryRecord) → IsTrace (setting_of S) trace → HasNoMistake S trace q p
@@ -70,8 +62,7 @@ module _ (S : Record) where
     pub in_time : b.is_late ≡ false → (q p c l : ℕ) → IsToDetect q p c
         → latency S.detector (watched_link S q p) ≡ Some l → c + l < S.horizon
     -- and one is late only where the bound of some such crash isn't before the horizon
-    pub late : b.is_late ≡ true
-        → (q p c : ℕ) × IsToDetect q p c × (S.horizon ≤ detected_by S.detector (link S p q) 0 c)
+    pub late : b.is_late ≡ true → (q p c : ℕ) × IsToDetect q p c × (S.horizon ≤ detected_by S.detector (link S p q) 0 c)
     -- a `delta` or `timeout` of so many ticks makes each link reliable that has no loss and no outage
     pub needed : (ticks : ℕ) → b.needed ≡ Some ticks → ticks ≤ patience S.detector → (q p : ℕ) → Watches S q p
         → (link S p q).loss ≡ 0 → outages_on S p q ≡ [] → IsReliable S p q

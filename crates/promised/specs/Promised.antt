@@ -1,16 +1,8 @@
 -- What no run of a scenario breaks, in numbers. The links by which processes watch each other.
-use Rattle.std.specs.Prelude.{ℕ, ◌+◌, ◌-◌, ◌==◌, max, nat_le, Bool, false, not, ◌&&◌, ◌||◌, List, filter, flat_map, map, length, if◌then◌else◌, Option, None, filter_map, count_by, option_map}
-use Rattle.std.specs.List.{list_any, reduce, range_with_len}
-use Rattle.std.specs.Option.{option_map_or}
-use Rattle.process_api.specs.Place.{is_watched}
-use Rattle.process_api.specs.declared.numbers.DetectorNumbers.{DetectorNumbers}
-use Rattle.process_api.specs.declared.numbers.DetectorNumbers.TheVariants.{Timeout, Freshness}
-use Rattle.scenario_record.specs.Record.{Record, crash, link, outages_on}
-use Rattle.scenario_record.specs.declared.link.Link.{Link}
-use Rattle.judges.specs.Out.{is_correct, is_crashed}
-use Rattle.detector_bounds.specs.Detected.{detected_by, watch_of}
-use Rattle.promised.specs.declared.bounds.PromisedBounds.{PromisedBounds}
-use Rattle.promised.specs.declared.watching.WatchedLink.{WatchedLink}
+use Rattle.std.specs.{Prelude.{ℕ, ◌+◌, ◌-◌, ◌==◌, max, nat_le, Bool, false, not, ◌&&◌, ◌||◌, List, filter, flat_map, map, length, if◌then◌else◌, Option, None, filter_map, count_by, option_map}, List.{list_any, reduce, range_with_len}}
+use Rattle.{std.specs.Option.{option_map_or}, process_api.specs.{Place.{is_watched}, declared.numbers.DetectorNumbers.{DetectorNumbers, TheVariants.{Timeout, Freshness}}}}
+use Rattle.{scenario_record.specs.{Record.{Record, crash, link, outages_on}, declared.link.Link.{Link}}, judges.specs.Out.{is_correct, is_crashed}, detector_bounds.specs.Detected.{detected_by, watch_of}}
+use Rattle.promised.specs.declared.{bounds.PromisedBounds.{PromisedBounds}, watching.WatchedLink.{WatchedLink}}
 
 module _ (S : Record) where
   -- the crash of p that q is to detect: p crashes before the horizon, and q doesn't

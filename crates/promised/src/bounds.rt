@@ -1,9 +1,6 @@
 //! Bounds that no run of a scenario breaks, in numbers.
-ghost use Rattle.std.specs.Prelude.{◌≡◌, IfOk, count_by, filter, filter_map, map, not};
-ghost use Rattle.std.specs.List.{list_any};
-ghost use Rattle.promised.specs.Kept.{KeepsPromises};
-ghost use Rattle.promised.specs.Promised.{greatest, is_late, is_reliable, is_timely, latency};
-ghost use Rattle.promised.specs.Promised.{loses, needed, promised};
+ghost use Rattle.std.specs.{Prelude.{◌≡◌, IfOk, count_by, filter, filter_map, map, not}, List.{list_any}};
+ghost use Rattle.promised.specs.{Kept.{KeepsPromises}, Promised.{greatest, is_late, is_reliable, is_timely, latency, loses, needed, promised}};
 ghost use Rattle.scenario_record.specs.Ranges.{AreInRange};
 
 use crate::detected::detected_by;

@@ -1,8 +1,7 @@
 //! The links by which processes watch each other.
 ghost use Rattle.std.specs.Prelude.{◌≡◌, ◌≤◌, ◌≢◌, ◌++◌, true, IfOk, OnOk};
 ghost use Rattle.promised.specs.Promised.{crash_for, links_to, watched_link, watched_links};
-ghost use Rattle.detector_bounds.specs.Detected.{watch_of};
-ghost use Rattle.judges.specs.Out.{is_correct};
+ghost use Rattle.{detector_bounds.specs.Detected.{watch_of}, judges.specs.Out.{is_correct}};
 
 use process_api::{DetectorNumbers, Pid, Watch};
 use scenario_record::{Link, Scenario};

@@ -1,7 +1,6 @@
 -- A run by windows from its trace to its texts: what it leaves once it is done, and once it breaks off.
 use Rattle.qos_report.proofs.Words.{◌≡◌, ◌≢◌, ◌⊎◌, ℕ, ◌+◌, inl, inr, refl, sym, ap, ◌∙◌, subst, arith, Bool, true, false, Option, None, Some, List, [], ◌++◌, Err, append-nil, IsTrue, setting_of, IsTrace, RunError, Limit, Memory, Write, EntryRecord, Record, writes_of, report_text, IsTextWhere, WroteFirst, WroteFront, WroteWhere, rows_text, trace_header, trace_text, Wrote, WrotePart, WroteNothing, part_of_more, wrote_both, wrote_then_part}
-use Rattle.std.specs.Global.{Vec}
-use Rattle.process_api.specs.declared.print_choice.PrintChoice.{PrintChoice}
+use Rattle.{std.specs.Global.{Vec}, process_api.specs.declared.print_choice.PrintChoice.{PrintChoice}}
 use Rattle.process_api.specs.declared.print_choice.PrintChoice.TheVariants as choice
 use Rattle.reporting.specs.ReportText.{items_of, printed, prints_report, prints_trace}
 use Rattle.runs.specs.Finishing.{BreaksOff, WroteRows, IsLonger}

@@ -1,7 +1,6 @@
 -- What a sink took, window by window.
 use Rattle.qos_report.proofs.Words.{◌≡◌, ℕ, inl, inr, refl, sym, ap, ◌∙◌, subst, Bool, true, false, true≢false, Option, List, [], ◌∷◌, ◌++◌, append_assoc, append-nil, ◌≤◌, length, Result, Ok, Err, OnOk, OnErr, EntryRecord, row_of, written, AreUnderWay, WroteFront, WroteWhere, StreamedFront, StreamedTrace, TookFrontOfPart, TookPart, Holds, fields_of, rows_text, Wrote, WrotePart, part_of_more, rows_both, rows_one, wrote_both, wrote_nothing, wrote_then_part, setting_of, IsSound, IsTrace, RunError, trace_rises, Record, TookAll, TookFront, TookTrace, RunningFollowed}
-use Rattle.reporting.specs.declared.trace_text.TraceText.{TraceText}
-use Rattle.window_laws.specs.Theorems.{end_to_end}
+use Rattle.{reporting.specs.declared.trace_text.TraceText.{TraceText}, window_laws.specs.Theorems.{end_to_end}}
 use Rattle.qos_report.specs.declared.streaming.Streaming.{Streaming}
 use Rattle.reporting.proofs.Followed.{running_same, running_told}
 

@@ -1,9 +1,7 @@
 //! Runs by windows, from a scenario and its machines to the texts that go out.
 ghost use Rattle.std.specs.Prelude.{◌≡◌, ◌^◌, ◌-◌, ◌<◌, map, IfErr, IfOk};
-ghost use Rattle.process_api.specs.Place.{numbers_to};
-ghost use Rattle.runs.specs.Finishing.{BreaksOff, Finishes};
-ghost use Rattle.scenario_record.specs.Record.{opening_mind};
-ghost use Rattle.windows.specs.Plan.{IsPlanFor};
+ghost use Rattle.{process_api.specs.Place.{numbers_to}, runs.specs.Finishing.{BreaksOff, Finishes}};
+ghost use Rattle.{scenario_record.specs.Record.{opening_mind}, windows.specs.Plan.{IsPlanFor}};
 
 use crate::streaming::{stream_windows, write_header};
 use process_api::{PrintChoice, Process, RunError};

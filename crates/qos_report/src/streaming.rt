@@ -1,13 +1,10 @@
 //! Takes the entries of a run by windows.
 ghost use Rattle.std.specs.Prelude.{◌≡◌, ◌<◌, ◌^◌, ◌-◌, ◌+◌, map, length, true, OnOk, OnErr, IfErr, IfOk, IsErrOf, IsTrue};
-ghost use Rattle.process_api.specs.Place.{numbers_to};
-ghost use Rattle.scenario_record.specs.Record.{opening_mind};
+ghost use Rattle.{process_api.specs.Place.{numbers_to}, scenario_record.specs.Record.{opening_mind}};
 ghost use Rattle.runs.specs.Finishing.{IsLonger};
 ghost use Rattle.qos_report.specs.Inside.Streaming.{AreUnderWay, HasStreamed, StreamedFront, StreamedTrace, WithRow, WroteFront, WroteWhere};
-ghost use Rattle.reporting.specs.TraceText.{handed, rows_text, trace_header};
-ghost use Rattle.reporting.specs.Outlet.{Wrote, WrotePart};
-ghost use Rattle.windows.specs.Plan.{IsPlanFor};
-ghost use Rattle.windows.specs.Stage.{IsRefusalOfSink, writes_of};
+ghost use Rattle.reporting.specs.{TraceText.{handed, rows_text, trace_header}, Outlet.{Wrote, WrotePart}};
+ghost use Rattle.windows.specs.{Plan.{IsPlanFor}, Stage.{IsRefusalOfSink, writes_of}};
 
 use process_api::{Entry, Process, RunError, follow_all};
 use reporting::{HEADER, Outlet, Running, TraceText, write_text};

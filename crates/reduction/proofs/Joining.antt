@@ -1,24 +1,13 @@
 -- A base detector's step and then the reduction's are the step of the two together.
-use Rattle.std.proofs.Common.{◌≡◌, ◌+◌, ◌≤◌, ◌++◌, [], ℕ, List, length, ap, sym, subst, refl, ◌∙◌, arith, append_assoc, length-append, None, Some}
+use Rattle.std.proofs.{Common.{◌≡◌, ◌+◌, ◌≤◌, ◌++◌, [], ℕ, List, length, ap, sym, subst, refl, ◌∙◌, arith, append_assoc, length-append, None, Some}, lemmas.List.Elements.{All-append, All-from_recursion}}
 use Rattle.std.specs.List.{All}
-use Rattle.std.proofs.lemmas.List.Elements.{All-append, All-from_recursion}
-use Rattle.process_api.specs.Place.{most_processes, most_first_actions, most_second_actions, Place, numbers_to}
-use Rattle.process_api.specs.Sets.{Processes, changes}
-use Rattle.process_api.specs.Answer.{Answer, to_all, IsAllowed, notes_of_layer}
-use Rattle.process_api.specs.Mind.{Lower, layer_of, suspects_of, most_actions}
-use Rattle.process_api.specs.React.{react_lower}
-use Rattle.process_api.specs.Reduction.{ReductionState, gathered, next_share, step_reduction}
-use Rattle.process_api.specs.Detector.{DetectorState, suspected_by, step_detector}
-use Rattle.process_api.specs.declared.action.Action.{Action}
+use Rattle.process_api.specs.{Place.{most_processes, most_first_actions, most_second_actions, Place, numbers_to}, Sets.{Processes, changes}, Answer.{Answer, to_all, IsAllowed, notes_of_layer}}
+use Rattle.process_api.specs.{Mind.{Lower, layer_of, suspects_of, most_actions}, React.{react_lower}, Reduction.{ReductionState, gathered, next_share, step_reduction}, Detector.{DetectorState, suspected_by, step_detector}}
+use Rattle.process_api.specs.declared.{action.Action.{Action}, message.StepInput.{StepInput}}
 use Rattle.process_api.specs.declared.message.Payload.TheVariants as payload
-use Rattle.process_api.specs.declared.message.StepInput.{StepInput}
 use Rattle.process_api.specs.declared.message.StepInput.TheVariants as input
 use Rattle.process_api.specs.declared.message.Tag.TheVariants as tag
-use Rattle.process_api.proofs.DetectorLaws.{detector_laws}
-use Rattle.process_api.proofs.Allowed.{reduction_allowed}
-use Rattle.process_api.proofs.Changes.{length-changes}
-use Rattle.process_api.proofs.Keeping.{by_layer}
-use Rattle.process_api.proofs.LayerNotes.{notes_of_layer-append, none_of_layer_2, no_letters, changes_kept, changes-none}
+use Rattle.process_api.proofs.{DetectorLaws.{detector_laws}, Allowed.{reduction_allowed}, Changes.{length-changes}, Keeping.{by_layer}, LayerNotes.{notes_of_layer-append, none_of_layer_2, no_letters, changes_kept, changes-none}}
 use Rattle.process_api.proofs.Sending.{length-to_all}
 
 -- a share takes n + 1 actions, and a letter at most n: the detector below has room for its own

@@ -1,7 +1,6 @@
 //! The reduction over a detector.
 ghost use Rattle.std.specs.Prelude.{◌≡◌, false, IsSome, option_map};
-ghost use Rattle.process_api.specs.Mind.{layer_of};
-ghost use Rattle.process_api.specs.Reduction.{opening_reduction};
+ghost use Rattle.process_api.specs.{Mind.{layer_of}, Reduction.{opening_reduction}};
 ghost use Rattle.scenario_record.specs.Opening.{place_of};
 
 use crate::gathering::Gathering;
@@ -47,8 +46,7 @@ impl<D: Detector> Reduced<D> {
 }
 
 impl<D: Detector> Detector for Reduced<D> {
-    ghost use Rattle.std.specs.Prelude.{Some};
-    ghost use Rattle.reduction.specs.Inside.Parts.{state_of};
+    ghost use Rattle.{std.specs.Prelude.{Some}, reduction.specs.Inside.Parts.{state_of}};
 
     ghost lower = { λ s. record (D.lower s.detector) { reduction = Some (state_of s.gathering) } };
 

@@ -1,10 +1,7 @@
 -- Meters, as they open, as they are fed with one more entry, and at the close.
 use Rattle.reporting.proofs.Words.{◌≡◌, ℕ, arith, None, Some, ◌≢◌, ◌<◌, ◌≤◌, min, cond, sym, ap, ◌∙◌, List, [], ◌∷◌, ◌++◌, suc, ◌+◌, ◌-◌, ◌*◌, refl, subst, map, get_or, add-one, nat_tests, EntryRecord, Record, crash_tick, end_of, all_turned, opened, kept_at, noted_turns, entry_turns, Pair, fed_more, turns_own, turns_late, turns_other, in_order_more, is_measured, pair_measures, layer_measures, crash_between, closed, counted, new_tally, told, Tally, others, suspects, ArePairs, fed, Pairs, IsKnown, fed_known, pair, metered, closed_row, closed_rows}
-use Rattle.judges.specs.Pairs.{AreUntil}
-use Rattle.reporting.specs.Meter.{IsFed}
-use Rattle.reporting.specs.declared.meter.Meter.{Meter}
-use Rattle.reporting.proofs.Passes.{Knows, tallies_keep, none_known, told_is}
-use Rattle.reporting.proofs.EachProcess.{others_same, rows_same}
+use Rattle.reporting.proofs.{Passes.{Knows, tallies_keep, none_known, told_is}, EachProcess.{others_same, rows_same}}
+use Rattle.{judges.specs.Pairs.{AreUntil}, reporting.specs.{Meter.{IsFed}, declared.meter.Meter.{Meter}}}
 
 -- ---- one more entry
 

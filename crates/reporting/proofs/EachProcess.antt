@@ -1,7 +1,6 @@
 -- Lists that are made process by process.
-use Rattle.std.proofs.Common.{◌≡◌, ◌≢◌, ℕ, zero, suc, ◌+◌, ◌<◌, true, false, cond, not, refl, sym, ap, ◌∙◌, arith, eqb, List, [], ◌∷◌, ◌++◌, map, flat_map, filter, append_assoc, add-one, append-nil}
+use Rattle.std.proofs.{Common.{◌≡◌, ◌≢◌, ℕ, zero, suc, ◌+◌, ◌<◌, true, false, cond, not, refl, sym, ap, ◌∙◌, arith, eqb, List, [], ◌∷◌, ◌++◌, map, flat_map, filter, append_assoc, add-one, append-nil}, lemmas.List.Elements.{filter-append}}
 use Rattle.reporting.proofs.Words.{eq-eqb, ne_eqb, map-append, flat_map-append, numbers_to, others}
-use Rattle.std.proofs.lemmas.List.Elements.{filter-append}
 
 -- one more of the others of a process, unless it is that process
 pub others_more : {X : Type 0} (f : ℕ → X) (k q : ℕ) → map f (others (suc k) q) ≡ map f (others k q) ++ cond (not (eqb (suc k) q)) (f (suc k) ∷ []) []

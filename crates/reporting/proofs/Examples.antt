@@ -5,8 +5,7 @@ use Rattle.process_api.specs.declared.entry.Kind.TheVariants as kind
 use Rattle.process_api.specs.declared.numbers.DetectorNumbers.TheVariants as numbers
 use Rattle.process_api.specs.declared.numbers.Watch.TheVariants as watch
 use Rattle.scenario_record.specs.declared.algorithm.AlgorithmKind.TheVariants as algorithm
-use Rattle.reporting.specs.declared.pair_measures.PairMeasures.{PairMeasures}
-use Rattle.reporting.specs.declared.pair_measures.Detection.{Detection}
+use Rattle.reporting.specs.declared.pair_measures.{PairMeasures.{PairMeasures}, Detection.{Detection}}
 
 -- a step with these notes; no measure reads its kind or its counts
 abbrev step : (tick receiver sender number : ℕ) → List Note → EntryRecord

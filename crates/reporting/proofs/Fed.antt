@@ -1,12 +1,10 @@
 -- What whoever follows a run tells of it.
 use Rattle.std.proofs.Common.{◌≡◌, ℕ, suc, ◌<◌, ◌^◌, Bool, true, false, cond, sym, ap, ◌∙◌, subst, arith, Option, Some, None, is_some, List, [], ◌∷◌, ◌++◌, flat_map, length, take, drop, get_or, append_assoc, Result, Ok, Err, OnOk, OnErr, IfOk, IfErr}
 use Rattle.reporting.proofs.Words.{Vec, sum_by, take-append-drop, drop-cons, EntryRecord, Record, verdicts, second_text, found_text, layers, all_measures, items_of, Text, report_header, run_text, verdict_text, pair_text, decisions_text, report_text, IsCounting, IsTextWhere, Counts}
-use Rattle.process_api.specs.declared.run_error.RunError.{RunError}
-use Rattle.process_api.specs.declared.run_error.RunError.TheVariants.{Write}
-use Rattle.judges.specs.Outcomes.{outcomes}
-use Rattle.reporting.specs.Running.{AreFindings, second_verdicts}
-use Rattle.reporting.specs.declared.findings.RunFindings.{RunFindings}
 use Rattle.reporting.proofs.Layers.{layered}
+use Rattle.process_api.specs.declared.run_error.RunError.{RunError, TheVariants.{Write}}
+use Rattle.judges.specs.Outcomes.{outcomes}
+use Rattle.reporting.specs.{Running.{AreFindings, second_verdicts}, declared.findings.RunFindings.{RunFindings}}
 
 -- counts that fit are exact
 pub counted : (trace : List EntryRecord) (c : Counts) → IsCounting trace c → length trace < 2 ^ 64

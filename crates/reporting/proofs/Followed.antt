@@ -1,10 +1,8 @@
 -- Whoever follows a run, as it is put together: fed with nothing, and told of a trace.
 use Rattle.reporting.proofs.Words.{◌≡◌, ℕ, Bool, true, false, sym, ap, subst, is_some, Option, List, [], ◌++◌, append-nil, HasFollowedWhere, same_where, then_where, EntryRecord, Record, prints_report, prints_trace, AreLayers, IsLayer, IsMeasuring, IsRecording, IsRunning, IsSumming, LayerFollowed, LayersFollowed, Running, RunningFollowed, SummingFollowed, Holds, rows_text, trace_header, trace_text, Counts}
-use Rattle.process_api.specs.Order.{is_rising}
+use Rattle.process_api.specs.{Order.{is_rising}, declared.print_choice.PrintChoice.{PrintChoice}}
 use Rattle.judges.specs.declared.outcomes.RunningOutcomes.{RunningOutcomes}
-use Rattle.process_api.specs.declared.print_choice.PrintChoice.{PrintChoice}
-use Rattle.reporting.specs.declared.layer.Layer.{Layer}
-use Rattle.reporting.specs.declared.trace_text.TraceText.{TraceText}
+use Rattle.reporting.specs.declared.{layer.Layer.{Layer}, trace_text.TraceText.{TraceText}}
 
 abbrev Summing : Type 0
 Summing = Counts × RunningOutcomes

@@ -1,7 +1,6 @@
 -- Rows of a report that begin with the same fields.
 use Rattle.reporting.proofs.Words.{◌≡◌, ℕ, suc, ◌+◌, ◌<◌, List, [], ◌∷◌, ◌++◌, length, take, map, get_or, decimal, refl, ap, ◌∙◌, append-nil, arith, take-suc, flat_map-append, join_with_byte, front_of, rows_about, Text, report_row, report_rows, row_of}
-use Rattle.std.proofs.lemmas.List.{append_assoc, map-append}
-use Rattle.reporting.specs.declared.report_rows.About.{About}
+use Rattle.{std.proofs.lemmas.List.{append_assoc, map-append}, reporting.specs.declared.report_rows.About.{About}}
 
 -- the row of a value with its name
 abbrev row_about : About → Text × Text → Text

@@ -1,8 +1,7 @@
 -- The lengths of mistakes, as a tally passes on, as entries come, and as no entry follows.
 use Rattle.reporting.proofs.Words.{◌≡◌, ℕ, zero, suc, ◌+◌, ◌-◌, ◌<◌, ◌≤◌, min, Bool, true, false, cond, ◌&&◌, inl, inr, refl, sym, ap, ◌∙◌, arith, ltb, Some, List, [], ◌∷◌, ◌++◌, length, sum, length-append, append-nil, not, subst, eqb, Option, None, ◌≢◌, ◌*◌, leb, set, get_or, cases_lt, lt-ltb, le-ltb, cond-true, cond-false, cond_both, cases_eq, le-leb, lt-leb, and_from, and_left, and_right, nil_from_length, map-set, length-map, length-set, get_or-map, get_or-set_other, sum_below, list_below, distances, is_next, over_distances, count_of_distances, caught, ticks_between, listed, lengths_so_far, lists_in, tally_at, AreCaught, AreFollowing, AreDurations, Tally, beq, EntryRecord, Note, Record, end_of, suspects, opened, turned, all_turned, kept_at, AreFrom, fed, ArePairs, Turn, turn_of, turns_at, noted_turns, entry_turns, turns, Pair, fed_more, IsKeeping, fed_known, shown, shown_all, starts, ends, pair_durations, gain, changed, passed, moved, counted, new_tally, Vec, mul-le-mul_right, suc-mul, nat_tests, get_or-set_at, Pairs, turns_other, turns_quiet}
-use Rattle.std.proofs.lemmas.List.Sums.{sum_by-append, fold-append}
 use Rattle.reporting.proofs.Passes.{IsWaiting, Knows, ending, ending_none, ending_one, tallies_keep, none_known, t_after, t_at, open_start, knows_moved}
-use Rattle.std.proofs.lemmas.Nat.{mul-add-lt}
+use Rattle.std.proofs.lemmas.{List.Sums.{sum_by-append, fold-append}, Nat.{mul-add-lt}}
 use Rattle.reporting.specs.declared.durations.Durations.{Durations}
 
 -- ---- distances one by one: they are what sums and counts of distances are over

@@ -1,7 +1,6 @@
 -- Fields that call for no quotes.
 use Rattle.reporting.proofs.Words.{◌≡◌, ℕ, ◌+◌, ◌%◌, ◌^◌, ◌<◌, ◌≤◌, ◌||◌, List, [], ◌∷◌, ◌++◌, false, decimal, refl, sym, subst, ap, ◌∙◌, arith, ne_eqb, decimal_by_steps, default_writer, needs_byte, IsPlain, kind_text}
-use Rattle.std.proofs.lemmas.List.Folds.{list_any-append}
-use Rattle.process_api.specs.declared.entry.Kind.{Kind}
+use Rattle.{std.proofs.lemmas.List.Folds.{list_any-append}, process_api.specs.declared.entry.Kind.{Kind}}
 use Rattle.process_api.specs.declared.entry.Kind.TheVariants as kind
 
 digit_byte : (b : ℕ) → 48 ≤ b → b ≤ 57 → needs_byte default_writer b ≡ false

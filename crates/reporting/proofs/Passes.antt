@@ -1,8 +1,7 @@
 -- A tally that passes on over ticks of one state knows the sums over these too, and tells them at the horizon.
 use Rattle.reporting.proofs.Words.{◌≡◌, ◌≢◌, ℕ, zero, suc, ◌+◌, ◌-◌, ◌<◌, ◌≤◌, min, cond, inl, inr, refl, sym, ap, arith, ltb, ◌⊎◌, Bool, true, false, not, ◌&&◌, ◌||◌, ◌∙◌, leb, Option, None, Some, subst, unwrap_or, cases_eq, cases_lt, lt-ltb, le-ltb, cond-true, cond-false, ltb-true, leb-true, le-leb, and_parts, and_from, or_cases, or_left, or_right, not-true, not_from_false, false_from_ne_true, both_ways, true≢false, cond_both, sum_below, is_next, count_below, sum_of_distances, count_of_distances, Record, crash_tick, end_of, Na, starts, ends, is_measured, measured, delay_after, gain, grown, changed, passed, moved, counted, new_tally, tracked, detected, told, Tally, beq, nat_tests, IsKeeping}
 use Rattle.judges.specs.Track.{all_below, all_from, before, least_from, passed as track_passed}
-use Rattle.judges.proofs.Below.{all_below-at, all_below-from}
-use Rattle.judges.proofs.Lasting.{least_below-none, least_below-is, all_from-at, last_before}
+use Rattle.judges.proofs.{Below.{all_below-at, all_below-from}, Lasting.{least_below-none, least_below-is, all_from-at, last_before}}
 use Rattle.reporting.specs.declared.tally.Distances.{Distances}
 
 -- ---- what a tally knows of a pair whose suspicion is given tick by tick: the sums over the ticks before its own

@@ -1,7 +1,6 @@
 -- Texts that went out one after the other.
 use Rattle.reporting.proofs.Words.{◌≡◌, ℕ, ◌+◌, refl, sym, ap, ◌∙◌, subst, arith, Option, List, [], ◌∷◌, ◌++◌, length, append-nil, Appends-nil, Appends-trans, flat_map-append, take-append-add, Appends, EntryRecord, row_of, Wrote, WrotePart}
-use Rattle.std.proofs.lemmas.List.{take-append-le, length-append}
-use Rattle.reporting.specs.TraceText.{fields_of, rows_text}
+use Rattle.{std.proofs.lemmas.List.{take-append-le, length-append}, reporting.specs.TraceText.{fields_of, rows_text}}
 
 pub rows_both : (xs ys : List EntryRecord) → rows_text (xs ++ ys) ≡ rows_text xs ++ rows_text ys
 rows_both xs ys = flat_map-append (λ e. row_of (fields_of e)) xs ys

@@ -1,16 +1,7 @@
 -- How long mistakes were, pair by pair, as all pairs of a layer are counted.
-use Rattle.std.specs.Prelude.{◌≡◌, ℕ, suc, ◌+◌, ◌-◌, ◌*◌, ◌<◌, ◌&&◌, Bool, if◌then◌else◌, nat_le, nat_lt, Option, None, Some, List, [], ◌∷◌, ◌++◌, length, map, get_or}
-use Rattle.std.specs.Global.{Vec}
-use Rattle.process_api.specs.Order.{EntryRecord}
-use Rattle.scenario_record.specs.Record.{Record}
-use Rattle.judges.specs.Turns.{kept_at, opened}
-use Rattle.judges.specs.Pairs.{fed}
-use Rattle.judges.specs.declared.pair.Pair.{Pair}
-use Rattle.judges.specs.declared.pairs.Pairs.{Pairs}
-use Rattle.reporting.specs.Measures.{pair_durations}
-use Rattle.reporting.specs.Tally.{counted, new_tally}
-use Rattle.reporting.specs.declared.durations.Durations.{Durations}
-use Rattle.reporting.specs.declared.tally.Tally.{Tally}
+use Rattle.std.specs.{Prelude.{◌≡◌, ℕ, suc, ◌+◌, ◌-◌, ◌*◌, ◌<◌, ◌&&◌, Bool, if◌then◌else◌, nat_le, nat_lt, Option, None, Some, List, [], ◌∷◌, ◌++◌, length, map, get_or}, Global.{Vec}}
+use Rattle.{process_api.specs.Order.{EntryRecord}, scenario_record.specs.Record.{Record}, judges.specs.{Turns.{kept_at, opened}, Pairs.{fed}, declared.{pair.Pair.{Pair}, pairs.Pairs.{Pairs}}}}
+use Rattle.reporting.specs.{Measures.{pair_durations}, Tally.{counted, new_tally}, declared.{durations.Durations.{Durations}, tally.Tally.{Tally}}}
 
 -- from a start to an end, if there are both
 abbrev pub ticks_between : (started ended : Option ℕ) → ℕ

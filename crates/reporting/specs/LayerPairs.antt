@@ -1,17 +1,7 @@
 -- What is counted of all pairs on a layer, and what their meters tell.
 use Rattle.std.specs.Prelude.{ℕ, suc, ◌+◌, ◌-◌, ◌*◌, List, map, flat_map, get_or}
-use Rattle.process_api.specs.Place.{numbers_to, others}
-use Rattle.process_api.specs.Order.{EntryRecord}
-use Rattle.scenario_record.specs.Record.{Record}
-use Rattle.judges.specs.Turns.{opened}
-use Rattle.judges.specs.Pairs.{ArePairs}
-use Rattle.judges.specs.declared.pair.Pair.{Pair}
-use Rattle.judges.specs.declared.pairs.Pairs.{Pairs}
-use Rattle.reporting.specs.Meter.{closed, crash_between}
-use Rattle.reporting.specs.Tally.{counted, new_tally}
-use Rattle.reporting.specs.declared.meter.Meter.{Meter}
-use Rattle.reporting.specs.declared.pair_measures.PairMeasures.{PairMeasures}
-use Rattle.reporting.specs.declared.tally.Tally.{Tally}
+use Rattle.{process_api.specs.{Place.{numbers_to, others}, Order.{EntryRecord}}, scenario_record.specs.Record.{Record}, judges.specs.{Turns.{opened}, Pairs.{ArePairs}, declared.{pair.Pair.{Pair}, pairs.Pairs.{Pairs}}}}
+use Rattle.reporting.specs.{Meter.{closed, crash_between}, Tally.{counted, new_tally}, declared.{meter.Meter.{Meter}, pair_measures.PairMeasures.{PairMeasures}, tally.Tally.{Tally}}}
 
 -- they were fed with the entries of a trace
 abbrev pub IsMetering : Record → (layer : ℕ) → List EntryRecord → Pairs Tally → Type 0

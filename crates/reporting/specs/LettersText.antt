@@ -1,10 +1,6 @@
 -- The text of letters: a line that names the columns, and a row for each letter.
-use Rattle.std.specs.Prelude.{ℕ, Option, None, Some, List, [], ◌∷◌, ◌++◌, codes, decimal}
-use Rattle.std.specs.List.{flat_map}
-use Rattle.reporting.specs.Rows.{kind_text, row_of}
-use Rattle.reporting.specs.ReportText.{Text}
-use Rattle.reporting.specs.declared.letter.Letter.{Letter}
-use Rattle.reporting.specs.declared.letter.LetterFate.{LetterFate}
+use Rattle.std.specs.{Prelude.{ℕ, Option, None, Some, List, [], ◌∷◌, ◌++◌, codes, decimal}, List.{flat_map}}
+use Rattle.reporting.specs.{Rows.{kind_text, row_of}, ReportText.{Text}, declared.letter.{Letter.{Letter}, LetterFate.{LetterFate}}}
 use Rattle.reporting.specs.declared.letter.LetterFate.TheVariants as fate
 
 abbrev pub fate_text : LetterFate → Text

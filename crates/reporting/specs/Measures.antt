@@ -1,14 +1,8 @@
 -- The quality of service of each pair (Chen, Toueg and Aguilera, IEEE Transactions on Computers 51(5), 2002): where
 -- they take means over runs without end, these are sums and counts over the ticks of one run, cut at its horizon.
 use Rattle.std.specs.Prelude.{ℕ, ◌-◌, Bool, not, ◌&&◌, if◌then◌else◌, Option, None, Some, is_some, List, [], ◌∷◌, map, flat_map, zero, suc, ◌+◌, ◌||◌, nat_lt, nat_le, ◌++◌}
-use Rattle.process_api.specs.Place.{numbers_to, others}
-use Rattle.process_api.specs.Order.{EntryRecord}
-use Rattle.scenario_record.specs.Record.{Record}
-use Rattle.judges.specs.Out.{crash_tick, is_crashed, is_correct, end_of, suspects}
-use Rattle.judges.specs.Track.{before, least_from, all_below}
-use Rattle.reporting.specs.declared.pair_measures.PairMeasures.{PairMeasures}
-use Rattle.reporting.specs.declared.pair_measures.Detection.{Detection}
-use Rattle.reporting.specs.declared.pair_measures.Detection.TheVariants.{Na, NoTick, At}
+use Rattle.{process_api.specs.{Place.{numbers_to, others}, Order.{EntryRecord}}, scenario_record.specs.Record.{Record}, judges.specs.{Out.{crash_tick, is_crashed, is_correct, end_of, suspects}, Track.{before, least_from, all_below}}}
+use Rattle.reporting.specs.declared.pair_measures.{PairMeasures.{PairMeasures}, Detection.{Detection, TheVariants.{Na, NoTick, At}}}
 
 -- the sum of an amount over 0 to end - 1
 abbrev pub sum_below : (ℕ → ℕ) → (end : ℕ) → ℕ
@@ -43,8 +37,7 @@ list_below lists (suc t) = list_below lists t ++ lists t
 
 -- these distances themselves, in the order of the ticks at which they end
 abbrev pub distances : (from to : ℕ → Bool) → (end : ℕ) → List ℕ
-distances from to end =
-    list_below (λ t. list_below (λ s. if from s && is_next to s t then (t - s) ∷ [] else []) t) end
+distances from to end = list_below (λ t. list_below (λ s. if from s && is_next to s t then (t - s) ∷ [] else []) t) end
 
 -- a tick at which suspicion starts (an S-transition), and one at which it ends (a T-transition)
 abbrev pub starts : (ℕ → Bool) → ℕ → Bool

@@ -1,14 +1,7 @@
 -- The steps of a meter.
 use Rattle.std.specs.Prelude.{ℕ, false, ◌&&◌, ◌==◌, nat_lt, if◌then◌else◌, Option, None, Some, ◌≡◌, List, [], ◌∷◌, ◌++◌}
-use Rattle.process_api.specs.Order.{EntryRecord}
-use Rattle.scenario_record.specs.Record.{Record}
-use Rattle.judges.specs.Out.{crash_tick, end_of}
-use Rattle.judges.specs.Turns.{kept_at}
-use Rattle.judges.specs.Pairs.{AreFrom, AreUntil, fed}
-use Rattle.reporting.specs.Measures.{is_measured}
-use Rattle.reporting.specs.Tally.{counted, new_tally, told}
-use Rattle.reporting.specs.declared.meter.Meter.{Meter}
-use Rattle.reporting.specs.declared.pair_measures.PairMeasures.{PairMeasures}
+use Rattle.{process_api.specs.Order.{EntryRecord}, scenario_record.specs.Record.{Record}, judges.specs.{Out.{crash_tick, end_of}, Turns.{kept_at}, Pairs.{AreFrom, AreUntil, fed}}}
+use Rattle.reporting.specs.{Measures.{is_measured}, Tally.{counted, new_tally, told}, declared.{meter.Meter.{Meter}, pair_measures.PairMeasures.{PairMeasures}}}
 
 abbrev pub opened : Record → (layer q p : ℕ) → Meter
 opened S layer q p = record {
@@ -43,6 +36,5 @@ pub record IsFed (S : Record) (layer q p : ℕ) (trace : List EntryRecord) (m : 
 
 -- whatever a meter was fed with up to an entry's tick, it was fed with that entry too
 abbrev pub WasFed : EntryRecord → (old new : Meter) → Type 0
-WasFed entry old new =
-    (S : Record) (layer q p : ℕ) (trace : List EntryRecord) → IsFed S layer q p trace old
+WasFed entry old new = (S : Record) (layer q p : ℕ) (trace : List EntryRecord) → IsFed S layer q p trace old
     → AreUntil trace entry.key.tick → IsFed S layer q p (trace ++ entry ∷ []) new

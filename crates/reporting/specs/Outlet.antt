@@ -1,6 +1,5 @@
 -- What a put does to an outlet.
-use Rattle.std.specs.Prelude.{ℕ, ◌≤◌, ◌&&◌, not, nat_eq, List, length, take, Option, Result, Ok, Err, if◌then◌else◌, ◌≡◌, ◌+◌}
-use Rattle.std.specs.Io.KnownBytes.{Appends}
+use Rattle.std.specs.{Prelude.{ℕ, ◌≤◌, ◌&&◌, not, nat_eq, List, length, take, Option, Result, Ok, Err, if◌then◌else◌, ◌≡◌, ◌+◌}, Io.KnownBytes.{Appends}}
 
 -- failures that a put of the piece counts: one where it answered an error, or took nothing of a piece that isn't empty
 abbrev pub failures_of : {E : Type 0} → Result ℕ E → List ℕ → ℕ

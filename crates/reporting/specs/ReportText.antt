@@ -1,25 +1,12 @@
 -- The text of a report.
-use Rattle.std.specs.Prelude.{ℕ, Bool, if◌then◌else◌, Option, None, Some, List, [], ◌∷◌, ◌++◌, length, codes, decimal, true, false}
-use Rattle.std.specs.List.{flat_map, sum_by}
-use Rattle.std.specs.Global.{Vec}
-use Rattle.judges.specs.Outcomes.{outcomes}
-use Rattle.judges.specs.Verdicts.{verdicts}
-use Rattle.judges.specs.declared.outcomes.Answer.{Answer}
+use Rattle.std.specs.{Prelude.{ℕ, Bool, if◌then◌else◌, Option, None, Some, List, [], ◌∷◌, ◌++◌, length, codes, decimal, true, false}, List.{flat_map, sum_by}, Global.{Vec}}
+use Rattle.judges.specs.{Outcomes.{outcomes}, Verdicts.{verdicts}, declared.{outcomes.{Answer.{Answer}, Outcome.{Outcome}}, verdicts.Verdicts.{Verdicts}}}
 use Rattle.judges.specs.declared.outcomes.Answer.TheVariants as answer
-use Rattle.judges.specs.declared.outcomes.Outcome.{Outcome}
-use Rattle.judges.specs.declared.verdicts.Verdicts.{Verdicts}
-use Rattle.process_api.specs.Order.{EntryRecord}
-use Rattle.process_api.specs.declared.print_choice.PrintChoice.{PrintChoice}
+use Rattle.process_api.specs.{Order.{EntryRecord}, declared.print_choice.PrintChoice.{PrintChoice}}
 use Rattle.process_api.specs.declared.print_choice.PrintChoice.TheVariants as choice
-use Rattle.scenario_record.specs.Record.{Record}
-use Rattle.scenario_record.specs.declared.algorithm.AlgorithmKind.{AlgorithmKind}
+use Rattle.scenario_record.specs.{Record.{Record}, declared.algorithm.AlgorithmKind.{AlgorithmKind}}
 use Rattle.scenario_record.specs.declared.algorithm.AlgorithmKind.TheVariants as kind
-use Rattle.reporting.specs.Measures.{layers, all_measures}
-use Rattle.reporting.specs.Rows.{row_of}
-use Rattle.reporting.specs.TraceText.{trace_text}
-use Rattle.reporting.specs.declared.pair_measures.PairMeasures.{PairMeasures}
-use Rattle.reporting.specs.declared.pair_measures.Detection.{Detection}
-use Rattle.reporting.specs.declared.pair_measures.Detection.TheVariants.{Na, NoTick, At}
+use Rattle.reporting.specs.{Measures.{layers, all_measures}, Rows.{row_of}, TraceText.{trace_text}, declared.pair_measures.{PairMeasures.{PairMeasures}, Detection.{Detection, TheVariants.{Na, NoTick, At}}}}
 
 abbrev pub Text : Type 0
 Text = List ℕ
@@ -61,10 +48,8 @@ run_values entries sent lost =
 abbrev pub run_text : (entries sent lost : ℕ) → Text
 run_text entries sent lost = report_rows (codes "run") 0 0 0 (run_values entries sent lost)
 
--- the verdicts on a layer
 abbrev pub verdict_values : Verdicts → List (Text × Text)
-verdict_values v =
-    (codes "strong_completeness", tick_text v.strong_completeness)
+verdict_values v = (codes "strong_completeness", tick_text v.strong_completeness)
     ∷ (codes "weak_completeness", tick_text v.weak_completeness)
     ∷ (codes "strong_accuracy", truth_text v.strong_accuracy) ∷ (codes "weak_accuracy", truth_text v.weak_accuracy)
     ∷ (codes "eventual_strong_accuracy", tick_text v.eventual_strong_accuracy)
@@ -73,10 +58,8 @@ verdict_values v =
 abbrev pub verdict_text : (layer : ℕ) → Verdicts → Text
 verdict_text layer v = report_rows (codes "verdict") layer 0 0 (verdict_values v)
 
--- the measures of a pair
 abbrev pub pair_values : PairMeasures → List (Text × Text)
-pair_values m =
-    (codes "mistakes", decimal m.mistakes) ∷ (codes "mistake_ticks", decimal m.mistake_ticks)
+pair_values m = (codes "mistakes", decimal m.mistakes) ∷ (codes "mistake_ticks", decimal m.mistake_ticks)
     ∷ (codes "recurrence_sum", decimal m.recurrence_sum) ∷ (codes "recurrence_count", decimal m.recurrence_count)
     ∷ (codes "duration_sum", decimal m.duration_sum) ∷ (codes "duration_count", decimal m.duration_count)
     ∷ (codes "good_sum", decimal m.good_sum) ∷ (codes "good_count", decimal m.good_count)
@@ -85,7 +68,6 @@ pair_values m =
 unfoldable pub pair_text : PairMeasures → Text
 pair_text m = report_rows (codes "pair") m.layer m.observer m.subject (pair_values m)
 
--- what a process decided
 abbrev pub decision_values : Outcome → List (Text × Text)
 decision_values o =
     (codes "value", answer_text o.value) ∷ (codes "tick", tick_text o.tick) ∷ (codes "rounds", decimal o.rounds) ∷ []
@@ -101,8 +83,7 @@ decisions_text kind.EventuallyStrong outcomes = flat_map decision_text outcomes
 
 -- a report's text: a header, and rows of the run, of verdicts by layer, of pairs by layer, and of decisions by process
 unfoldable pub report_text : Record → List EntryRecord → Text
-report_text S trace =
-    report_header
+report_text S trace = report_header
     ++ (run_text (length trace) (sum_by (λ e. e.sent) trace) (sum_by (λ e. e.lost) trace)
     ++ (flat_map (λ layer. verdict_text layer (verdicts S trace layer)) (layers S)
     ++ (flat_map pair_text (all_measures S trace)

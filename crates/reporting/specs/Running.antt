@@ -1,28 +1,9 @@
 -- What followers of a run were told of its trace, all that is measured of it, and what is told in a few numbers.
-use Rattle.std.specs.Prelude.{◌≡◌, ℕ, ◌*◌, ◌-◌, ◌^◌, ◌≤◌, min, Bool, true, false, Option, None, Some, is_some, List, [], length, if◌then◌else◌, ◌<◌}
-use Rattle.std.specs.Global.{Vec}
-use Rattle.std.specs.List.{sum_by}
-use Rattle.process_api.specs.Answer.{HasFollowedWhere, IsWhere}
-use Rattle.process_api.specs.Order.{EntryRecord}
-use Rattle.scenario_record.specs.Record.{Record}
-use Rattle.judges.specs.Pairs.{HasFollowed, IsDeciding}
-use Rattle.judges.specs.declared.outcomes.RunningOutcomes.{RunningOutcomes}
-use Rattle.process_api.specs.declared.print_choice.PrintChoice.{PrintChoice}
-use Rattle.judges.specs.Verdicts.{verdicts}
-use Rattle.judges.specs.Outcomes.{outcomes}
-use Rattle.judges.specs.declared.verdicts.Verdicts.{Verdicts}
-use Rattle.reporting.specs.Durations.{AreFollowing, AreDurations}
-use Rattle.reporting.specs.LayerPairs.{IsMetering}
-use Rattle.reporting.specs.ReportText.{printed, prints_report, prints_trace, Text, report_text}
-use Rattle.reporting.specs.Rows.{written}
-use Rattle.reporting.specs.TraceText.{Holds, trace_text}
-use Rattle.reporting.specs.Measures.{all_measures}
-use Rattle.reporting.specs.declared.counts.Counts.{Counts}
-use Rattle.reporting.specs.declared.layer.Layer.{Layer}
-use Rattle.reporting.specs.declared.summary.Summary.{Summary}
-use Rattle.reporting.specs.declared.trace_text.TraceText.{TraceText}
-use Rattle.reporting.specs.declared.durations.RunDurations.{RunDurations}
-use Rattle.reporting.specs.declared.findings.RunFindings.{RunFindings}
+use Rattle.std.specs.{Prelude.{◌≡◌, ℕ, ◌*◌, ◌-◌, ◌^◌, ◌≤◌, min, Bool, true, false, Option, None, Some, is_some, List, [], length, if◌then◌else◌, ◌<◌}, Global.{Vec}, List.{sum_by}}
+use Rattle.{process_api.specs.{Answer.{HasFollowedWhere, IsWhere}, Order.{EntryRecord}, declared.print_choice.PrintChoice.{PrintChoice}}, scenario_record.specs.Record.{Record}}
+use Rattle.judges.specs.{Pairs.{HasFollowed, IsDeciding}, declared.{outcomes.RunningOutcomes.{RunningOutcomes}, verdicts.Verdicts.{Verdicts}}, Verdicts.{verdicts}, Outcomes.{outcomes}}
+use Rattle.reporting.specs.{Durations.{AreFollowing, AreDurations}, LayerPairs.{IsMetering}, ReportText.{printed, prints_report, prints_trace, Text, report_text}, Rows.{written}, TraceText.{Holds, trace_text}, Measures.{all_measures}}
+use Rattle.reporting.specs.declared.{counts.Counts.{Counts}, layer.Layer.{Layer}, summary.Summary.{Summary}, trace_text.TraceText.{TraceText}, durations.RunDurations.{RunDurations}, findings.RunFindings.{RunFindings}}
 
 -- the number of entries, the sums of their letters, and the outcomes of the processes
 pub record IsSummary (S : Record) (trace : List EntryRecord) (summary : Summary) : Type 0 where
@@ -66,8 +47,7 @@ abbrev pub LayerFollowed : (first now : Layer) → List EntryRecord → Type 0
 LayerFollowed first now told = (listed : Bool) → HasFollowed (IsLayer listed) first now told
 
 abbrev pub LayersFollowed : (first now : Layer × Option Layer) → List EntryRecord → Type 0
-LayersFollowed first now told =
-    LayerFollowed first.0 now.0 told × HasFollowedWhere LayerFollowed first.1 now.1 told
+LayersFollowed first now told = LayerFollowed first.0 now.0 told × HasFollowedWhere LayerFollowed first.1 now.1 told
 
 abbrev pub SummingFollowed : (first now : Counts × RunningOutcomes) → List EntryRecord → Type 0
 SummingFollowed first now told =
@@ -77,8 +57,7 @@ abbrev pub Running : Type 0
 Running = (Counts × RunningOutcomes) × Option (Layer × Option Layer)
 
 abbrev pub RunningFollowed : (first now : Running) → List EntryRecord → Type 0
-RunningFollowed first now told =
-    SummingFollowed first.0 now.0 told × HasFollowedWhere LayersFollowed first.1 now.1 told
+RunningFollowed first now told = SummingFollowed first.0 now.0 told × HasFollowedWhere LayersFollowed first.1 now.1 told
 
 -- ---- that they were fed with nothing, or with a trace
 
@@ -115,8 +94,7 @@ module _ (S : Record) where
   module _ (print : PrintChoice) (trace : List EntryRecord) where
     -- that, and the rows of the trace where it is asked for
     abbrev pub IsRecording : Running × Option TraceText → Type 0
-    IsRecording r =
-        IsRunning trace (prints_report print) r.0
+    IsRecording r = IsRunning trace (prints_report print) r.0
         × IsWhere (prints_trace print) (λ (t : TraceText). Holds t (trace_text trace)) r.1
 
     -- the summary of the trace, and the texts that are asked for
@@ -139,15 +117,13 @@ TellsFindings measuring found =
 
 -- what follows a run tells this summary and, where it is asked for, this report
 abbrev pub TellsOf : Record → Running → Summary × Option (Vec ℕ) → Type 0
-TellsOf S running told =
-    (trace : List EntryRecord) (reported : Bool) → IsRunning S trace reported running
+TellsOf S running told = (trace : List EntryRecord) (reported : Bool) → IsRunning S trace reported running
     → length trace < 2 ^ 64 → IsToldOf S trace reported told
 
 module _ (S : Record) (recording : Running × Option TraceText) where
   -- this holds of what is asked for of the run, and of its trace
   abbrev pub OfRecorded : (PrintChoice → List EntryRecord → Type 0) → Type 0
-  OfRecorded holds =
-      (print : PrintChoice) (trace : List EntryRecord) → IsRecording S print trace recording
+  OfRecorded holds = (print : PrintChoice) (trace : List EntryRecord) → IsRecording S print trace recording
       → length trace < 2 ^ 64 → holds print trace
 
   -- this holds of the texts that are asked for

@@ -1,13 +1,6 @@
 -- The steps of a tally, which counts as a suspicion starts, goes on and ends, and what it tells.
-use Rattle.std.specs.Prelude.{ℕ, ◌+◌, ◌-◌, ◌*◌, ◌^◌, ◌<◌, ◌≤◌, min, Bool, false, if◌then◌else◌, nat_lt, Option, None, Some, unwrap_or}
-use Rattle.std.specs.Option.{ForSome}
-use Rattle.judges.specs.declared.track.Track.{Track}
-use Rattle.reporting.specs.Measures.{delay_after}
-use Rattle.reporting.specs.declared.pair_measures.Detection.{Detection}
-use Rattle.reporting.specs.declared.pair_measures.Detection.TheVariants.{Na}
-use Rattle.reporting.specs.declared.pair_measures.PairMeasures.{PairMeasures}
-use Rattle.reporting.specs.declared.tally.Distances.{Distances}
-use Rattle.reporting.specs.declared.tally.Tally.{Tally}
+use Rattle.std.specs.{Prelude.{ℕ, ◌+◌, ◌-◌, ◌*◌, ◌^◌, ◌<◌, ◌≤◌, min, Bool, false, if◌then◌else◌, nat_lt, Option, None, Some, unwrap_or}, Option.{ForSome}}
+use Rattle.{judges.specs.declared.track.Track.{Track}, reporting.specs.{Measures.{delay_after}, declared.{pair_measures.{Detection.{Detection, TheVariants.{Na}}, PairMeasures.{PairMeasures}}, tally.{Distances.{Distances}, Tally.{Tally}}}}}
 
 -- an amount of the distance from a tick, if there is one, to a tick below the end
 abbrev pub gain : (ℕ → ℕ) → (from : Option ℕ) → (to end : ℕ) → ℕ

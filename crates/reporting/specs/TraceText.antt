@@ -1,12 +1,7 @@
 -- The text of a trace.
-use Rattle.std.specs.Prelude.{◌≡◌, ℕ, List, [], ◌∷◌, ◌++◌, map, codes, decimal}
-use Rattle.std.specs.List.{join_with_byte, flat_map}
-use Rattle.csv.specs.Writing.{default_writer, writer_under}
-use Rattle.process_api.specs.Order.{EntryRecord}
-use Rattle.process_api.specs.declared.action.Note.{Note}
-use Rattle.process_api.specs.declared.action.Note.TheVariants.{Suspect, Trust, Round, Decided, NoValue}
-use Rattle.reporting.specs.Rows.{kind_text, row_of, IsBetween, written}
-use Rattle.reporting.specs.declared.trace_text.TraceText.{TraceText}
+use Rattle.std.specs.{Prelude.{◌≡◌, ℕ, List, [], ◌∷◌, ◌++◌, map, codes, decimal}, List.{join_with_byte, flat_map}}
+use Rattle.{csv.specs.Writing.{default_writer, writer_under}, process_api.specs.{Order.{EntryRecord}, declared.action.Note.{Note, TheVariants.{Suspect, Trust, Round, Decided, NoValue}}}}
+use Rattle.reporting.specs.{Rows.{kind_text, row_of, IsBetween, written}, declared.trace_text.TraceText.{TraceText}}
 
 abbrev pub space : ℕ
 space = 32

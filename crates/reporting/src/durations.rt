@@ -1,7 +1,6 @@
 //! How long each mistake was that ended.
 ghost use Rattle.std.specs.Prelude.{◌≡◌, ℕ, ◌*◌, ◌≤◌, ◌<◌, ◌^◌, ◌++◌, ◌∷◌, [], List, length, vec_len, IfOk, OnOk};
-ghost use Rattle.process_api.specs.Order.{EntryRecord};
-ghost use Rattle.scenario_record.specs.Record.{Record};
+ghost use Rattle.{process_api.specs.Order.{EntryRecord}, scenario_record.specs.Record.{Record}};
 ghost use Rattle.reporting.specs.Durations.{AreCaught, caught, lists_in, ticks_between};
 
 use crate::layer_pairs::{places, tally_at};
@@ -62,8 +61,7 @@ pub struct Durations {
 }
 
 impl Durations {
-    ghost use Rattle.reporting.specs.Durations.{AreFollowing, lengths_of};
-    ghost use Rattle.reporting.specs.Inside.Layers.{AreClosed, FollowOn};
+    ghost use Rattle.reporting.specs.{Durations.{AreFollowing, lengths_of}, Inside.Layers.{AreClosed, FollowOn}};
 
     /// Of so many processes, whose counts were fed with nothing.
     pub(crate) fn open(alloc: Global, processes: u16) -> Result<Durations, AllocError>

@@ -1,7 +1,6 @@
 //! The followers of a run, put together.
 ghost use Rattle.std.specs.Prelude.{◌≡◌, [], IfOk};
-ghost use Rattle.reporting.specs.ReportText.{prints_report, prints_trace};
-ghost use Rattle.reporting.specs.Running.{AreLayers, IsMeasuring, IsRecording, IsRunning, IsSumming};
+ghost use Rattle.reporting.specs.{ReportText.{prints_report, prints_trace}, Running.{AreLayers, IsMeasuring, IsRecording, IsRunning, IsSumming}};
 
 use crate::asked::{prints_report, prints_trace};
 use crate::counts::Counts;

@@ -1,7 +1,5 @@
 //! An outlet that fails after a while.
-ghost use Rattle.std.specs.Prelude.{◌≡◌, ◌⊎◌, ◌<◌, ◌≤◌, ◌+◌, ◌-◌, ◌^◌, ◌++◌, [], Some, IfOk, IfErr, MatchResult, length, min, take};
-ghost use Rattle.std.specs.IoError.{error_kind};
-ghost use Rattle.std.specs.declared.io.ErrorKind.TheVariants.{OutOfMemory};
+ghost use Rattle.std.specs.{Prelude.{◌≡◌, ◌⊎◌, ◌<◌, ◌≤◌, ◌+◌, ◌-◌, ◌^◌, ◌++◌, [], Some, IfOk, IfErr, MatchResult, length, min, take}, IoError.{error_kind}, declared.io.ErrorKind.TheVariants.{OutOfMemory}};
 ghost use Rattle.reporting.specs.Outlet.{failures_of};
 
 use crate::outlet::Outlet;

@@ -27,8 +27,7 @@ pub struct Layer {
 }
 
 impl Layer {
-    ghost use Rattle.reporting.specs.Inside.Layers.{AreVerdicts, AreLengths, HaveMeasures};
-    ghost use Rattle.reporting.specs.Running.{IsLayer};
+    ghost use Rattle.reporting.specs.{Inside.Layers.{AreVerdicts, AreLengths, HaveMeasures}, Running.{IsLayer}};
 
     /// Nothing was fed.
     pub(crate) fn open(

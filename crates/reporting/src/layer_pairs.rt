@@ -1,8 +1,6 @@
 //! The counts of all pairs on one layer, and the numbers that are told of them.
 ghost use Rattle.std.specs.Prelude.{◌≡◌, ◌*◌, ◌++◌, ◌<◌, OnOk};
-ghost use Rattle.reporting.specs.Durations.{tally_at};
-ghost use Rattle.reporting.specs.Inside.Layers.{JoinMeasures};
-ghost use Rattle.reporting.specs.LayerPairs.{closed_row, metered};
+ghost use Rattle.reporting.specs.{Durations.{tally_at}, Inside.Layers.{JoinMeasures}, LayerPairs.{closed_row, metered}};
 
 use crate::meter::{Meter, crash_between};
 use crate::pair_measures::PairMeasures;

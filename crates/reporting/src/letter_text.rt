@@ -1,7 +1,6 @@
 //! The text of letters.
 ghost use Rattle.std.specs.Prelude.{◌≡◌, ◌++◌, IfOk, OnOk};
-ghost use Rattle.reporting.specs.LettersText.{fate_text, number_text, fields_of, letters_text as text_for};
-ghost use Rattle.reporting.specs.Rows.{IsBetweenRows, row_of, text_of};
+ghost use Rattle.reporting.specs.{LettersText.{fate_text, number_text, fields_of, letters_text as text_for}, Rows.{IsBetweenRows, row_of, text_of}};
 
 use crate::kinds::name_of_kind;
 use crate::letter::{Letter, LetterFate};

@@ -1,7 +1,6 @@
 //! A meter: the measures of one pair on one layer, in constant memory.
 ghost use Rattle.std.specs.Prelude.{◌≡◌, [], ℕ, List};
-ghost use Rattle.process_api.specs.Order.{EntryRecord};
-ghost use Rattle.scenario_record.specs.Record.{Record};
+ghost use Rattle.{process_api.specs.Order.{EntryRecord}, scenario_record.specs.Record.{Record}};
 ghost use Rattle.reporting.specs.Meter.{closed, crash_between, opened, IsFed, WasFed};
 
 use crate::pair_measures::PairMeasures;

@@ -1,8 +1,6 @@
 //! The text of an entry's notes.
-ghost use Rattle.std.specs.Prelude.{◌≡◌, ◌++◌, ◌∷◌, decimal, OnOk};
-ghost use Rattle.std.specs.List.{flat_map};
-ghost use Rattle.reporting.specs.Inside.Plain.{IsPlain};
-ghost use Rattle.reporting.specs.TraceText.{note_text, notes_text};
+ghost use Rattle.std.specs.{Prelude.{◌≡◌, ◌++◌, ◌∷◌, decimal, OnOk}, List.{flat_map}};
+ghost use Rattle.reporting.specs.{Inside.Plain.{IsPlain}, TraceText.{note_text, notes_text}};
 
 use crate::digits::digits_of;
 use itoa::Buffer;

@@ -1,6 +1,5 @@
 //! Where texts go.
-ghost use Rattle.std.specs.Prelude.{◌≡◌, ℕ, ◌+◌, ◌-◌, ◌^◌, ◌<◌, ◌≤◌, List, take, length, Option, IfOk, MatchResult, IsTrue, None, if◌then◌else◌};
-ghost use Rattle.std.specs.Io.KnownBytes.{Appends, Keeps};
+ghost use Rattle.std.specs.{Prelude.{◌≡◌, ℕ, ◌+◌, ◌-◌, ◌^◌, ◌<◌, ◌≤◌, List, take, length, Option, IfOk, MatchResult, IsTrue, None, if◌then◌else◌}, Io.KnownBytes.{Appends, Keeps}};
 ghost use Rattle.reporting.specs.Outlet.{failures_of, Grows};
 
 use std::io;

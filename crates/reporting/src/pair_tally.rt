@@ -13,8 +13,7 @@ pub(crate) struct PairTally {
 }
 
 impl Model for PairTally {
-    ghost use Rattle.reporting.specs.Tally.{InRange};
-    ghost use Rattle.reporting.specs.declared.tally.Tally.{Tally};
+    ghost use Rattle.reporting.specs.{Tally.{InRange}, declared.tally.Tally.{Tally}};
 
     ghost Value = { Tally };
 

@@ -1,9 +1,6 @@
 //! The text of a report.
-ghost use Rattle.std.specs.Prelude.{◌≡◌, ◌++◌, IfOk, OnOk};
-ghost use Rattle.std.specs.List.{flat_map};
-ghost use Rattle.reporting.specs.Inside.Findings.{found_text, layers_text};
-ghost use Rattle.reporting.specs.ReportText.{pair_text, decision_text, decisions_text};
-ghost use Rattle.reporting.specs.Rows.{IsBetweenRows, text_of};
+ghost use Rattle.std.specs.{Prelude.{◌≡◌, ◌++◌, IfOk, OnOk}, List.{flat_map}};
+ghost use Rattle.reporting.specs.{Inside.Findings.{found_text, layers_text}, ReportText.{pair_text, decision_text, decisions_text}, Rows.{IsBetweenRows, text_of}};
 
 use crate::findings::RunFindings;
 use crate::pair_measures::PairMeasures;

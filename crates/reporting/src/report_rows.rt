@@ -1,8 +1,6 @@
 //! Rows of a report.
 ghost use Rattle.std.specs.Prelude.{◌≡◌, ◌++◌, map, IfOk, OnOk};
-ghost use Rattle.reporting.specs.ReportText.{run_text, verdict_text, pair_text, decision_text};
-ghost use Rattle.reporting.specs.Rows.{IsBetweenRows, text_of};
-ghost use Rattle.reporting.specs.Inside.Findings.{front_of, rows_about, value_text};
+ghost use Rattle.reporting.specs.{ReportText.{run_text, verdict_text, pair_text, decision_text}, Rows.{IsBetweenRows, text_of}, Inside.Findings.{front_of, rows_about, value_text}};
 
 use crate::pair_measures::PairMeasures;
 use crate::rows::Rows;

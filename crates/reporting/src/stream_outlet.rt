@@ -1,6 +1,5 @@
 //! An outlet over a writer.
-ghost use Rattle.std.specs.Prelude.{◌≡◌};
-ghost use Rattle.std.specs.Io.KnownBytes.{Keeps};
+ghost use Rattle.std.specs.{Prelude.{◌≡◌}, Io.KnownBytes.{Keeps}};
 
 use crate::outlet::Outlet;
 use std::io::{self, Write};

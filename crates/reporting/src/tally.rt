@@ -1,6 +1,5 @@
 //! The counts of a pair so far, and the measures that they are at the horizon.
-ghost use Rattle.std.specs.Prelude.{◌≡◌, ◌+◌, ◌<◌, ◌≤◌, ◌^◌, if◌then◌else◌, None};
-ghost use Rattle.std.specs.Option.{ForSome};
+ghost use Rattle.std.specs.{Prelude.{◌≡◌, ◌+◌, ◌<◌, ◌≤◌, ◌^◌, if◌then◌else◌, None}, Option.{ForSome}};
 ghost use Rattle.reporting.specs.Tally.{HasRoom, InRange, begun, detected, finished, grown, moved, told};
 
 use crate::pair_measures::{Detection, PairMeasures};

@@ -1,9 +1,7 @@
 //! The numbers that are told of a run, once no entry follows.
 ghost use Rattle.std.specs.Prelude.{◌≡◌, ◌<◌, ◌^◌, ◌++◌, List, true, IfOk, OnOk, length};
-ghost use Rattle.process_api.specs.Order.{EntryRecord};
-ghost use Rattle.scenario_record.specs.Record.{Record};
-ghost use Rattle.reporting.specs.Inside.Layers.{AreSecondVerdicts, AreSecondLengths, HaveSecondMeasures};
-ghost use Rattle.reporting.specs.Running.{AreRunDurations, IsSummary, IsMeasuring, IsSumming, TellsRun, rows_of, OfRecorded, TellsFindings, TellsOf};
+ghost use Rattle.{process_api.specs.Order.{EntryRecord}, scenario_record.specs.Record.{Record}};
+ghost use Rattle.reporting.specs.{Inside.Layers.{AreSecondVerdicts, AreSecondLengths, HaveSecondMeasures}, Running.{AreRunDurations, IsSummary, IsMeasuring, IsSumming, TellsRun, rows_of, OfRecorded, TellsFindings, TellsOf}};
 ghost use Rattle.reporting.specs.ReportText.{items_of};
 
 use crate::durations::{Durations, RunDurations};

@@ -1,10 +1,7 @@
 //! The text of a trace.
 ghost use Rattle.std.specs.Prelude.{◌≡◌, ◌++◌, [], List, ℕ, IfOk, OnOk, length, map};
 ghost use Rattle.csv.specs.Writing.{default_writer};
-ghost use Rattle.reporting.specs.Inside.Plain.{IsPlain, ArePlain};
-ghost use Rattle.reporting.specs.Inside.RowTexts.{WroteRow, texts_of};
-ghost use Rattle.reporting.specs.Rows.{kind_text, row_of, written, IsBetween};
-ghost use Rattle.reporting.specs.TraceText.{Holds, fields_of, handed, trace_text};
+ghost use Rattle.reporting.specs.{Inside.{Plain.{IsPlain, ArePlain}, RowTexts.{WroteRow, texts_of}}, Rows.{kind_text, row_of, written, IsBetween}, TraceText.{Holds, fields_of, handed, trace_text}};
 
 use crate::digits::Digits;
 use crate::kinds::name_of_kind;

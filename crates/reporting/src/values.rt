@@ -1,7 +1,6 @@
 //! Values of a report.
 ghost use Rattle.std.specs.Prelude.{◌≡◌};
-ghost use Rattle.reporting.specs.Inside.Findings.{value_text};
-ghost use Rattle.reporting.specs.ReportText.{truth_text, tick_text, detection_text, answer_text};
+ghost use Rattle.reporting.specs.{Inside.Findings.{value_text}, ReportText.{truth_text, tick_text, detection_text, answer_text}};
 
 use crate::pair_measures::Detection;
 use itoa::Buffer;

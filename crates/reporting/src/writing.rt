@@ -1,9 +1,6 @@
 //! Writing the texts of a finished trace.
 ghost use Rattle.std.specs.Prelude.{◌≡◌, ◌≢◌, ◌^◌, ◌-◌, ◌<◌, Err, OnOk, IfErr, IfOk};
-ghost use Rattle.reporting.specs.ReportText.{items_of, report_text};
-ghost use Rattle.reporting.specs.Running.{IsSummary, OfPrinted, OfRecorded};
-ghost use Rattle.reporting.specs.TraceText.{trace_text};
-ghost use Rattle.reporting.specs.Outlet.{Wrote, WrotePart, WroteNothing};
+ghost use Rattle.reporting.specs.{ReportText.{items_of, report_text}, Running.{IsSummary, OfPrinted, OfRecorded}, TraceText.{trace_text}, Outlet.{Wrote, WrotePart, WroteNothing}};
 
 use crate::following::{Recording, open_running};
 use crate::outlet::{Outlet, put_all};

@@ -1,6 +1,5 @@
 //! Scenarios, axes and traces for tests, these in the form in which a trace is printed.
-ghost use Rattle.std.specs.Prelude.{IsTrue, OnOk};
-ghost use Rattle.process_api.specs.Order.{is_rising};
+ghost use Rattle.{std.specs.Prelude.{IsTrue, OnOk}, process_api.specs.Order.{is_rising}};
 
 use crate::comparisons::NO_MEMORY;
 use process_api::{Entry, Key, Kind, Note, Pid, Trace};

@@ -1,6 +1,5 @@
 //! Deques from which two workers steal at once, and seven of which the farthest alone has an item.
-ghost use Rattle.std.specs.Prelude.{◌≡◌, ◌<◌, IfOk, IfSome};
-ghost use Rattle.std.specs.List.{All};
+ghost use Rattle.std.specs.{Prelude.{◌≡◌, ◌<◌, IfOk, IfSome}, List.{All}};
 
 use crate::common::{NO_MEMORY, same};
 use deques::{Front, Hand, deal};

@@ -1,7 +1,6 @@
 //! Letters that are posted by slips and come out of mailboxes: none, some, by one thread and by several.
 ghost use Rattle.std.specs.Prelude.{◌≡◌, ◌≤◌, length};
-ghost use Rattle.process_api.specs.Place.{most_processes};
-ghost use Rattle.mailboxes.specs.Mailboxes.{IsSlipOf};
+ghost use Rattle.{process_api.specs.Place.{most_processes}, mailboxes.specs.Mailboxes.{IsSlipOf}};
 
 use crate::common::{NO_MEMORY, pid, same};
 use mailboxes::{Inbox, Mailboxes, SharedMailboxes, Slip};

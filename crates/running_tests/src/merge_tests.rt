@@ -1,7 +1,6 @@
 //! The example of the page of the crate `trace_merge`, and parts that are merged in pieces.
 ghost use Rattle.std.specs.Prelude.{◌≡◌, ◌≢◌, ◌∷◌, [], IfOk, IsTrue, map};
-ghost use Rattle.process_api.specs.Order.{is_rising};
-ghost use Rattle.trace_merge.specs.Parts.{AreDisjoint};
+ghost use Rattle.{process_api.specs.Order.{is_rising}, trace_merge.specs.Parts.{AreDisjoint}};
 
 use crate::common::{NO_MEMORY, own_key, pid, same};
 use process_api::{Entry, Key, Kind};

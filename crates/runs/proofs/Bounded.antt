@@ -1,8 +1,7 @@
 -- Every row of layer 1 keeps to the bounds.
 use Rattle.runs.proofs.Words.{◌≡◌, inl, inr, ℕ, zero, suc, ◌-◌, ◌<◌, ◌≤◌, refl, sym, ap, ◌∙◌, subst, Bool, true, not, cond, arith, List, unwrap_or, cond-true, cond-false, cases_Bool, lt-ltb, le-ltb, EntryRecord, both_true, and_true, Record, crash_tick, is_crashed, is_correct, end_of, suspects, all_from, least_from, all_from-from, CrashesAt, KeepsBounds, detected_at, IsBounded, KeepsToBounds, count_below, delay_after, detection, is_measured, measured, pair_measures, starts, At, Na}
-use Rattle.judges.specs.Verdicts.{IsCorrect}
+use Rattle.{runs.proofs.Least.{least_by}, judges.specs.Verdicts.{IsCorrect}}
 use Rattle.detector_bounds.specs.Detected.{IsReliable, Watches}
-use Rattle.runs.proofs.Least.{least_by}
 
 -- ---- ticks
 

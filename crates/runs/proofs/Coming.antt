@@ -1,12 +1,12 @@
 -- Letters, and what the trace has of them.
 use Rattle.runs.proofs.Words.{◌≡◌, ◌≢◌, ◌⊎◌, ◌+◌, ◌<◌, inl, inr, refl, sym, ap, ◌∙◌, subst, Bool, true, false, cond, true≢false, nat_le, List, [], ◌∷◌, map, Some, arith, leb-false, lt-leb, EntryRecord, Key, IsInRange, Record, Fate, Posted, posted_in, posted_along, setting_of, Setting, IsSound, has_crashed, Event, kind_of, kind_of_payload, World, Has, IsWorld, Run, opening, taken, entries, IsTrace, closed_of_run, opening_world, starts_are, one_run, setting_sound, in_append, in_images, in_left, in_right, of_images, due_of, fate_of, letter_of, AreLetters, IsEntryOf, AreInTrace, Letter}
+use Rattle.runs.proofs.OneStep.{event_of, Becomes, step_joins, step_posted, step_kind}
 use Rattle.process_api.specs.declared.entry.Kind.TheVariants as kind
 use Rattle.streams.specs.declared.fate.Fate.TheVariants as link
 use Rattle.trace_laws.specs.History.{IsIn, IsTaken, Pair}
 use Rattle.trace_laws.proofs.Worlds.{taken_cases, taken_new, taken_world}
 use Rattle.reporting.specs.declared.letter.LetterFate.{LetterFate}
 use Rattle.reporting.specs.declared.letter.LetterFate.TheVariants as fate
-use Rattle.runs.proofs.OneStep.{event_of, Becomes, step_joins, step_posted, step_kind}
 
 -- ---- fates
 

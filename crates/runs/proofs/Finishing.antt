@@ -1,15 +1,9 @@
 -- A run from its trace to its texts: what it leaves once it is done, and once it is refused.
-use Rattle.runs.proofs.Words.{◌≡◌, ◌≢◌, ℕ, ◌<◌, sym, subst, refl, List, length, Option, Result, Ok, Err, IfOk, IfErr, OnOk, setting_of, IsTrace, Agree, agrees, EntryRecord, IsInRange, Record}
+use Rattle.runs.proofs.{Words.{◌≡◌, ◌≢◌, ℕ, ◌<◌, sym, subst, refl, List, length, Option, Result, Ok, Err, IfOk, IfErr, OnOk, setting_of, IsTrace, Agree, agrees, EntryRecord, IsInRange, Record}, Resting.{has_grounds}}
 use Rattle.trace_laws.specs.History.{HasCauses, TakesOnce}
-use Rattle.process_api.specs.declared.run_error.RunError.{RunError}
-use Rattle.process_api.specs.declared.run_error.RunError.TheVariants.{Limit, Memory, Spawn, Write}
-use Rattle.reporting.specs.ReportText.{printed}
+use Rattle.process_api.specs.declared.{run_error.RunError.{RunError, TheVariants.{Limit, Memory, Spawn, Write}}, print_choice.PrintChoice.{PrintChoice}}
+use Rattle.reporting.specs.{ReportText.{printed}, Running.{IsSummary}, Outlet.{Wrote, WrotePart, WroteNothing}, declared.summary.Summary.{Summary}}
 use Rattle.runs.specs.Finishing.{IsTraceWithin, Finishes, Refuses}
-use Rattle.reporting.specs.Running.{IsSummary}
-use Rattle.reporting.specs.Outlet.{Wrote, WrotePart, WroteNothing}
-use Rattle.runs.proofs.Resting.{has_grounds}
-use Rattle.process_api.specs.declared.print_choice.PrintChoice.{PrintChoice}
-use Rattle.reporting.specs.declared.summary.Summary.{Summary}
 
 module _ (S : Record) (print : PrintChoice) {O : Type 0} (told : O → Option (List ℕ)) (failed : O → ℕ) (old new : O) where
   -- nothing was written yet

@@ -1,11 +1,9 @@
 -- As many letters are lost as the entries of the trace count.
 use Rattle.runs.proofs.Words.{◌≡◌, ℕ, ◌+◌, refl, sym, ap, ◌∙◌, Bool, true, false, cond, List, [], ◌∷◌, map, nat_le, arith, ◌==◌, sum_by-append, sum_by-cons, EntryRecord, Action, Key, StepInput, Record, Fate, Posted, posting, posted_by, posted_in, posted_along, setting_of, Setting, has_crashed, one_run, letter_of, due_of, fate_of, AreLetters, AreLostAs, is_lost, Letter}
-use Rattle.std.specs.List.{count_by, sum_by}
+use Rattle.{runs.proofs.OneStep.{step_cases}, std.specs.List.{count_by, sum_by}}
 use Rattle.process_api.specs.declared.action.Action.TheVariants.{Send, Wake, Note}
 use Rattle.streams.specs.declared.fate.Fate.TheVariants as link
-use Rattle.trace_laws.specs.Step.{Process, counted, is_lost as loses, lost, lost_by, step}
-use Rattle.trace_laws.specs.World.{World, Pair, IsTrace, Run, entries, opening, taken}
-use Rattle.runs.proofs.OneStep.{step_cases}
+use Rattle.trace_laws.specs.{Step.{Process, counted, is_lost as loses, lost, lost_by, step}, World.{World, Pair, IsTrace, Run, entries, opening, taken}}
 use Rattle.reporting.specs.declared.letter.LetterFate.TheVariants as fate
 
 module _ {Mind : Type 0} (S : Setting Mind) where

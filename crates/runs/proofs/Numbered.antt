@@ -1,9 +1,8 @@
 -- On each link letters are numbered from 1, without a gap.
 use Rattle.runs.proofs.Words.{◌≡◌, ◌≢◌, ℕ, ◌+◌, refl, sym, ap, ◌∙◌, subst, Bool, true, false, cond, List, [], ◌∷◌, ◌++◌, filter, length, map, arith, ◌==◌, ◌&&◌, range_with_len, filter-append, eqb-true, eqb-false, eq-eqb, ne_eqb, Action, Key, StepInput, Record, Posted, posting, posted_by, posted_in, posted_along, setting_of, Setting, Process, counted, counts_after, raised, step, letter_of, AreLetters, AreNumbered, numbers_on, Letter}
-use Rattle.std.proofs.lemmas.List.{length-append, map-append}
+use Rattle.{runs.proofs.OneStep.{step_cases}, std.proofs.lemmas.List.{length-append, map-append}}
 use Rattle.process_api.specs.declared.action.Action.TheVariants.{Send, Wake, Note}
 use Rattle.trace_laws.specs.World.{World, Pair, opening, taken}
-use Rattle.runs.proofs.OneStep.{step_cases}
 
 -- ---- numbers that follow one another
 

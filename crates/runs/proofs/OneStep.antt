@@ -1,8 +1,7 @@
 -- Letters of one step, and the events that they become.
 use Rattle.runs.proofs.Words.{◌≡◌, ◌≢◌, ℕ, ◌+◌, ◌<◌, inl, inr, refl, sym, ap, ◌∙◌, subst, Bool, true, false, cond, List, [], ◌∷◌, arith, ◌==◌, lt-ltb, Action, Key, StepInput, Fate, IsIn, Posted, posting, posted_by, posted_in, Setting, has_crashed, Event, Process, Made, in_time, by_fate, counted, joining, added, step, made_by, dead, kind_of, in_append, in_left, in_right, in_time_is}
-use Rattle.process_api.specs.declared.action.Action.TheVariants.{Send, Wake, Note}
+use Rattle.process_api.specs.declared.{action.Action.TheVariants.{Send, Wake, Note}, message.Payload.{Payload}}
 use Rattle.process_api.specs.declared.entry.Kind.TheVariants as kind
-use Rattle.process_api.specs.declared.message.Payload.{Payload}
 use Rattle.process_api.specs.declared.message.StepInput.TheVariants as input
 use Rattle.streams.specs.declared.fate.Fate.TheVariants as link
 

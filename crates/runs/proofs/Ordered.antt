@@ -1,11 +1,8 @@
 -- Letters in the order of the steps that send them.
 use Rattle.runs.proofs.Words.{◌≡◌, ◌⊎◌, ℕ, ◌+◌, ◌<◌, ◌≤◌, inl, inr, refl, sym, ◌∙◌, subst, Bool, true, false, cond, Less, List, [], ◌∷◌, ◌++◌, map, arith, ◌==◌, AllByRecursion, All-from_recursion, both, images, weaker, Action, Key, StepInput, IsInRange, Record, Posted, posting, posted_by, posted_in, posted_along, setting_of, Setting, Process, counted, World, opening, taken, trace_is_closed, setting_sound, letter_of, IsNotAfter, AreInOrder, AreLetters, Letter}
-use Rattle.std.proofs.lemmas.Bool.Decides.{nat_tests}
-use Rattle.process_api.specs.Order.{key_cmp}
-use Rattle.process_api.specs.declared.action.Action.TheVariants.{Send, Wake, Note}
-use Rattle.trace_laws.specs.History.{IsIn, Pair}
-use Rattle.trace_laws.proofs.Rising.{IsRising, rising_pairs}
-use Rattle.runs.proofs.OneStep.{step_cases}
+use Rattle.{runs.proofs.OneStep.{step_cases}, std.proofs.lemmas.Bool.Decides.{nat_tests}}
+use Rattle.process_api.specs.{Order.{key_cmp}, declared.action.Action.TheVariants.{Send, Wake, Note}}
+use Rattle.{trace_laws.specs.History.{IsIn, Pair}, trace_laws.proofs.Rising.{IsRising, rising_pairs}}
 
 -- of two keys that rise, the tick rises, or else the receiver doesn't fall
 step_first : (a b : Key) → key_cmp a b ≡ Less → (a.tick < b.tick) ⊎ ((a.tick ≡ b.tick) × (a.receiver ≤ b.receiver))

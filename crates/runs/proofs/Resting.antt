@@ -1,12 +1,9 @@
 -- Every row of layer 2 with a mistake or a detection rests on an earlier suspicion of layer 1, and every row of layer 1
 -- keeps to the bounds.
 use Rattle.runs.proofs.Words.{◌≡◌, inl, inr, ℕ, zero, suc, ◌<◌, ◌≤◌, refl, sym, subst, Bool, true, arith, List, [], ◌∷◌, map, Option, None, Some, All, AllByRecursion, flat_map, cases_Bool, cond-false, cond_both, All-from_recursion, EntryRecord, both, images, always, both_true, IsInRange, Record, setting_of, IsTrace, crash_tick, end_of, suspects, all_from, least_from, blamed_by_out, shares_suspicions, all_from-at, KeepsBounds, IsBounded, HasGrounds, HasBlame, RestsOnBlame, count_below, starts, delay_after, is_measured, detection, measured, pair_measures, layer_measures, layers, all_measures, Na, At}
-use Rattle.process_api.specs.Place.{numbers_to, others}
-use Rattle.judges.proofs.Meaning.{verdicts_mean}
-use Rattle.detector_bounds.proofs.Kept.{bounds_kept}
+use Rattle.{runs.proofs.{Bounded.{bounded}, Least.{least_passes}}, process_api.specs.Place.{numbers_to, others}}
+use Rattle.{judges.proofs.Meaning.{verdicts_mean}, detector_bounds.proofs.Kept.{bounds_kept}}
 use Rattle.reporting.specs.declared.pair_measures.PairMeasures.{PairMeasures}
-use Rattle.runs.proofs.Bounded.{bounded}
-use Rattle.runs.proofs.Least.{least_passes}
 
 -- ---- ticks
 

@@ -1,7 +1,6 @@
 -- Counts of trusts, with more.
 use Rattle.runs.proofs.Words.{◌≡◌, ◌≢◌, ℕ, suc, ◌+◌, ◌-◌, ◌*◌, ◌/◌, ◌%◌, ◌<◌, ◌≤◌, min, Bool, true, false, cond, inl, inr, refl, sym, ap, ◌∙◌, arith, eqb, List, [], ◌∷◌, ◌++◌, append-nil, set, length, take, get_or, filter, count_by, length-append, cases_eq, cond-true, cond-false, cond_both, eq-eqb, eqb-true, ne_eqb, get_or-set_same, get_or-set_other, length-set, take_more, filter-append, sum_by-append, sum_by-cons, EntryRecord, is_trust, trusts, AreCounts, most_trusts}
-use Rattle.std.proofs.lemmas.Nat.{mul-add-lt, div-mul-add, mod-mul-add}
-use Rattle.process_api.specs.declared.action.Note.{Note}
+use Rattle.{std.proofs.lemmas.Nat.{mul-add-lt, div-mul-add, mod-mul-add}, process_api.specs.declared.action.Note.{Note}}
 use Rattle.judges.specs.Outcomes.{timed, notes_of}
 
 -- ---- of an observer and a subject

@@ -1,26 +1,11 @@
 -- What a run leaves and tells. How often each process was trusted again, as it is counted.
 use Rattle.std.specs.Prelude.{◌≡◌, ◌≢◌, ◌⊎◌, ◌<◌, ◌≤◌, ◌*◌, ◌^◌, ℕ, List, ◌++◌, length, Option, IsTrue, suc, ◌+◌, ◌-◌, min, get_or}
-use Rattle.process_api.specs.Order.{EntryRecord}
-use Rattle.process_api.specs.declared.print_choice.PrintChoice.{PrintChoice}
+use Rattle.process_api.specs.{Order.{EntryRecord}, declared.{print_choice.PrintChoice.{PrintChoice}, run_error.RunError.{RunError, TheVariants.{Limit, Memory, Write}}}}
 use Rattle.process_api.specs.declared.print_choice.PrintChoice.TheVariants as choice
-use Rattle.process_api.specs.declared.run_error.RunError.{RunError}
-use Rattle.process_api.specs.declared.run_error.RunError.TheVariants.{Limit, Memory, Write}
-use Rattle.scenario_record.specs.Record.{Record}
-use Rattle.scenario_record.specs.declared.algorithm.AlgorithmKind.TheVariants.{EventuallyStrong}
-use Rattle.trace_laws.specs.History.{HasCauses, TakesOnce}
-use Rattle.trace_laws.specs.Setting.{setting_of}
-use Rattle.trace_laws.specs.World.{IsTrace}
-use Rattle.judges.specs.Agreement.{Agree, DecidesOnce}
-use Rattle.detector_bounds.specs.Detected.{trusts}
-use Rattle.reporting.specs.Running.{AreFindings, AreRunDurations, IsSummary}
-use Rattle.reporting.specs.ReportText.{printed, prints_trace, Text}
-use Rattle.reporting.specs.TraceText.{trace_text}
-use Rattle.reporting.specs.Outlet.{Wrote, WrotePart, WroteNothing}
-use Rattle.reporting.specs.declared.durations.RunDurations.{RunDurations}
-use Rattle.reporting.specs.declared.findings.RunFindings.{RunFindings}
-use Rattle.reporting.specs.declared.summary.Summary.{Summary}
-use Rattle.runs.specs.Grounds.{HasGrounds}
-use Rattle.runs.specs.declared.trusts.Trusts.{Trusts}
+use Rattle.{scenario_record.specs.{Record.{Record}, declared.algorithm.AlgorithmKind.TheVariants.{EventuallyStrong}}, trace_laws.specs.{History.{HasCauses, TakesOnce}, Setting.{setting_of}, World.{IsTrace}}}
+use Rattle.{judges.specs.Agreement.{Agree, DecidesOnce}, detector_bounds.specs.Detected.{trusts}}
+use Rattle.reporting.specs.{Running.{AreFindings, AreRunDurations, IsSummary}, ReportText.{printed, prints_trace, Text}, TraceText.{trace_text}, Outlet.{Wrote, WrotePart, WroteNothing}}
+use Rattle.{reporting.specs.declared.{durations.RunDurations.{RunDurations}, findings.RunFindings.{RunFindings}, summary.Summary.{Summary}}, runs.specs.{Grounds.{HasGrounds}, declared.trusts.Trusts.{Trusts}}}
 
 -- a count stays at the greatest number of 32 bits, should it reach it
 abbrev pub most_trusts : ℕ

@@ -1,16 +1,8 @@
 -- What stands behind that which is told of the detectors of a run.
-use Rattle.std.specs.Prelude.{◌≡◌, ℕ, ◌-◌, ◌<◌, ◌≤◌, Bool, true, List, Some}
-use Rattle.std.specs.List.{All}
-use Rattle.process_api.specs.Order.{EntryRecord}
-use Rattle.scenario_record.specs.Record.{Record}
-use Rattle.judges.specs.Out.{IsBlamedBy, SharesSuspicions, suspects, end_of}
-use Rattle.judges.specs.Verdicts.{AreVerdicts, IsCorrect, verdicts}
-use Rattle.judges.specs.Track.{least_from}
-use Rattle.detector_bounds.specs.Bounds.{CrashesAt, KeepsBounds, detected_at}
-use Rattle.detector_bounds.specs.Detected.{IsReliable, Watches}
-use Rattle.reporting.specs.Measures.{all_measures, starts}
-use Rattle.reporting.specs.declared.pair_measures.PairMeasures.{PairMeasures}
-use Rattle.reporting.specs.declared.pair_measures.Detection.TheVariants.{At}
+use Rattle.std.specs.{Prelude.{◌≡◌, ℕ, ◌-◌, ◌<◌, ◌≤◌, Bool, true, List, Some}, List.{All}}
+use Rattle.{process_api.specs.Order.{EntryRecord}, scenario_record.specs.Record.{Record}, judges.specs.{Out.{IsBlamedBy, SharesSuspicions, suspects, end_of}, Verdicts.{AreVerdicts, IsCorrect, verdicts}, Track.{least_from}}}
+use Rattle.detector_bounds.specs.{Bounds.{CrashesAt, KeepsBounds, detected_at}, Detected.{IsReliable, Watches}}
+use Rattle.reporting.specs.{Measures.{all_measures, starts}, declared.pair_measures.{PairMeasures.{PairMeasures}, Detection.TheVariants.{At}}}
 
 module _ (S : Record) (trace : List EntryRecord) where
   module _ (row : PairMeasures) where

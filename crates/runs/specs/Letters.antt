@@ -1,17 +1,10 @@
 -- The letters of a scenario's run, and what becomes of each.
-use Rattle.std.specs.Prelude.{◌≡◌, ◌≢◌, ◌⊎◌, ◌==◌, ◌&&◌, ℕ, ◌+◌, ◌<◌, ◌≤◌, Bool, true, false, if◌then◌else◌, nat_le, Option, None, Some, List, [], ◌∷◌, filter, length, map}
-use Rattle.std.specs.List.{All, count_by, range_with_len, sum_by}
+use Rattle.std.specs.{Prelude.{◌≡◌, ◌≢◌, ◌⊎◌, ◌==◌, ◌&&◌, ℕ, ◌+◌, ◌<◌, ◌≤◌, Bool, true, false, if◌then◌else◌, nat_le, Option, None, Some, List, [], ◌∷◌, filter, length, map}, List.{All, count_by, range_with_len, sum_by}}
 use Rattle.process_api.specs.Order.{EntryRecord}
 use Rattle.process_api.specs.declared.entry.Kind.TheVariants as kind
-use Rattle.scenario_record.specs.Record.{Record}
-use Rattle.streams.specs.declared.fate.Fate.{Fate}
+use Rattle.{scenario_record.specs.Record.{Record}, streams.specs.declared.fate.Fate.{Fate}}
 use Rattle.streams.specs.declared.fate.Fate.TheVariants as link
-use Rattle.steps.specs.Posting.{Posted, ArePosted}
-use Rattle.trace_laws.specs.History.{IsIn}
-use Rattle.trace_laws.specs.Setting.{setting_of, Setting, has_crashed}
-use Rattle.trace_laws.specs.Step.{kind_of_payload}
-use Rattle.reporting.specs.declared.letter.Letter.{Letter}
-use Rattle.reporting.specs.declared.letter.LetterFate.{LetterFate}
+use Rattle.{steps.specs.Posting.{Posted, ArePosted}, trace_laws.specs.{History.{IsIn}, Setting.{setting_of, Setting, has_crashed}, Step.{kind_of_payload}}, reporting.specs.declared.letter.{Letter.{Letter}, LetterFate.{LetterFate}}}
 use Rattle.reporting.specs.declared.letter.LetterFate.TheVariants as fate
 
 -- when a letter that is sent at this tick is due, unless its link loses it
@@ -23,8 +16,7 @@ module _ {Mind : Type 0} (S : Setting Mind) where
   -- what becomes of a letter to this receiver that is due then: at the horizon or after, the run is over
   abbrev pub fate_of : (receiver : ℕ) → (due : Option ℕ) → LetterFate
   fate_of receiver None = fate.Lost
-  fate_of receiver (Some due) =
-      if nat_le S.horizon due then fate.Late
+  fate_of receiver (Some due) = if nat_le S.horizon due then fate.Late
       else (if has_crashed (S.crash receiver) due then fate.Dead else fate.Taken)
 
   -- what is told of a letter that was put on its link

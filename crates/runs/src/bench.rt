@@ -1,7 +1,6 @@
 //! Runs by the single event list, from a scenario and its machines to the texts that go out.
 ghost use Rattle.std.specs.Prelude.{◌≡◌, ◌≢◌, ◌^◌, ◌-◌, ◌<◌, map, Err, IfErr, IfOk};
-ghost use Rattle.process_api.specs.Place.{numbers_to};
-ghost use Rattle.runs.specs.Finishing.{Finishes, Refuses};
+ghost use Rattle.{process_api.specs.Place.{numbers_to}, runs.specs.Finishing.{Finishes, Refuses}};
 ghost use Rattle.scenario_record.specs.Record.{opening_mind};
 
 use event_list::{Nobody, RunError, run_list_into};

@@ -1,9 +1,7 @@
 //! A run of which all is measured and no text is formed.
 ghost use Rattle.std.specs.Prelude.{◌≡◌, map, IfErr, IfOk, IsErrOf};
-ghost use Rattle.event_list.specs.Following.{IsRefusal, IsTooLong};
-ghost use Rattle.trace_laws.specs.Setting.{setting_of};
-ghost use Rattle.process_api.specs.Place.{numbers_to};
-ghost use Rattle.runs.specs.Finishing.{MeasuresRun};
+ghost use Rattle.{event_list.specs.Following.{IsRefusal, IsTooLong}, trace_laws.specs.Setting.{setting_of}};
+ghost use Rattle.{process_api.specs.Place.{numbers_to}, runs.specs.Finishing.{MeasuresRun}};
 ghost use Rattle.scenario_record.specs.Record.{opening_mind};
 
 use crate::trusts::Trusts;

@@ -1,10 +1,7 @@
 //! The measures of a finished trace.
 ghost use Rattle.std.specs.Prelude.{◌≡◌, All, IfOk};
-ghost use Rattle.trace_laws.specs.Setting.{setting_of};
-ghost use Rattle.trace_laws.specs.World.{IsTrace};
-ghost use Rattle.judges.specs.Out.{SharesSuspicions};
-ghost use Rattle.runs.specs.Grounds.{IsBounded, RestsOnBlame};
-ghost use Rattle.reporting.specs.Measures.{all_measures};
+ghost use Rattle.{trace_laws.specs.{Setting.{setting_of}, World.{IsTrace}}, judges.specs.Out.{SharesSuspicions}};
+ghost use Rattle.{runs.specs.Grounds.{IsBounded, RestsOnBlame}, reporting.specs.Measures.{all_measures}};
 
 use process_api::{Trace, follow_all};
 use reporting::{PairMeasures, close_measuring, open_measuring};

@@ -1,12 +1,9 @@
 //! The letters of a run.
 ghost use Rattle.std.specs.Prelude.{◌≡◌, List, IfOk, IfErr, IsErrOf, map};
 ghost use Rattle.event_list.specs.Following.{IsRefusal, IsTooLong};
-ghost use Rattle.process_api.specs.Order.{EntryRecord};
-ghost use Rattle.process_api.specs.Mind.{Mind};
-ghost use Rattle.process_api.specs.Place.{numbers_to};
+ghost use Rattle.process_api.specs.{Order.{EntryRecord}, Mind.{Mind}, Place.{numbers_to}};
 ghost use Rattle.scenario_record.specs.Record.{opening_mind};
-ghost use Rattle.trace_laws.specs.Setting.{setting_of};
-ghost use Rattle.trace_laws.specs.World.{IsTrace};
+ghost use Rattle.trace_laws.specs.{Setting.{setting_of}, World.{IsTrace}};
 ghost use Rattle.runs.specs.Letters.{AreInOrder, AreLetters, AreInTrace, AreLostAs, AreNumbered};
 
 use crate::book::LetterBook;

@@ -1,7 +1,6 @@
 //! How often each process was trusted again.
 ghost use Rattle.std.specs.Prelude.{◌≡◌, ℕ, ◌*◌, ◌==◌, ◌++◌, ◌∷◌, [], if◌then◌else◌, List, length, count_by, IfOk};
-ghost use Rattle.detector_bounds.specs.Detected.{is_trust};
-ghost use Rattle.runs.specs.Inside.Counting.{HasCounted};
+ghost use Rattle.{detector_bounds.specs.Detected.{is_trust}, runs.specs.Inside.Counting.{HasCounted}};
 
 use process_api::{Entry, Follower, Note, Pid};
 use scenario_record::Scenario;
@@ -54,8 +53,7 @@ pub struct Trusts {
 }
 
 impl Trusts {
-    ghost use Rattle.process_api.specs.Order.{EntryRecord};
-    ghost use Rattle.runs.specs.Finishing.{AreTrusts, trusts_of};
+    ghost use Rattle.{process_api.specs.Order.{EntryRecord}, runs.specs.Finishing.{AreTrusts, trusts_of}};
 
     /// Nothing was fed.
     pub(crate) fn open(alloc: Global, scenario: &Scenario) -> Result<Trusts, AllocError>

@@ -1,9 +1,6 @@
 -- The outage tables, taken one after the other.
 use Rattle.scenario.proofs.Words.{◌≡◌, ℕ, ◌*◌, ◌≤◌, ◌++◌, List, [], ◌∷◌, map, filter, length, set, get_or, replicate, true, false, cond, refl, ap, sym, ◌∙◌, subst, arith, AllByRecursion, leb-false, map-append, length-replicate, get_or-replicate, Members, pair_of, same_pair, outage_of, pair_outages, each_pairs_outages, outages_among, IsOutage, is_bad_outage, are_bad_outages, AreProcesses, Outage}
-use Rattle.scenario.proofs.KeyFacts.{pair_place, pair_within, pair_keys}
-use Rattle.scenario.proofs.Grid.{grid_at, grid_length, grid_whole}
-use Rattle.scenario.proofs.Slots.{of, AreHeld, put}
-use Rattle.scenario.proofs.Within.{neither, first_inside}
+use Rattle.scenario.proofs.{KeyFacts.{pair_place, pair_within, pair_keys}, Grid.{grid_at, grid_length, grid_whole}, Slots.{of, AreHeld, put}, Within.{neither, first_inside}}
 
 -- ---- the lists of the pairs
 

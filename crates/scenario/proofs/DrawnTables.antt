@@ -1,7 +1,6 @@
 -- A file's table with drawn outages.
 use Rattle.scenario.proofs.Words.{◌≡◌, ℕ, ◌+◌, ◌<◌, length, take, get_or, nat_le, ◌==◌, List, [], ◌∷◌, ◌++◌, map, Bool, true, false, not, ◌&&◌, ◌||◌, Option, Some, None, is_some, refl, ap, sym, ◌∙◌, Ordering, Less, Equal, Greater, or-true, list_any, nat_cmp, match_ordering, is_eq, slice_cmp, take_more, map-append, length-map, get_or-map, list_any-append, list_any_at, Data, table, Members, no_members, member, get_member, items_of, Field, number_or, all_items, is_table, the_tables, is_listed, keys_of, has_unlisted, is_lacking, has_lacking, is_mistyped, has_mistyped, outage_fields, number_at, pair_of, outage_of, is_outside, is_bad_outage, put, outage_table, LinkOutage}
-use Rattle.std.proofs.lemmas.Map.Lookups.{exact_bytes}
-use Rattle.std.proofs.lemmas.Cmp.{nat_list_cmp_total, tied_itself}
+use Rattle.std.proofs.lemmas.{Map.Lookups.{exact_bytes}, Cmp.{nat_list_cmp_total, tied_itself}}
 
 -- ---- one drawn outage
 

@@ -1,9 +1,8 @@
 -- What is found with a refusal.
 use Rattle.scenario.proofs.Words.{◌≡◌, ℕ, ℤ, List, true, Option, Some, None, IfSome, refl, rules, codes, option_or, Data, integer, as_integer, Members, Subject, subject_of, IsFault, IsFoundBy, IsValueFault, has_integer, integer_in, is_of_pair, ScenarioError}
 use Rattle.std.proofs.lemmas.Bool.Decides.{Decides-int_eq}
-use Rattle.scenario.specs.declared.fault.Fault.{Fault}
+use Rattle.scenario.specs.declared.{fault.Fault.{Fault}, place.Place.{Place}}
 use Rattle.scenario.specs.declared.fault.Fault.TheVariants as fault
-use Rattle.scenario.specs.declared.place.Place.{Place}
 
 -- a value's fault is one of its table
 pub value_fault : (e : ScenarioError) (file : Members) (at : Place) (table : Members) (f : Fault) → IsValueFault (subject_of e at file) table f → IsFault e file at table f

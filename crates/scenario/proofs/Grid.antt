@@ -1,9 +1,7 @@
 -- Cells by sender and then by receiver, one of each pair.
 use Rattle.scenario.proofs.Words.{◌≡◌, ℕ, zero, suc, ◌+◌, ◌-◌, ◌*◌, ◌/◌, ◌%◌, ◌<◌, List, [], ◌∷◌, map, length, get_or, take, refl, ap, sym, ◌∙◌, arith, subst, range_with_len, flat_map, div-add-mod', length-range_with_len, get_or-range_with_len, get_or-map-range_with_len, length-map-range_with_len, AreProcesses}
-use Rattle.std.proofs.lemmas.List.{ext_get_or, length-append, length-take}
-use Rattle.std.proofs.lemmas.List.Concat.{get_or-flat_map}
-use Rattle.std.proofs.Math.Nat.{zero-mul, suc-mul, mod-lt, div-lt_iff_lt-mul}
 use Rattle.scenario.proofs.KeyFacts.{pair_place}
+use Rattle.std.proofs.{lemmas.List.{ext_get_or, length-append, length-take, Concat.{get_or-flat_map}}, Math.Nat.{zero-mul, suc-mul, mod-lt, div-lt_iff_lt-mul}}
 
 rows_length : {X : Type 0} (g : ℕ → ℕ → X) (n : ℕ) (xs : List ℕ) → length (flat_map (λ f. map (g f) (range_with_len 1 n)) xs) ≡ length xs * n
 rows_length g n [] = sym (zero-mul n)

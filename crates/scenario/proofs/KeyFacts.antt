@@ -1,6 +1,5 @@
 -- The keys of tables: processes, and pairs of them.
-use Rattle.scenario.proofs.Words.{◌≡◌, ℕ, ◌+◌, ◌-◌, ◌*◌, ◌/◌, ◌<◌, ◌==◌, true, refl, ap, sym, ◌∙◌, arith, eqb-true, eq-eqb, div-mul-add, mul-add-lt, pair_of, same_pair, crash_process, same_process, IsProcess, AreProcesses}
-use Rattle.scenario.proofs.Slots.{Keys}
+use Rattle.scenario.proofs.{Words.{◌≡◌, ℕ, ◌+◌, ◌-◌, ◌*◌, ◌/◌, ◌<◌, ◌==◌, true, refl, ap, sym, ◌∙◌, arith, eqb-true, eq-eqb, div-mul-add, mul-add-lt, pair_of, same_pair, crash_process, same_process, IsProcess, AreProcesses}, Slots.{Keys}}
 use Rattle.scenario.proofs.Within.{both}
 
 pub process_within : (n a : ℕ) → IsProcess n a → a - 1 < n

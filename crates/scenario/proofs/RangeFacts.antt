@@ -1,15 +1,9 @@
 -- The record of a table to which no rule applies is in its ranges.
 use Rattle.scenario.proofs.Words.{◌≡◌, ◌≢◌, ℕ, zero, suc, ◌-◌, ◌<◌, ◌≤◌, ◌^◌, ◌==◌, ℤ, List, [], ◌∷◌, ◌++◌, map, filter, find, length, get_or, Bool, true, false, not, ◌&&◌, ◌||◌, Option, Some, None, is_some, is_none, refl, ap, sym, ◌∙◌, arith, subst, codes, cond, IfSome, option_map, option_map_or, unwrap_or, ForSome, range_with_len, flat_map, list_any, slice_get, ltb-false, ne_eqb, eqb-true, not-false, length-map, get_or_past, slice_get-get_or, slice_get_past, length-range_with_len, get_or-range_with_len, length-map-range_with_len, list_any-append, Members, Record, proposal, crash, link, no_link, IsLink, IsInRange, has_key, integers_at, table_at, table_or_empty, tables_at, natural_of, natural, number_at, is_second, algorithm_in, processes_of, is_fresh, timeout_of, freshness_of, detector_of, share_of, delays_of, pair_of, same_pair, link_among, crash_process, crash_tick, crash_among, crashes_among, record_of, is_bad_proposal, are_other_than, are_bad_proposals, is_bad_detector, is_bad_timeout, is_bad_freshness, is_bad_share, is_bad_link, is_bad_pair, are_bad_pairs, is_bad_crash, are_bad_crashes, is_below, pairs, pairs_from, pair_below, most_in, key_refusals, number_refusals, part_refusals, outage_refusals, refusal_of, AreProcesses}
+use Rattle.scenario.proofs.{Firsts.{are_none, untrue, no_pair}, Within.{neither, within, within_of, first_inside}, Slots.{some_found}, Taking.{link_at, links_length}, Cuts.{outages_in_range}, ProposalFacts.{no_key}}
 use Rattle.process_api.specs.declared.numbers.DetectorNumbers.TheVariants as numbers
-use Rattle.scenario_record.specs.Ranges.{AreInRange, AreTimeoutInRange, AreFreshnessInRange, is_idle}
-use Rattle.scenario.proofs.Firsts.{are_none, untrue, no_pair}
-use Rattle.scenario_record.specs.declared.algorithm.AlgorithmKind.{AlgorithmKind}
+use Rattle.scenario_record.specs.{Ranges.{AreInRange, AreTimeoutInRange, AreFreshnessInRange, is_idle}, declared.algorithm.AlgorithmKind.{AlgorithmKind}}
 use Rattle.scenario_record.specs.declared.algorithm.AlgorithmKind.TheVariants as kind
-use Rattle.scenario.proofs.Within.{neither, within, within_of, first_inside}
-use Rattle.scenario.proofs.Slots.{some_found}
-use Rattle.scenario.proofs.Taking.{link_at, links_length}
-use Rattle.scenario.proofs.Cuts.{outages_in_range}
-use Rattle.scenario.proofs.ProposalFacts.{no_key}
 use Rattle.process_api.specs.Place.{most_processes}
 
 -- the same fact in two forms

@@ -1,10 +1,7 @@
 -- What is answered of a file with drawn outages, from what is read of the file.
 use Rattle.scenario.proofs.Words.{◌≡◌, ◌∙◌, ℕ, ◌<◌, ◌^◌, List, ◌++◌, true, false, Option, None, ap, sym, subst, codes, refl, Members, Record, IsInRange, Outage, has_mistyped, some_table, number_at, processes_of, outages_among, record_of, are_bad_outages, outages_refused, when, first_of, key_refusals, number_refusals, part_refusals, outage_refusals, refusal_of, IsAnswer, all_outages, lacks_outages, with_outages, LinkOutage, ScenarioError}
+use Rattle.scenario.proofs.{Firsts.{are_none, joined, kept as kept_first, alone, untrue}, RangeFacts.{in_range}, Alike.{natural, numbers_alike, parts_alike}, WithOutages.{kept, keys_alike, key_unknown, outages_alike, record_is}}
 use Rattle.scenario.specs.declared.error.ScenarioError.TheVariants as error
-use Rattle.scenario.proofs.Firsts.{are_none, joined, kept as kept_first, alone, untrue}
-use Rattle.scenario.proofs.RangeFacts.{in_range}
-use Rattle.scenario.proofs.Alike.{natural, numbers_alike, parts_alike}
-use Rattle.scenario.proofs.WithOutages.{kept, keys_alike, key_unknown, outages_alike, record_is}
 
 module _ (drawn : List LinkOutage) (t : Members) where
   abbrev with_drawn : Members

@@ -1,8 +1,6 @@
 -- Tables put in places by their keys, and lists of tables of which two have the same key.
 use Rattle.scenario.proofs.Words.{◌≡◌, ◌≢◌, ℕ, ◌+◌, ◌<◌, List, [], ◌∷◌, ◌++◌, length, take, drop, set, get_or, Bool, true, false, cond, ◌||◌, Option, Some, None, find, is_some, refl, ap, sym, ◌∙◌, subst, or-true, option_map, take_more, map-append, append-nil, take-append-drop, length-map, length-set, get_or-map, get_or-set_same, get_or-set_other, get_or_default, filter-append, list_any-append, list_any_at, Members, table_view, tables_in, has_repeat}
-use Rattle.std.specs.List.{filter, list_any}
-use Rattle.scenario.proofs.FieldFacts.{some_of_map}
-use Rattle.scenario.proofs.Elements.{Lent, IsAt}
+use Rattle.{scenario.proofs.{FieldFacts.{some_of_map}, Elements.{Lent, IsAt}}, std.specs.List.{filter, list_any}}
 
 -- ---- tables of an array, one after the other
 

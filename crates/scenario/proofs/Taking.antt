@@ -1,8 +1,6 @@
 -- The crashes and the links of a file, by what is held in their places.
 use Rattle.scenario.proofs.Words.{◌≡◌, ℕ, ◌+◌, ◌*◌, ◌<◌, ◌==◌, List, map, length, get_or, Option, None, ap, sym, ◌∙◌, arith, subst, option_map, unwrap_or, range_with_len, ext_get_or, length-map, get_or-map, get_or-map-range_with_len, length-map-range_with_len, Members, crash_process, crash_tick, crash_among, crashes_among, delays_of, pair_of, same_pair, link_among, links_among, IsProcess, AreProcesses, Link}
-use Rattle.scenario.proofs.Slots.{AreHeld, once, find_first}
-use Rattle.scenario.proofs.KeyFacts.{process_keys, pair_keys, pair_place, pair_within}
-use Rattle.scenario.proofs.Grid.{grid_at, grid_length, grid_whole}
+use Rattle.scenario.proofs.{Slots.{AreHeld, once, find_first}, KeyFacts.{process_keys, pair_keys, pair_place, pair_within}, Grid.{grid_at, grid_length, grid_whole}}
 
 pub crashes_whole : (n : ℕ) (ticks : List (Option ℕ)) (tables : List Members) → AreHeld (process_keys n) (once crash_tick) ticks tables → ticks ≡ crashes_among tables n
 unfolding crashes_among crash_among

@@ -1,7 +1,6 @@
 -- A file with drawn outages, beside the file.
 use Rattle.scenario.proofs.Words.{◌≡◌, ℕ, List, [], ◌∷◌, map, Bool, true, false, not, ◌||◌, cond, Option, Some, None, is_some, refl, ap, sym, ◌∙◌, codes, or-false, not-false, not-true, list_any, option_map_or, append-nil, list_any-append, Data, array, table, Members, get_member, items_of, Field, tables_at, is_of, is_listed, has_unlisted, is_lacking, has_lacking, is_mistyped, has_mistyped, some_table, top_fields, outages_field, outage_fields, is_second, processes_of, outages_among, record_of, are_bad_outages, outages_refused, key_refusals, put, outage_table, all_outages, lacks_outages, with_outages, LinkOutage}
-use Rattle.scenario.proofs.Alike.{is_other, inner, tables, second, processes, record_alike}
-use Rattle.scenario.proofs.Within.{neither}
+use Rattle.scenario.proofs.{Alike.{is_other, inner, tables, second, processes, record_alike}, Within.{neither}}
 use Rattle.scenario.proofs.DrawnTables.{listed_drawn, whole_drawn, typed_drawn, read_put, keep_put, unlisted_put, unlisted_there, all_tables, back, none_drawn}
 
 -- ---- the fields of the top table

@@ -19,15 +19,17 @@ pub use Rattle.scenario_record.specs.declared.outage.Outage.{Outage}
 pub use Rattle.toml.specs.Data.{Data, Items, Members, array, as_array, as_integer, as_str, as_table, get_member, integer, item, member, no_members, table}
 pub use Rattle.toml.specs.View.{array_view, items_of, items_view, members_view, table_view, view}
 pub use Rattle.toml.specs.declared.value.Value.{Value}
-pub use Rattle.scenario.specs.Drawn.{all_outages, lacks_outages, outage_table, put}
+pub use Rattle.scenario.specs.Drawn.{all_outages, outage_table, put}
+pub use Rattle.scenario.specs.Inside.Private.{lacks_outages, array_error, section_error}
 unfoldable pub use Rattle.scenario.specs.Drawn.{with_outages}
 pub use Rattle.scenario.specs.Faults.{IsFault, IsValueFault, count, has_integer, integer_in, is_of_pair, item_numbered}
-unfoldable pub use Rattle.scenario.specs.Faults.{IsFoundBy}
+unfoldable pub use Rattle.scenario.specs.Inside.Private.{IsFoundBy}
 pub use Rattle.scenario.specs.Inside.Outages.{AreOutagesOf}
 pub use Rattle.scenario.specs.Keys.{outages_field, array_key, fields_of_array, numbered, table_of}
 unfoldable pub use Rattle.scenario.specs.Keys.{outage_fields, some_table, top_fields}
-pub use Rattle.scenario.specs.Parts.{AreProcesses, IsProcess, fault_of, field_of, fields_of, link_in, outages_in, tables_in}
-pub use Rattle.scenario.specs.Ranges.{Subject, array_error, section_error, subject_of}
+pub use Rattle.scenario.specs.Inside.Parts.{AreProcesses, tables_in}
+pub use Rattle.scenario.specs.Parts.{IsProcess, fault_of, field_of, fields_of, link_in, outages_in}
+pub use Rattle.scenario.specs.Ranges.{Subject, subject_of}
 pub use Rattle.scenario.specs.Refusals.{Accepts, IsAnswer, IsDocumentOf, Judges, Refuses, first_of, is_memory, key_refusals, number_refusals, outage_refusals, part_refusals, when, when_below}
 unfoldable pub use Rattle.scenario.specs.Refusals.{refusal_of}
 pub use Rattle.scenario.specs.Rules.{are_bad_crashes, are_bad_outages, are_bad_pairs, are_bad_proposals, has_repeat, is_bad_proposal, is_bad_share, is_below, most_in, outages_refused, pairs, pairs_from, same_process}

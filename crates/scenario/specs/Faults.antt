@@ -1,34 +1,15 @@
 -- What is wrong with a file that is refused: what stands at which place of it, and breaks the rule of the refusal.
-use Rattle.std.specs.Prelude.{◌≡◌, ◌≢◌, ℕ, zero, suc, ◌<◌, ℤ, ◌<ℤ◌, ◌≤ℤ◌, List, map, Bool, true, false, ◌&&◌, Option, Some, None, IfSome, option_and_then, codes}
-use Rattle.std.specs.List.{Contains, list_any}
-use Rattle.std.specs.Option.{option_map_or}
-use Rattle.std.specs.Ordering.{int_eq}
-use Rattle.toml.specs.Data.{Data, integer, Members, Items, no_items, item, get_member, get_item, as_integer, as_str, type_name}
-use Rattle.scenario_record.specs.Record.{Record, link}
-use Rattle.scenario_record.specs.declared.algorithm.AlgorithmKind.{AlgorithmKind}
+use Rattle.std.specs.{Prelude.{◌≡◌, ◌≢◌, ℕ, zero, suc, ◌<◌, ℤ, ◌<ℤ◌, ◌≤ℤ◌, List, map, Bool, true, false, ◌&&◌, Option, Some, None, IfSome, option_and_then, codes}, List.{Contains, list_any}, Option.{option_map_or}, Ordering.{int_eq}}
+use Rattle.{toml.specs.Data.{Data, integer, Members, Items, no_items, item, get_member, get_item, as_integer, as_str, type_name}, scenario_record.specs.{Record.{Record, link}, declared.algorithm.AlgorithmKind.{AlgorithmKind}}}
 use Rattle.scenario_record.specs.declared.algorithm.AlgorithmKind.TheVariants as kind
-use Rattle.scenario.specs.Table.{Field, array_in, is_listed, is_lacking, is_of, same_text, keys_of, has_key, tables_at}
-use Rattle.scenario.specs.Text.{algorithm_in, processes_of, record_of}
-use Rattle.scenario.specs.Rules.{is_within}
-use Rattle.scenario.specs.Parts.{fields_of}
-use Rattle.scenario.specs.Keys.{table_of, fields_at, fields_in, array_key, numbered}
-use Rattle.scenario.specs.Ranges.{Subject, Range, Names, ends_of, allowed_of, subject_of}
-use Rattle.scenario.specs.declared.error.ScenarioError.{ScenarioError}
-use Rattle.scenario.specs.declared.error.ScenarioError.TheVariants as error
-use Rattle.scenario.specs.declared.place.Place.{Place}
-use Rattle.scenario.specs.declared.place.TableArray.TheVariants as array
-use Rattle.scenario.specs.declared.fault.UnknownKey.{UnknownKey}
-use Rattle.scenario.specs.declared.fault.WrongKind.{WrongKind}
-use Rattle.scenario.specs.declared.fault.Outside.{Outside}
-use Rattle.scenario.specs.declared.fault.OtherName.{OtherName}
-use Rattle.scenario.specs.declared.fault.ProposalsFault.{ProposalsFault}
-use Rattle.scenario.specs.declared.fault.ProposalsFault.TheVariants as proposals
-use Rattle.scenario.specs.declared.fault.MinAboveMax.{MinAboveMax}
-use Rattle.scenario.specs.declared.fault.NotBefore.{NotBefore}
-use Rattle.scenario.specs.declared.fault.BelowLookahead.{BelowLookahead}
-use Rattle.scenario.specs.declared.fault.Fault.{Fault}
-use Rattle.scenario.specs.declared.fault.Fault.TheVariants as fault
+use Rattle.scenario.specs.{Table.{Field, array_in, is_listed, is_lacking, is_of, same_text, keys_of, has_key, tables_at}, Text.{algorithm_in, processes_of, record_of}, Rules.{is_within}, Parts.{fields_of}}
+use Rattle.{scenario.specs.{Keys.{table_of, fields_at, fields_in, array_key, numbered}, Ranges.{Subject, Range, Names, ends_of, allowed_of, subject_of}}, scenario.specs.declared.{error.ScenarioError.{ScenarioError}, place.Place.{Place}}}
+use Rattle.scenario.specs.declared.fault.{UnknownKey.{UnknownKey}, WrongKind.{WrongKind}, Outside.{Outside}, OtherName.{OtherName}, ProposalsFault.{ProposalsFault}, MinAboveMax.{MinAboveMax}, NotBefore.{NotBefore}, BelowLookahead.{BelowLookahead}, Fault.{Fault}}
 use Rattle.scenario.specs.declared.finding.Finding.{Finding}
+use Rattle.scenario.specs.declared.error.ScenarioError.TheVariants as error
+use Rattle.scenario.specs.declared.place.TableArray.TheVariants as array
+use Rattle.scenario.specs.declared.fault.ProposalsFault.TheVariants as proposals
+use Rattle.scenario.specs.declared.fault.Fault.TheVariants as fault
 use Rattle.scenario.specs.declared.finding.Finding.TheVariants as finding
 
 -- the integer at a key, and the text, if there is one
@@ -38,7 +19,6 @@ integer_in key table = option_and_then as_integer (get_member key table)
 abbrev pub text_in : List ℕ → Members → Option (List ℕ)
 text_in key table = option_and_then as_str (get_member key table)
 
--- the integer is this one
 abbrev pub has_integer : List ℕ → ℤ → Members → Bool
 has_integer key value table = option_map_or (λ z. int_eq z value) (integer_in key table) false
 
@@ -113,10 +93,6 @@ IsValueFault s table (fault.ToItself process) = (s.pair ≡ true) × IsToItself 
 IsValueFault s table (fault.NotBefore n) = (s.ends ≡ true) × IsNotBefore table n
 IsValueFault s table _ = ⊥
 
--- the fault that was found in the table, if one was, is so
-unfoldable pub IsFoundBy : Subject → (table : Members) → Option Fault → Type 0
-IsFoundBy s table found = IfSome found (IsValueFault s table)
-
 -- the fault is one of a table at a place of a file, and breaks the rule of the refusal
 abbrev pub IsFault : ScenarioError → (file : Members) → Place → (table : Members) → Fault → Type 0
 IsFault e file at table (fault.UnknownKey u) =
@@ -128,7 +104,6 @@ IsFault e file at table its = IsValueFault (subject_of e at file) table its
 
 -- ---- proposals
 
--- how many items there are
 abbrev pub count : Items → ℕ
 count no_items = 0
 count (item d ds) = suc (count ds)
@@ -207,8 +182,7 @@ Breaks e file (finding.Proposals p) = (e ≡ error.Proposals) × IsProposalsFaul
 Breaks e file (finding.Below b) = (e ≡ error.BelowLookahead b.from b.to) × IsBelow (record_of file) b
 Breaks e file (finding.TwicePair from to number earlier) =
     (e ≡ error.LinkNumbers) × AreTwice (tables_at (array_key array.Links) file) number earlier (is_of_pair from to)
-Breaks e file (finding.TwiceProcess process number earlier) =
-    (e ≡ error.CrashLine)
+Breaks e file (finding.TwiceProcess process number earlier) = (e ≡ error.CrashLine)
     × AreTwice (tables_at (array_key array.Crash) file) number earlier (has_integer (codes "process") process)
 
 -- the finding of a refusal, if there is one, breaks its rule

@@ -1,16 +1,9 @@
 -- The keys that the tables of a scenario's file may have.
-use Rattle.std.specs.Prelude.{ℕ, List, [], ◌∷◌, Bool, true, false, ◌&&◌, ◌||◌, if◌then◌else◌, codes, zero, suc, ◌++◌, slice_get, Option, Some, None, decimal}
-use Rattle.std.specs.List.{list_any}
-use Rattle.std.specs.Option.{option_map_or}
+use Rattle.std.specs.{Prelude.{ℕ, List, [], ◌∷◌, Bool, true, false, ◌&&◌, ◌||◌, if◌then◌else◌, codes, zero, suc, ◌++◌, slice_get, Option, Some, None, decimal}, List.{list_any}, Option.{option_map_or}}
 use Rattle.toml.specs.Data.{Members}
-use Rattle.scenario.specs.Table.{Field, table_at, tables_at}
-use Rattle.scenario.specs.Text.{is_second, is_fresh}
-use Rattle.scenario.specs.declared.field.Kind.TheVariants.{Number, Text, Numbers, Table, Tables}
-use Rattle.scenario.specs.declared.place.Section.{Section}
+use Rattle.scenario.specs.{Table.{Field, table_at, tables_at}, Text.{is_second, is_fresh}, declared.{field.Kind.TheVariants.{Number, Text, Numbers, Table, Tables}, place.{Section.{Section}, TableArray.{TableArray}, Place.{Place}}}}
 use Rattle.scenario.specs.declared.place.Section.TheVariants as section
-use Rattle.scenario.specs.declared.place.TableArray.{TableArray}
 use Rattle.scenario.specs.declared.place.TableArray.TheVariants as array
-use Rattle.scenario.specs.declared.place.Place.{Place}
 use Rattle.scenario.specs.declared.place.Place.TheVariants as place
 
 -- a number that must be there
@@ -34,8 +27,7 @@ kind_fields true = record (optional (codes "kind")) { kind = Text } ∷ []
 kind_fields false = []
 
 unfoldable pub top_fields : (is_second : Bool) → List Field
-top_fields second =
-    needed (codes "version") ∷ needed (codes "processes") ∷ needed (codes "horizon")
+top_fields second = needed (codes "version") ∷ needed (codes "processes") ∷ needed (codes "horizon")
     ∷ needed (codes "lookahead") ∷ needed (codes "seed") ∷ optional (codes "limit")
     ∷ record (needed (codes "algorithm")) { kind = Text }
     ∷ record (optional (codes "proposals")) { kind = Numbers }
@@ -47,14 +39,12 @@ top_fields second =
 
 -- of a detector's table that names no freshness points: version 2 has the kind besides
 unfoldable pub timeout_fields : (is_second : Bool) → List Field
-timeout_fields second =
-    needed (codes "period") ∷ needed (codes "check") ∷ needed (codes "timeout")
+timeout_fields second = needed (codes "period") ∷ needed (codes "check") ∷ needed (codes "timeout")
     ∷ optional (codes "grow") ∷ record (optional (codes "watch")) { kind = Text } ∷ kind_fields second
 
 -- of one that does
 unfoldable pub freshness_fields : List Field
-freshness_fields =
-    needed (codes "eta") ∷ needed (codes "delta") ∷ record (optional (codes "watch")) { kind = Text }
+freshness_fields = needed (codes "eta") ∷ needed (codes "delta") ∷ record (optional (codes "watch")) { kind = Text }
     ∷ kind_fields true
 
 -- the keys of a detector's table in a file
@@ -73,8 +63,7 @@ link_fields = needed (codes "min") ∷ needed (codes "max") ∷ optional (codes 
 
 -- of each table of `links`
 unfoldable pub pair_fields : List Field
-pair_fields =
-    needed (codes "from") ∷ needed (codes "to") ∷ needed (codes "min") ∷ needed (codes "max")
+pair_fields = needed (codes "from") ∷ needed (codes "to") ∷ needed (codes "min") ∷ needed (codes "max")
     ∷ optional (codes "loss") ∷ []
 
 -- of each table of `crash`
@@ -83,8 +72,7 @@ crash_fields = needed (codes "process") ∷ needed (codes "at") ∷ []
 
 -- of each table of `outage`
 unfoldable pub outage_fields : List Field
-outage_fields =
-    needed (codes "from") ∷ needed (codes "to") ∷ needed (codes "begin") ∷ needed (codes "until") ∷ []
+outage_fields = needed (codes "from") ∷ needed (codes "to") ∷ needed (codes "begin") ∷ needed (codes "until") ∷ []
 
 -- some table of the file has the fault. A value that should be a table, or an array of tables, and isn't has no inside
 unfoldable pub some_table : (List Field → Members → Bool) → Members → Bool

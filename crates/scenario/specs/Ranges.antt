@@ -1,16 +1,9 @@
 -- What a file's tables may have at their keys, by refusal: the ranges of numbers, and the names that texts may be.
 use Rattle.std.specs.Prelude.{ℕ, List, [], ◌∷◌, ◌++◌, Bool, true, false, Option, Some, None, if◌then◌else◌, codes}
-use Rattle.toml.specs.Data.{Members}
-use Rattle.scenario.specs.Table.{same_text}
-use Rattle.scenario.specs.Text.{is_second, processes_of}
-use Rattle.scenario.specs.Rules.{most_in}
-use Rattle.scenario.specs.declared.error.ScenarioError.{ScenarioError}
+use Rattle.{toml.specs.Data.{Members}, scenario.specs.{Table.{same_text}, Text.{is_second, processes_of}, Rules.{most_in}, declared.{error.ScenarioError.{ScenarioError}, place.{Section.{Section}, Place.{Place}}}}}
 use Rattle.scenario.specs.declared.error.ScenarioError.TheVariants as error
-use Rattle.scenario.specs.declared.place.Section.{Section}
 use Rattle.scenario.specs.declared.place.Section.TheVariants as section
-use Rattle.scenario.specs.declared.place.TableArray.{TableArray}
 use Rattle.scenario.specs.declared.place.TableArray.TheVariants as array
-use Rattle.scenario.specs.declared.place.Place.{Place}
 use Rattle.scenario.specs.declared.place.Place.TheVariants as place
 
 -- the numbers that a key may have
@@ -92,18 +85,6 @@ outage_subject n =
       ends = true;
     }
 
--- the refusal that is about the table of a section
-abbrev pub section_error : Section → ScenarioError
-section_error section.Detector = error.DetectorNumbers
-section_error section.Share = error.Share
-section_error section.Link = error.LinkNumbers
-
--- the refusal that is about the tables of an array
-abbrev pub array_error : TableArray → ScenarioError
-array_error array.Links = error.LinkNumbers
-array_error array.Crash = error.CrashLine
-array_error array.Outage = error.OutageLine
-
 abbrev pub subject_of : ScenarioError → Place → (file : Members) → Subject
 subject_of error.Version place.Top file = numbers (range (codes "version") 1 2 ∷ [])
 subject_of error.Processes place.Top file = numbers (range (codes "processes") 1 (most_in (is_second file)) ∷ [])
@@ -119,7 +100,3 @@ subject_of error.LinkNumbers (place.Element array.Links number) file = pair_subj
 subject_of error.CrashLine (place.Element array.Crash number) file = crash_subject (processes_of file)
 subject_of error.OutageLine (place.Element array.Outage number) file = outage_subject (processes_of file)
 subject_of _ _ file = numbers []
-
--- that of a table of an array
-abbrev pub element_subject : TableArray → ℕ → (file : Members) → Subject
-element_subject a number file = subject_of (array_error a) (place.Element a number) file

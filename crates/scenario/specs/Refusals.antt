@@ -1,14 +1,7 @@
 -- Which refusal the bytes of a scenario's file get, or which record they stand for.
-use Rattle.std.specs.Prelude.{◌≡◌, ℕ, List, [], ◌∷◌, ◌++◌, Bool, true, false, Option, Some, None, option_map, Result, Ok, Err, is_none, IsUtf8, codes}
-use Rattle.std.specs.Option.{option_map_or}
-use Rattle.toml.specs.Data.{Members}
-use Rattle.toml.specs.Parse.{parse_document}
-use Rattle.scenario_record.specs.Record.{Record}
-use Rattle.scenario.specs.Table.{has_unlisted, has_lacking, has_mistyped}
-use Rattle.scenario.specs.Keys.{some_table}
-use Rattle.scenario.specs.Text.{is_second, algorithm_in, record_of}
-use Rattle.scenario.specs.Rules.{is_outside, is_negative, most_in, proposals_refused, detector_refused, share_refused, links_refused, pair_below, crashes_refused, outages_refused}
-use Rattle.scenario.specs.declared.error.ScenarioError.{ScenarioError}
+use Rattle.std.specs.{Prelude.{◌≡◌, ℕ, List, [], ◌∷◌, ◌++◌, Bool, true, false, Option, Some, None, option_map, Result, Ok, Err, is_none, IsUtf8, codes}, Option.{option_map_or}}
+use Rattle.{toml.specs.{Data.{Members}, Parse.{parse_document}}, scenario_record.specs.Record.{Record}, scenario.specs.{Table.{has_unlisted, has_lacking, has_mistyped}, Keys.{some_table}, Text.{is_second, algorithm_in, record_of}}}
+use Rattle.scenario.specs.{Rules.{is_outside, is_negative, most_in, proposals_refused, detector_refused, share_refused, links_refused, pair_below, crashes_refused, outages_refused}, declared.error.ScenarioError.{ScenarioError}}
 use Rattle.scenario.specs.declared.error.ScenarioError.TheVariants as error
 
 -- the refusal, where its test says so
@@ -29,14 +22,12 @@ first_of (None ∷ os) = first_of os
 -- the refusals of a file's table, in the order in which they are tried
 module _ (t : Members) where
   abbrev pub key_refusals : List (Option ScenarioError)
-  key_refusals =
-      when (some_table has_unlisted t) error.UnknownKey
+  key_refusals = when (some_table has_unlisted t) error.UnknownKey
       ∷ when (some_table has_lacking t) error.MissingKey
       ∷ when (some_table has_mistyped t) error.WrongKind ∷ []
 
   abbrev pub number_refusals : List (Option ScenarioError)
-  number_refusals =
-      when (is_outside 1 2 (codes "version") 0 t) error.Version
+  number_refusals = when (is_outside 1 2 (codes "version") 0 t) error.Version
       ∷ when (is_outside 1 (most_in (is_second t)) (codes "processes") 0 t) error.Processes
       ∷ when (is_outside 1 10000000 (codes "horizon") 0 t) error.Horizon
       ∷ when (is_outside 1 1000000 (codes "lookahead") 0 t) error.Lookahead
@@ -44,8 +35,7 @@ module _ (t : Members) where
       ∷ when (is_negative (codes "seed") 0 t) error.Seed ∷ []
 
   abbrev pub part_refusals : List (Option ScenarioError)
-  part_refusals =
-      when (is_none (algorithm_in t)) error.AlgorithmName
+  part_refusals = when (is_none (algorithm_in t)) error.AlgorithmName
       ∷ when (proposals_refused t) error.Proposals
       ∷ when (detector_refused t) error.DetectorNumbers
       ∷ when (share_refused t) error.Share

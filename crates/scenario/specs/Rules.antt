@@ -1,13 +1,8 @@
 -- The rules by which a scenario's table is refused, each by itself.
-use Rattle.std.specs.Prelude.{ℕ, ◌==◌, nat_le, nat_lt, ℤ, pos, List, [], ◌∷◌, length, map, filter, find, Bool, true, false, not, ◌&&◌, ◌||◌, if◌then◌else◌, Option, Some, is_none, codes}
-use Rattle.std.specs.List.{list_any, range_with_len, flat_map}
-use Rattle.std.specs.Option.{option_map_or}
-use Rattle.toml.specs.Data.{Members}
-use Rattle.scenario_record.specs.Record.{Record, link}
+use Rattle.std.specs.{Prelude.{ℕ, ◌==◌, nat_le, nat_lt, ℤ, pos, List, [], ◌∷◌, length, map, filter, find, Bool, true, false, not, ◌&&◌, ◌||◌, if◌then◌else◌, Option, Some, is_none, codes}, List.{list_any, range_with_len, flat_map}}
+use Rattle.{std.specs.Option.{option_map_or}, toml.specs.Data.{Members}, scenario_record.specs.{Record.{Record, link}, declared.{algorithm.AlgorithmKind.{AlgorithmKind}, link.Link.{Link}}}}
 use Rattle.scenario.specs.Table.{number_or, same_text, integers_at, has_key, table_at, table_or_empty, tables_at}
 use Rattle.scenario.specs.Text.{natural_of, kind_in, is_fresh, algorithm_in, watch_in, delays_of, pair_of, same_pair, outage_of, crash_process, processes_of}
-use Rattle.scenario_record.specs.declared.algorithm.AlgorithmKind.{AlgorithmKind}
-use Rattle.scenario_record.specs.declared.link.Link.{Link}
 use Rattle.scenario_record.specs.declared.algorithm.AlgorithmKind.TheVariants as kind
 use Rattle.process_api.specs.Place.{most_processes}
 
@@ -48,18 +43,13 @@ abbrev pub are_bad_proposals : Option AlgorithmKind → ℕ → Bool → List �
 are_bad_proposals (Some kind.Idle) n is_there zs = is_there
 are_bad_proposals _ n is_there zs = are_other_than n is_there zs
 
--- the proposals of a table aren't one of each of n processes
-abbrev pub has_other_proposals : ℕ → Members → Bool
-has_other_proposals n t = are_other_than n (has_key (codes "proposals") t) (integers_at (codes "proposals") t)
-
 -- those of a table don't fit its algorithm and its processes
 abbrev pub proposals_refused : Members → Bool
 proposals_refused t = are_bad_proposals (algorithm_in t) (processes_of t)
     (has_key (codes "proposals") t) (integers_at (codes "proposals") t)
 
 unfoldable pub is_bad_timeout : Members → Bool
-is_bad_timeout d =
-    is_outside 1 1000000 (codes "period") 0 d || (is_outside 1 1000000 (codes "check") 0 d
+is_bad_timeout d = is_outside 1 1000000 (codes "period") 0 d || (is_outside 1 1000000 (codes "check") 0 d
     || (is_outside 1 1000000 (codes "timeout") 0 d || (is_outside 1 1000000 (codes "grow") 1 d
     || is_none (watch_in d))))
 
@@ -86,14 +76,12 @@ share_refused t = option_map_or is_bad_share (table_at (codes "share") t) false
 
 -- min or max out of range, min above max, or loss out of range
 unfoldable pub is_bad_link : Members → Bool
-is_bad_link l =
-    is_outside 1 1000000 (codes "min") 0 l || (is_outside 1 1000000 (codes "max") 0 l
+is_bad_link l = is_outside 1 1000000 (codes "min") 0 l || (is_outside 1 1000000 (codes "max") 0 l
     || (nat_lt (delays_of l).max (delays_of l).min || is_outside 0 1000 (codes "loss") 0 l))
 
 -- of n processes: the delays are refused, from or to isn't a process, or both are one
 unfoldable pub is_bad_pair : ℕ → Members → Bool
-is_bad_pair n l =
-    is_bad_link l || (is_outside 1 n (codes "from") 0 l || (is_outside 1 n (codes "to") 0 l
+is_bad_pair n l = is_bad_link l || (is_outside 1 n (codes "from") 0 l || (is_outside 1 n (codes "to") 0 l
     || (pair_of l).0 == (pair_of l).1))
 
 -- some table is refused by itself, or two are of one pair

@@ -1,10 +1,6 @@
 -- What a TOML table holds at its keys, and the faults of its keys.
-use Rattle.std.specs.Prelude.{ℕ, nat_eq, ℤ, List, [], ◌∷◌, Bool, true, false, not, ◌&&◌, Option, option_and_then, unwrap_or, is_some, is_none, if◌then◌else◌}
-use Rattle.std.specs.List.{list_any}
-use Rattle.std.specs.Option.{option_map_or}
-use Rattle.std.specs.Cmp.Lexicographic.{pointwise}
-use Rattle.toml.specs.Data.{Data, integer, table, Members, no_members, member, Items, no_items, item, get_member, as_integer, as_str, as_array, as_table}
-use Rattle.scenario.specs.declared.field.Kind.{Kind}
+use Rattle.std.specs.{Prelude.{ℕ, nat_eq, ℤ, List, [], ◌∷◌, Bool, true, false, not, ◌&&◌, Option, option_and_then, unwrap_or, is_some, is_none, if◌then◌else◌}, List.{list_any}, Option.{option_map_or}, Cmp.Lexicographic.{pointwise}}
+use Rattle.{toml.specs.Data.{Data, integer, table, Members, no_members, member, Items, no_items, item, get_member, as_integer, as_str, as_array, as_table}, scenario.specs.declared.field.Kind.{Kind}}
 use Rattle.scenario.specs.declared.field.Kind.TheVariants as kind
 
 -- the integer at a key, or the default where there is none
@@ -15,7 +11,6 @@ number_or key default t = unwrap_or (option_and_then as_integer (get_member key 
 unfoldable pub text_or : List ℕ → List ℕ → Members → List ℕ
 text_or key default t = unwrap_or (option_and_then as_str (get_member key t)) default
 
--- the integers among the items
 abbrev pub the_integers : Items → List ℤ
 the_integers no_items = []
 the_integers (item (integer z) ds) = z ∷ the_integers ds
@@ -29,7 +24,6 @@ array_in key t = option_and_then as_array (get_member key t)
 unfoldable pub integers_at : List ℕ → Members → List ℤ
 integers_at key t = option_map_or the_integers (array_in key t) []
 
--- the key is there
 unfoldable pub has_key : List ℕ → Members → Bool
 has_key key t = is_some (get_member key t)
 
@@ -52,7 +46,6 @@ is_number d = is_some (as_integer d)
 abbrev pub is_table : Data → Bool
 is_table d = is_some (as_table d)
 
--- the tables among the items
 abbrev pub the_tables : Items → List Members
 the_tables no_items = []
 the_tables (item (table ms) ds) = ms ∷ the_tables ds
@@ -60,8 +53,7 @@ the_tables (item _ ds) = the_tables ds
 
 -- the tables of the array of tables at a key; none where there is no such array
 unfoldable pub tables_at : List ℕ → Members → List Members
-tables_at key t =
-    option_map_or (λ ds. if all_items is_table ds then the_tables ds else []) (array_in key t) []
+tables_at key t = option_map_or (λ ds. if all_items is_table ds then the_tables ds else []) (array_in key t) []
 
 -- the value is of the kind
 abbrev pub is_of : Kind → Data → Bool
@@ -81,15 +73,12 @@ abbrev pub keys_of : Members → List (List ℕ)
 keys_of no_members = []
 keys_of (member k d ms) = k ∷ keys_of ms
 
--- the same text
 abbrev pub same_text : List ℕ → List ℕ → Bool
 same_text = pointwise nat_eq
 
--- the key is listed
 unfoldable pub is_listed : List Field → List ℕ → Bool
 is_listed fields key = list_any (λ f. same_text f.key key) fields
 
--- some key isn't listed
 unfoldable pub has_unlisted : List Field → Members → Bool
 has_unlisted fields t = list_any (λ k. not (is_listed fields k)) (keys_of t)
 
@@ -97,7 +86,6 @@ has_unlisted fields t = list_any (λ k. not (is_listed fields k)) (keys_of t)
 unfoldable pub is_lacking : Field → Members → Bool
 is_lacking f t = f.needed && is_none (get_member f.key t)
 
--- some needed key is missing
 unfoldable pub has_lacking : List Field → Members → Bool
 has_lacking fields t = list_any (λ f. is_lacking f t) fields
 

@@ -1,20 +1,11 @@
 -- The record that a scenario's table stands for, defaults filled in.
-use Rattle.std.specs.Prelude.{ℕ, ◌==◌, ℤ, pos, negsuc, List, [], map, filter, find, Bool, ◌&&◌, Option, Some, None, option_map, unwrap_or, codes, if◌then◌else◌}
-use Rattle.std.specs.List.{range_with_len, flat_map}
-use Rattle.std.specs.Ordering.{int_eq}
-use Rattle.toml.specs.Data.{Members}
-use Rattle.process_api.specs.declared.numbers.DetectorNumbers.{DetectorNumbers}
+use Rattle.std.specs.{Prelude.{ℕ, ◌==◌, ℤ, pos, negsuc, List, [], map, filter, find, Bool, ◌&&◌, Option, Some, None, option_map, unwrap_or, codes, if◌then◌else◌}, List.{range_with_len, flat_map}, Ordering.{int_eq}}
+use Rattle.{toml.specs.Data.{Members}, process_api.specs.declared.numbers.{DetectorNumbers.{DetectorNumbers}, FreshnessNumbers.{FreshnessNumbers}, TimeoutNumbers.{TimeoutNumbers}, Watch.{Watch}}}
 use Rattle.process_api.specs.declared.numbers.DetectorNumbers.TheVariants as numbers
-use Rattle.process_api.specs.declared.numbers.FreshnessNumbers.{FreshnessNumbers}
-use Rattle.process_api.specs.declared.numbers.TimeoutNumbers.{TimeoutNumbers}
-use Rattle.process_api.specs.declared.numbers.Watch.{Watch}
 use Rattle.process_api.specs.declared.numbers.Watch.TheVariants as watch
-use Rattle.scenario_record.specs.Record.{Record}
+use Rattle.scenario_record.specs.{Record.{Record}, declared.{algorithm.AlgorithmKind.{AlgorithmKind}, link.Link.{Link}, outage.Outage.{Outage}}}
 use Rattle.scenario.specs.Table.{number_or, text_or, integers_at, same_text, table_at, table_or_empty, tables_at}
-use Rattle.scenario_record.specs.declared.algorithm.AlgorithmKind.{AlgorithmKind}
 use Rattle.scenario_record.specs.declared.algorithm.AlgorithmKind.TheVariants as kind
-use Rattle.scenario_record.specs.declared.link.Link.{Link}
-use Rattle.scenario_record.specs.declared.outage.Outage.{Outage}
 
 -- the number, where it isn't negative
 abbrev pub natural_of : ℤ → Option ℕ
@@ -37,20 +28,17 @@ is_second t = int_eq (number_or (codes "version") (pos 0) t) (pos 2)
 abbrev pub kind_in : Members → List ℕ
 kind_in d = text_or (codes "kind") (codes "timeout") d
 
--- it is freshness points
 unfoldable pub is_fresh : Members → Bool
 is_fresh d = same_text (kind_in d) (codes "freshness")
 
 unfoldable pub algorithm_named : List ℕ → Option AlgorithmKind
-algorithm_named name =
-    if same_text name (codes "none") then Some kind.Idle
+algorithm_named name = if same_text name (codes "none") then Some kind.Idle
     else if same_text name (codes "s") then Some kind.Strong
     else if same_text name (codes "es") then Some kind.EventuallyStrong
     else None
 
 unfoldable pub watch_named : List ℕ → Option Watch
-watch_named name =
-    if same_text name (codes "all") then Some watch.All
+watch_named name = if same_text name (codes "all") then Some watch.All
     else if same_text name (codes "next") then Some watch.Next
     else None
 

@@ -1,10 +1,8 @@
 //! The least pair whose link is below the lookahead.
 ghost use Rattle.std.specs.Prelude.{◌≡◌, ◌≢◌, ◌≤◌, ◌<◌, ◌*◌, ◌==◌, ◌&&◌, not, IsTrue, find, length, IfSome};
 ghost use Rattle.process_api.specs.Place.{most_processes};
-ghost use Rattle.scenario.specs.Rules.{pair_below, pairs_from, is_below};
+ghost use Rattle.scenario.specs.{Rules.{pair_below, pairs_from, is_below}, Text.{record_of}, Parts.{link_in}, Inside.Parts.{IsLow, IsTop}};
 ghost use Rattle.toml.specs.View.{table_view};
-ghost use Rattle.scenario.specs.Text.{record_of};
-ghost use Rattle.scenario.specs.Parts.{link_in, IsLow, IsTop};
 
 use crate::links::place_of;
 use crate::numbers::Top;

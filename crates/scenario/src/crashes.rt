@@ -1,11 +1,7 @@
 //! The crash tables.
 ghost use Rattle.std.specs.Prelude.{◌≡◌, codes, is_none, IfOk, IfSome};
 ghost use Rattle.toml.specs.View.{table_view};
-ghost use Rattle.scenario.specs.Table.{tables_at};
-ghost use Rattle.scenario.specs.Text.{crash_process, crash_tick, record_of};
-ghost use Rattle.scenario.specs.Rules.{is_bad_crash, crashes_refused};
-ghost use Rattle.scenario.specs.Refusals.{Judges, when};
-ghost use Rattle.scenario.specs.Parts.{tables_in, IsProcess, IsTop};
+ghost use Rattle.scenario.specs.{Table.{tables_at}, Text.{crash_process, crash_tick, record_of}, Rules.{is_bad_crash, crashes_refused}, Refusals.{Judges, when}, Inside.Parts.{tables_in, IsTop}, Parts.{IsProcess}};
 
 use crate::error::ScenarioError;
 use crate::numbers::{LAST_TICK, Top, ranged};

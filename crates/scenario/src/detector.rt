@@ -1,8 +1,7 @@
 //! The numbers of the detector and of the reduction.
 ghost use Rattle.std.specs.Prelude.{◌≡◌, ◌||◌, is_none, IfSome};
 ghost use Rattle.toml.specs.View.{table_view};
-ghost use Rattle.scenario.specs.Text.{detector_of, freshness_of, record_of, timeout_of};
-ghost use Rattle.scenario.specs.Rules.{detector_refused, is_bad_detector, is_bad_freshness, is_bad_timeout, is_other_kind, share_refused};
+ghost use Rattle.scenario.specs.{Text.{detector_of, freshness_of, record_of, timeout_of}, Rules.{detector_refused, is_bad_detector, is_bad_freshness, is_bad_timeout, is_other_kind, share_refused}};
 
 use crate::names::watch_of;
 use crate::numbers::{MOST_TICKS, ranged};

@@ -1,13 +1,7 @@
 //! What is wrong with a refused file, and where: it is looked for once the refusal is known.
 ghost use Rattle.std.specs.Prelude.{◌≡◌, IfOk, IfSome};
-ghost use Rattle.toml.specs.Data.{Members};
-ghost use Rattle.toml.specs.View.{table_view};
-ghost use Rattle.scenario.specs.Table.{tables_at};
-ghost use Rattle.scenario.specs.Text.{processes_of};
-ghost use Rattle.scenario.specs.Parts.{tables_in, AreTables};
-ghost use Rattle.scenario.specs.Keys.{array_key};
-ghost use Rattle.scenario.specs.Ranges.{array_error, section_error};
-ghost use Rattle.scenario.specs.Faults.{Breaks, Finds};
+ghost use Rattle.toml.specs.{Data.{Members}, View.{table_view}};
+ghost use Rattle.scenario.specs.{Table.{tables_at}, Text.{processes_of}, Inside.{Parts.{tables_in, AreTables}, Private.{array_error, section_error}}, Keys.{array_key}, Faults.{Breaks, Finds}};
 
 use crate::below::{is_low, link_of};
 use crate::error::ScenarioError;

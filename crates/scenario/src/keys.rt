@@ -1,13 +1,9 @@
 //! The tables of a scenario's file, and the faults of their keys.
-ghost use Rattle.std.specs.Prelude.{◌≡◌, false, is_some, Some, IfOk, IfSome};
-ghost use Rattle.std.specs.List.{list_any};
-ghost use Rattle.std.specs.Option.{option_map_or};
+ghost use Rattle.std.specs.{Prelude.{◌≡◌, false, is_some, Some, IfOk, IfSome}, List.{list_any}, Option.{option_map_or}};
 ghost use Rattle.toml.specs.View.{table_view};
-ghost use Rattle.scenario.specs.Parts.{fields_of, fault_of, error_of, table_in, tables_in, AreTables};
-ghost use Rattle.scenario.specs.Keys.{some_table, top_fields, detector_fields, share_fields, link_fields, pair_fields, crash_fields, outage_fields, array_key, fields_at, fields_in, fields_of_array, table_of};
-ghost use Rattle.scenario.specs.Table.{tables_at};
-ghost use Rattle.scenario.specs.Refusals.{Judges, first_of, key_refusals};
-ghost use Rattle.scenario.specs.Faults.{Breaks, IsFault};
+ghost use Rattle.scenario.specs.{Parts.{fields_of, fault_of}, Inside.Parts.{error_of, table_in, tables_in, AreTables}};
+ghost use Rattle.scenario.specs.{Keys.{some_table, top_fields, detector_fields, share_fields, link_fields, pair_fields, crash_fields, outage_fields, array_key, fields_at, fields_in, fields_of_array, table_of}, Table.{tables_at}};
+ghost use Rattle.scenario.specs.{Refusals.{Judges, first_of, key_refusals}, Faults.{Breaks, IsFault}};
 
 use crate::error::ScenarioError;
 use crate::fault::{Fault, UnknownKey};

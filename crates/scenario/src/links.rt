@@ -1,12 +1,8 @@
 //! The links.
 ghost use Rattle.std.specs.Prelude.{◌≡◌, ◌≤◌, ◌<◌, ◌+◌, ◌-◌, ◌*◌, codes, map, length, unwrap_or, is_none, IfOk, IfSome};
-ghost use Rattle.process_api.specs.Place.{most_processes};
-ghost use Rattle.toml.specs.View.{table_view};
-ghost use Rattle.scenario.specs.Table.{table_or_empty, tables_at};
-ghost use Rattle.scenario.specs.Text.{delays_of, pair_of, record_of};
-ghost use Rattle.scenario.specs.Rules.{is_bad_link, is_bad_pair, links_refused};
-ghost use Rattle.scenario.specs.Refusals.{Judges, when};
-ghost use Rattle.scenario.specs.Parts.{tables_in, AreProcesses, IsTop, links_of, pairs_refused};
+ghost use Rattle.{process_api.specs.Place.{most_processes}, toml.specs.View.{table_view}};
+ghost use Rattle.scenario.specs.{Table.{table_or_empty, tables_at}, Text.{delays_of, pair_of, record_of}, Rules.{is_bad_link, is_bad_pair, links_refused}, Refusals.{Judges, when}};
+ghost use Rattle.scenario.specs.{Inside.Parts.{tables_in, AreProcesses, IsTop, pairs_refused}, Parts.{links_of}};
 
 use crate::error::ScenarioError;
 use crate::numbers::{MOST_TICKS, Top, ranged};

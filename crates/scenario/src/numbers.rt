@@ -1,12 +1,8 @@
 //! The numbers of a scenario's tables.
 ghost use Rattle.std.specs.Prelude.{◌≡◌, ◌≤◌, ◌<◌, ◌^◌, ◌&&◌, nat_le, IsTrue, codes, pos, is_none, IfOk, IfSome};
-ghost use Rattle.process_api.specs.Place.{most_processes};
-ghost use Rattle.toml.specs.View.{table_view};
-ghost use Rattle.scenario.specs.Table.{number_or};
-ghost use Rattle.scenario.specs.Text.{number_at, natural_of, processes_of, is_second as second_in};
-ghost use Rattle.scenario.specs.Rules.{is_outside, is_negative, is_within, most_in};
-ghost use Rattle.scenario.specs.Refusals.{Judges, first_of, number_refusals};
-ghost use Rattle.scenario.specs.Parts.{AreNumbersOf};
+ghost use Rattle.{process_api.specs.Place.{most_processes}, toml.specs.View.{table_view}};
+ghost use Rattle.scenario.specs.{Table.{number_or}, Text.{number_at, natural_of, processes_of, is_second as second_in}, Rules.{is_outside, is_negative, is_within, most_in}, Refusals.{Judges, first_of, number_refusals}};
+ghost use Rattle.scenario.specs.Inside.Parts.{AreNumbersOf};
 
 use crate::error::ScenarioError::{self, Horizon, Limit, Lookahead, Processes, Seed, Version};
 use crate::table::{is_second, number};

@@ -1,14 +1,8 @@
 //! The outage tables.
 ghost use Rattle.std.specs.Prelude.{◌≡◌, ◌<◌, ◌≤◌, ◌+◌, ◌∷◌, ◌*◌, [], map, length, codes, vec_len, is_none, OnOk, IfOk, IfSome};
-ghost use Rattle.process_api.specs.Place.{most_processes};
-ghost use Rattle.toml.specs.Data.{Members};
-ghost use Rattle.toml.specs.View.{table_view};
-ghost use Rattle.scenario.specs.Table.{tables_at};
-ghost use Rattle.scenario.specs.Text.{outages_among};
-ghost use Rattle.scenario.specs.Drawn.{outage_table, all_outages};
-ghost use Rattle.scenario.specs.Rules.{is_bad_outage};
-ghost use Rattle.scenario.specs.Parts.{tables_in, outages_in, AreProcesses, IsTop};
-ghost use Rattle.scenario.specs.Inside.Outages.{Adds, AreOutagesOf, JudgesOutages, Says, with_outage};
+ghost use Rattle.{process_api.specs.Place.{most_processes}, toml.specs.{Data.{Members}, View.{table_view}}};
+ghost use Rattle.scenario.specs.{Table.{tables_at}, Text.{outages_among}, Drawn.{outage_table, all_outages}, Rules.{is_bad_outage}};
+ghost use Rattle.scenario.specs.{Inside.{Parts.{tables_in, AreProcesses, IsTop}, Outages.{Adds, AreOutagesOf, JudgesOutages, Says, with_outage}}, Parts.{outages_in}};
 
 use crate::drawn::LinkOutage;
 use crate::error::ScenarioError;

@@ -1,9 +1,6 @@
 //! The parts of a scenario that depend on the numbers of its top table.
-ghost use Rattle.std.specs.Prelude.{IfOk};
-ghost use Rattle.toml.specs.View.{table_view};
-ghost use Rattle.scenario.specs.Text.{record_of};
-ghost use Rattle.scenario.specs.Refusals.{Judges, first_of, part_refusals};
-ghost use Rattle.scenario.specs.Parts.{AreTables, ArePartsOf, IsTop};
+ghost use Rattle.{std.specs.Prelude.{IfOk}, toml.specs.View.{table_view}};
+ghost use Rattle.scenario.specs.{Text.{record_of}, Refusals.{Judges, first_of, part_refusals}, Inside.Parts.{AreTables, ArePartsOf, IsTop}};
 
 use crate::below::first_below;
 use crate::crashes::read_crashes;

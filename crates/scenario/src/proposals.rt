@@ -1,12 +1,8 @@
 //! The proposals of the processes.
 ghost use Rattle.std.specs.Prelude.{◌≡◌, ◌≤◌, Some, codes, is_none, IfOk, IfSome};
 ghost use Rattle.toml.specs.View.{items_view, table_view};
-ghost use Rattle.scenario.specs.Table.{the_integers, has_key};
-ghost use Rattle.scenario.specs.Text.{natural, algorithm_in, proposals_of, record_of};
-ghost use Rattle.scenario.specs.Rules.{is_bad_proposal, has_other_proposals, proposals_refused};
-ghost use Rattle.scenario.specs.Parts.{IsTop};
-ghost use Rattle.scenario.specs.Inside.Proposals.{AreReadOf};
-ghost use Rattle.scenario.specs.Refusals.{Judges, when};
+ghost use Rattle.scenario.specs.{Table.{the_integers, has_key}, Text.{natural, algorithm_in, proposals_of, record_of}, Rules.{is_bad_proposal, proposals_refused}};
+ghost use Rattle.scenario.specs.{Inside.{Private.{has_other_proposals}, Parts.{IsTop}, Proposals.{AreReadOf}}, Refusals.{Judges, when}};
 
 use crate::error::ScenarioError;
 use crate::numbers::{Top, natural};

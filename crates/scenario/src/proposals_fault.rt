@@ -1,11 +1,7 @@
 //! What is wrong with proposals that are refused.
 ghost use Rattle.std.specs.Prelude.{◌≡◌, Some, codes, IfSome};
-ghost use Rattle.toml.specs.Data.{Members};
-ghost use Rattle.toml.specs.View.{items_view, table_view};
-ghost use Rattle.scenario.specs.Table.{array_in};
-ghost use Rattle.scenario.specs.Text.{processes_of};
-ghost use Rattle.scenario.specs.Faults.{AsksForOne, Breaks, IsProposalsFault};
-ghost use Rattle.scenario.specs.declared.error.ScenarioError.{ScenarioError};
+ghost use Rattle.toml.specs.{Data.{Members}, View.{items_view, table_view}};
+ghost use Rattle.scenario.specs.{Table.{array_in}, Text.{processes_of}, Faults.{AsksForOne, Breaks, IsProposalsFault}, declared.error.ScenarioError.{ScenarioError}};
 
 use crate::fault::ProposalsFault;
 use crate::finding::Finding;

@@ -1,12 +1,7 @@
 //! How a scenario's file is read.
 ghost use Rattle.std.specs.Prelude.{◌≡◌, false, None, OnOk, IfOk, IfErr};
-ghost use Rattle.toml.specs.View.{table_view};
-ghost use Rattle.toml.specs.Data.{Members};
-ghost use Rattle.scenario.specs.Text.{record_of};
-ghost use Rattle.scenario.specs.Drawn.{lacks_outages, with_outages};
-ghost use Rattle.scenario.specs.Parts.{AreNumbersOf, ArePartsOf};
-ghost use Rattle.scenario.specs.Refusals.{Accepts, IsAnswer, Judges, Refuses, is_memory, refusal_of};
-ghost use Rattle.scenario.specs.Faults.{Finds};
+ghost use Rattle.toml.specs.{View.{table_view}, Data.{Members}};
+ghost use Rattle.scenario.specs.{Text.{record_of}, Inside.{Private.{lacks_outages}, Parts.{AreNumbersOf, ArePartsOf}}, Drawn.{with_outages}, Refusals.{Accepts, IsAnswer, Judges, Refuses, is_memory, refusal_of}, Faults.{Finds}};
 
 use crate::drawn::LinkOutage;
 use crate::error::ScenarioError;

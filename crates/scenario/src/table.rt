@@ -1,12 +1,8 @@
 //! The values of a TOML table at its keys, and the faults of its keys.
-ghost use Rattle.std.specs.Prelude.{◌≡◌, false, is_some, option_map, option_copied, IfOk, IfSome};
-ghost use Rattle.std.specs.List.{Contains};
-ghost use Rattle.toml.specs.View.{view, array_view, items_view, table_view};
-ghost use Rattle.toml.specs.Data.{get_member};
+ghost use Rattle.std.specs.{Prelude.{◌≡◌, false, is_some, option_map, option_copied, IfOk, IfSome}, List.{Contains}};
+ghost use Rattle.toml.specs.{View.{view, array_view, items_view, table_view}, Data.{get_member}};
 ghost use Rattle.scenario.specs.Table.{array_in, number_or, text_or, has_key, table_at, tables_at, the_tables, all_items, is_number, is_table, is_of, is_listed, keys_of, has_unlisted, is_lacking, has_lacking, is_mistyped, has_mistyped};
-ghost use Rattle.scenario.specs.Parts.{field_of, fields_of, table_in, tables_in};
-ghost use Rattle.scenario.specs.Text.{is_second as second_in, is_fresh as fresh_in};
-ghost use Rattle.scenario.specs.Faults.{integer_in, text_in, has_integer, IsMissing, IsWrongKind, IsWrongKindOf};
+ghost use Rattle.scenario.specs.{Parts.{field_of, fields_of}, Inside.Parts.{table_in, tables_in}, Text.{is_second as second_in, is_fresh as fresh_in}, Faults.{integer_in, text_in, has_integer, IsMissing, IsWrongKind, IsWrongKindOf}};
 
 use crate::fault::WrongKind;
 use crate::field::{Field, Kind};

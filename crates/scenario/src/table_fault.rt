@@ -1,13 +1,8 @@
 //! The first fault that a table has by itself: a value that a refusal is about.
-ghost use Rattle.std.specs.Prelude.{◌≡◌, ℕ, map, true, Some};
-ghost use Rattle.std.specs.List.{list_any};
-ghost use Rattle.toml.specs.Data.{Members};
-ghost use Rattle.toml.specs.View.{table_view};
-ghost use Rattle.scenario.specs.Table.{same_text};
-ghost use Rattle.scenario.specs.Text.{processes_of};
-ghost use Rattle.scenario.specs.Ranges.{Subject, allowed_of, element_subject, ends_of, section_error, subject_of};
-ghost use Rattle.scenario.specs.Ranges.{crash_subject, detector_subject, link_subject, outage_subject, pair_subject};
-ghost use Rattle.scenario.specs.Faults.{IsFoundBy};
+ghost use Rattle.std.specs.{Prelude.{◌≡◌, ℕ, map, true, Some}, List.{list_any}};
+ghost use Rattle.toml.specs.{Data.{Members}, View.{table_view}};
+ghost use Rattle.scenario.specs.{Table.{same_text}, Text.{processes_of}, Ranges.{Subject, allowed_of, ends_of, subject_of, crash_subject, detector_subject, link_subject, outage_subject, pair_subject}};
+ghost use Rattle.scenario.specs.Inside.Private.{element_subject, section_error, IsFoundBy};
 
 use crate::error::ScenarioError;
 use crate::fault::{Fault, MinAboveMax, NotBefore, OtherName, Outside};
@@ -21,7 +16,7 @@ use toml::Table;
 const MOST_TICKS: u64 = 1_000_000;
 
 /// The fault of the number at a key, if there is one and it lies outside these ends.
-#[tactic(auto, unfolding(crate::specs::Faults::IsFoundBy))]
+#[tactic(auto, unfolding(crate::specs::Inside::Private::IsFoundBy))]
 fn outside<'a>(table: &'a Table, key: &'static str, low: u64, high: u64) -> Option<Fault<'a>>
     ensures { (s : Subject) → ends_of s.ranges key.now ≡ Some (low, high)
         → IsFoundBy s (table_view table.now) result }
@@ -46,7 +41,7 @@ fn is_among(names: &[&str], text: &str) -> bool
 }
 
 /// The fault of the text at a key, if there is one and it is none of these names.
-#[tactic(auto, unfolding(crate::specs::Faults::IsFoundBy))]
+#[tactic(auto, unfolding(crate::specs::Inside::Private::IsFoundBy))]
 pub(crate) fn other_name<'a>(
     table: &'a Table,
     key: &'static str,
@@ -67,7 +62,7 @@ pub(crate) fn other_name<'a>(
 }
 
 /// The fault of a link's table, if its `min` is above its `max`.
-#[tactic(auto, unfolding(crate::specs::Faults::IsFoundBy))]
+#[tactic(auto, unfolding(crate::specs::Inside::Private::IsFoundBy))]
 fn min_above_max(table: &Table) -> Option<Fault<'_>>
     ensures { (s : Subject) → s.delays ≡ true → IsFoundBy s (table_view table.now) result }
 {
@@ -80,7 +75,7 @@ fn min_above_max(table: &Table) -> Option<Fault<'_>>
 }
 
 /// The fault of a table of a pair, if that is of one process.
-#[tactic(auto, unfolding(crate::specs::Faults::IsFoundBy))]
+#[tactic(auto, unfolding(crate::specs::Inside::Private::IsFoundBy))]
 fn to_itself(table: &Table) -> Option<Fault<'_>>
     ensures { (s : Subject) → s.pair ≡ true → IsFoundBy s (table_view table.now) result }
 {
@@ -93,7 +88,7 @@ fn to_itself(table: &Table) -> Option<Fault<'_>>
 }
 
 /// The fault of a table of `outage`, if its `begin` isn't below its `until`.
-#[tactic(auto, unfolding(crate::specs::Faults::IsFoundBy))]
+#[tactic(auto, unfolding(crate::specs::Inside::Private::IsFoundBy))]
 fn not_before(table: &Table) -> Option<Fault<'_>>
     ensures { (s : Subject) → s.ends ≡ true → IsFoundBy s (table_view table.now) result }
 {
@@ -106,7 +101,7 @@ fn not_before(table: &Table) -> Option<Fault<'_>>
 }
 
 /// The fault of the top table for which it gets this refusal.
-#[tactic(auto, unfolding(crate::specs::Faults::IsFoundBy))]
+#[tactic(auto, unfolding(crate::specs::Inside::Private::IsFoundBy))]
 pub(crate) fn top_fault<'a>(top: &'a Table, error: &ScenarioError) -> Option<Fault<'a>>
     ensures { IsFoundBy (subject_of error.now Place.Top (table_view top.now)) (table_view top.now) result }
 {

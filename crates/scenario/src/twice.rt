@@ -1,13 +1,7 @@
 //! Tables that repeat the subject of an earlier one of their array.
 ghost use Rattle.std.specs.Prelude.{◌≡◌, ◌<◌, length, IfSome};
-ghost use Rattle.toml.specs.Data.{Members};
-ghost use Rattle.toml.specs.View.{table_view};
-ghost use Rattle.scenario.specs.Table.{tables_at};
-ghost use Rattle.scenario.specs.Parts.{tables_in};
-ghost use Rattle.scenario.specs.Keys.{array_key};
-ghost use Rattle.scenario.specs.Ranges.{array_error};
-ghost use Rattle.scenario.specs.Faults.{Breaks, is_of_pair as of_pair};
-ghost use Rattle.scenario.specs.declared.error.ScenarioError.{ScenarioError};
+ghost use Rattle.toml.specs.{Data.{Members}, View.{table_view}};
+ghost use Rattle.scenario.specs.{Table.{tables_at}, Inside.{Parts.{tables_in}, Private.{array_error}}, Keys.{array_key}, Faults.{Breaks, is_of_pair as of_pair}, declared.error.ScenarioError.{ScenarioError}};
 
 use crate::finding::Finding;
 use crate::place::TableArray;

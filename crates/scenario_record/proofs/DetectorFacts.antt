@@ -1,11 +1,9 @@
 -- A detector that opens with numbers in their ranges has pauses of at least 1.
 use Rattle.std.proofs.Common.{◌≡◌, ℕ, ◌≤◌, true, nat_le, arith}
 use Rattle.std.specs.Prelude.{IsTrue}
-use Rattle.process_api.specs.Detector.{opening_detector, has_pauses}
-use Rattle.process_api.specs.declared.numbers.DetectorNumbers.{DetectorNumbers}
+use Rattle.process_api.specs.{Detector.{opening_detector, has_pauses}, declared.numbers.DetectorNumbers.{DetectorNumbers}}
 use Rattle.process_api.specs.declared.numbers.DetectorNumbers.TheVariants as numbers
-use Rattle.process_api.proofs.Minds.{and_true}
-use Rattle.scenario_record.specs.Ranges.{AreInRange}
+use Rattle.{process_api.proofs.Minds.{and_true}, scenario_record.specs.Ranges.{AreInRange}}
 
 at_least_one : (n : ℕ) → 1 ≤ n → nat_le 1 n ≡ true
 at_least_one n h = grind arith

@@ -1,16 +1,10 @@
 -- Outages by rising begins, each lengthened to the end of any that begins before it.
 use Rattle.std.proofs.Common.{◌≡◌, ◌∙◌, refl, sym, ap, rules, Bool, true, false, true≢false, ◌&&◌, ◌||◌, ℕ, ◌+◌, ◌-◌, ◌<◌, ◌≤◌, nat_le, nat_lt, max, List, [], ◌∷◌, ◌++◌, length, map, take, get_or, leb, ltb, leb-true, lt_of_lt_of_le, subst, arith}
-use Rattle.std.specs.List.{list_any, All}
-use Rattle.std.specs.List.Sorted.{IsNonDecreasingBy, IsPartitionPoint, IsPermutation}
-use Rattle.std.proofs.Math.ListN.{get_or-map}
-use Rattle.std.proofs.Math.Nat.{le-max_left, le-max_right, max-le}
+use Rattle.std.proofs.Math.{ListN.{get_or-map}, Nat.{le-max_left, le-max_right, max-le}}
 use Rattle.std.proofs.lemmas.Bool.{leb-false, ltb-false, ltb-true, lt-ltb, le-ltb, le-leb}
-use Rattle.std.proofs.lemmas.List.{map-append, take_more, take_all, length-map, length-take-le, get_or_default, get_or-take, get_or_push}
-use Rattle.std.proofs.lemmas.List.Folds.{list_any_at, list_any_none, list_any_more, list_any-append}
-use Rattle.std.proofs.lemmas.List.Sorted.{IsNonDecreasingBy-push, list_any-IsPermutation}
-use Rattle.scenario_record.specs.Record.{covers}
-use Rattle.scenario_record.specs.Inside.Stretches.{AreStretchesOf}
-use Rattle.scenario_record.specs.declared.outage.Outage.{Outage}
+use Rattle.std.proofs.lemmas.List.{map-append, take_more, take_all, length-map, length-take-le, get_or_default, get_or-take, get_or_push, Folds.{list_any_at, list_any_none, list_any_more, list_any-append}, Sorted.{IsNonDecreasingBy-push, list_any-IsPermutation}}
+use Rattle.std.specs.List.{list_any, All, Sorted.{IsNonDecreasingBy, IsPartitionPoint, IsPermutation}}
+use Rattle.scenario_record.specs.{Record.{covers}, Inside.Stretches.{AreStretchesOf}, declared.outage.Outage.{Outage}}
 
 abbrev pub begin_of : Outage → ℕ
 begin_of o = o.begin

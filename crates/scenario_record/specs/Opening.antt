@@ -1,11 +1,6 @@
 -- The mind with which a process opens.
 use Rattle.std.specs.Prelude.{None, option_map, unwrap_or}
-use Rattle.process_api.specs.Place.{Place}
-use Rattle.process_api.specs.Detector.{opening_detector}
-use Rattle.process_api.specs.Reduction.{opening_reduction}
-use Rattle.process_api.specs.ConsensusS.{opening_exchange}
-use Rattle.process_api.specs.Coordinator.{opening_coordinator}
-use Rattle.process_api.specs.Mind.{Lower, AlgorithmState, Idle, Exchanging, Coordinating, Mind}
+use Rattle.process_api.specs.{Place.{Place}, Detector.{opening_detector}, Reduction.{opening_reduction}, ConsensusS.{opening_exchange}, Coordinator.{opening_coordinator}, Mind.{Lower, AlgorithmState, Idle, Exchanging, Coordinating, Mind}}
 use Rattle.scenario_record.specs.declared.algorithm.AlgorithmKind.TheVariants as kind
 use Rattle.scenario_record.specs.declared.opening.Opening.{Opening}
 
@@ -14,11 +9,7 @@ place_of o = record { own = o.own; processes = o.processes; horizon = o.horizon 
 
 -- the base detector alone
 abbrev pub base_of : Opening → Lower
-base_of o = record {
-  place = place_of o;
-  detector = opening_detector o.detector;
-  reduction = None;
-}
+base_of o = record { place = place_of o; detector = opening_detector o.detector; reduction = None }
 
 -- the detector, and the reduction where there is one
 abbrev pub lower_of : Opening → Lower

@@ -1,18 +1,7 @@
 -- The ranges of a scenario's fields. The ranges of a detector's numbers, and which algorithm is none.
-use Rattle.std.specs.Prelude.{◌≡◌, ◌≢◌, ℕ, ◌≤◌, ◌<◌, ◌*◌, ◌^◌, not, None, is_some, length, Bool, true, false}
-use Rattle.std.specs.List.{AllByRecursion}
-use Rattle.std.specs.Option.{ForSome}
-use Rattle.std.proofs.Props.{props}
-use Rattle.process_api.specs.Place.{most_processes}
-use Rattle.process_api.specs.declared.numbers.DetectorNumbers.{DetectorNumbers}
-use Rattle.process_api.specs.declared.numbers.DetectorNumbers.TheVariants.{Timeout, Freshness}
-use Rattle.process_api.specs.declared.numbers.FreshnessNumbers.{FreshnessNumbers}
-use Rattle.process_api.specs.declared.numbers.TimeoutNumbers.{TimeoutNumbers}
-use Rattle.scenario_record.specs.Record.{Record, proposal, crash, link, outages_on}
-use Rattle.scenario_record.specs.declared.link.Link.{Link}
-use Rattle.scenario_record.specs.declared.outage.Outage.{Outage}
-use Rattle.scenario_record.specs.declared.algorithm.AlgorithmKind.{AlgorithmKind}
-use Rattle.scenario_record.specs.declared.algorithm.AlgorithmKind.TheVariants.{Idle, Strong, EventuallyStrong}
+use Rattle.std.specs.{Prelude.{◌≡◌, ◌≢◌, ℕ, ◌≤◌, ◌<◌, ◌*◌, ◌^◌, not, None, is_some, length, Bool, true, false}, List.{AllByRecursion}, Option.{ForSome}}
+use Rattle.{std.proofs.Props.{props}, process_api.specs.{Place.{most_processes}, declared.numbers.{DetectorNumbers.{DetectorNumbers, TheVariants.{Timeout, Freshness}}, FreshnessNumbers.{FreshnessNumbers}, TimeoutNumbers.{TimeoutNumbers}}}}
+use Rattle.scenario_record.specs.{Record.{Record, proposal, crash, link, outages_on}, declared.{link.Link.{Link}, outage.Outage.{Outage}, algorithm.AlgorithmKind.{AlgorithmKind, TheVariants.{Idle, Strong, EventuallyStrong}}}}
 
 -- each number of ticks is 1 to 1,000,000
 pub record AreTimeoutInRange (numbers : TimeoutNumbers) : Type 0 where
@@ -78,8 +67,7 @@ pub record IsInRange (s : Record) : Type 0 where
   pub crashed_above : (p : ℕ) → s.processes < p → crash s p ≡ None
   -- each process is linked to each
   pub linked : length s.links ≡ s.processes * s.processes
-  pub links : (from to : ℕ) → 1 ≤ from → from ≤ s.processes → 1 ≤ to → to ≤ s.processes
-      → IsLink (link s from to)
+  pub links : (from to : ℕ) → 1 ≤ from → from ≤ s.processes → 1 ≤ to → to ≤ s.processes → IsLink (link s from to)
   -- a letter to another process takes at least the lookahead
   pub ahead : (from to : ℕ) → 1 ≤ from → from ≤ s.processes → 1 ≤ to → to ≤ s.processes
       → from ≢ to → s.lookahead ≤ (link s from to).min

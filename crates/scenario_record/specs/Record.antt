@@ -1,16 +1,8 @@
 -- What a scenario says.
 use Rattle.std.specs.Prelude.{ℕ, ◌+◌, ◌-◌, ◌*◌, List, [], get_or, slice_get, Option, None, option_map, unwrap_or, nat_le, nat_lt, Bool, ◌&&◌}
-use Rattle.process_api.specs.Place.{Place}
-use Rattle.process_api.specs.Detector.{opening_detector}
-use Rattle.process_api.specs.Reduction.{opening_reduction}
-use Rattle.process_api.specs.ConsensusS.{opening_exchange}
-use Rattle.process_api.specs.Coordinator.{opening_coordinator}
-use Rattle.process_api.specs.Mind.{AlgorithmState, Idle, Exchanging, Coordinating, Mind}
-use Rattle.process_api.specs.declared.numbers.DetectorNumbers.{DetectorNumbers}
-use Rattle.scenario_record.specs.declared.algorithm.AlgorithmKind.{AlgorithmKind}
+use Rattle.process_api.specs.{Place.{Place}, Detector.{opening_detector}, Reduction.{opening_reduction}, ConsensusS.{opening_exchange}, Coordinator.{opening_coordinator}, Mind.{AlgorithmState, Idle, Exchanging, Coordinating, Mind}}
+use Rattle.{process_api.specs.declared.numbers.DetectorNumbers.{DetectorNumbers}, scenario_record.specs.declared.{algorithm.AlgorithmKind.{AlgorithmKind}, link.Link.{Link}, outage.Outage.{Outage}}}
 use Rattle.scenario_record.specs.declared.algorithm.AlgorithmKind.TheVariants as kind
-use Rattle.scenario_record.specs.declared.link.Link.{Link}
-use Rattle.scenario_record.specs.declared.outage.Outage.{Outage}
 
 pub record Record : Type 0 where
   pub processes : ℕ

@@ -1,9 +1,6 @@
 //! The outages of one link.
-ghost use Rattle.std.specs.Prelude.{◌≡◌, IfOk};
-ghost use Rattle.std.specs.List.{list_any};
-ghost use Rattle.std.specs.List.Sorted.{IsNonDecreasingBy};
-ghost use Rattle.scenario_record.specs.Record.{covers};
-ghost use Rattle.scenario_record.specs.Inside.Stretches.{AreStretchesOf};
+ghost use Rattle.std.specs.{Prelude.{◌≡◌, IfOk}, List.{list_any, Sorted.{IsNonDecreasingBy}}};
+ghost use Rattle.scenario_record.specs.{Record.{covers}, Inside.Stretches.{AreStretchesOf}};
 
 use crate::outage::Outage;
 use std::alloc::{AllocError, Global};
@@ -20,8 +17,7 @@ pub struct LinkOutages {
 
 impl Model for LinkOutages {
     ghost use Rattle.std.specs.Prelude.{List};
-    ghost use Rattle.scenario_record.specs.Inside.Stretches.{AreStretchesOf};
-    ghost use Rattle.scenario_record.specs.declared.outage.Outage.{Outage};
+    ghost use Rattle.scenario_record.specs.{Inside.Stretches.{AreStretchesOf}, declared.outage.Outage.{Outage}};
 
     ghost Value = { List Outage };
 

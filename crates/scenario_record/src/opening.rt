@@ -1,6 +1,5 @@
 //! Openings: the settings with which processes open.
-ghost use Rattle.std.specs.Prelude.{◌≡◌, ◌≤◌, not, is_some};
-ghost use Rattle.std.specs.Option.{ForSome};
+ghost use Rattle.std.specs.{Prelude.{◌≡◌, ◌≤◌, not, is_some}, Option.{ForSome}};
 ghost use Rattle.process_api.specs.Place.{most_processes};
 ghost use Rattle.scenario_record.specs.Ranges.{AreInRange, AreInRange-prop, is_idle};
 

@@ -1,9 +1,6 @@
 //! Accepted scenarios.
-ghost use Rattle.std.specs.Prelude.{◌≡◌, ◌≢◌, ◌≤◌, ◌<◌, ◌+◌, ◌-◌, ◌*◌, None};
-ghost use Rattle.scenario_record.specs.Ranges.{IsInRange};
-ghost use Rattle.std.specs.List.{list_any};
-ghost use Rattle.scenario_record.specs.Record.{proposal, crash, link, outages_on, opening_mind, covers};
-ghost use Rattle.scenario_record.specs.Opening.{mind_of};
+ghost use Rattle.std.specs.{Prelude.{◌≡◌, ◌≢◌, ◌≤◌, ◌<◌, ◌+◌, ◌-◌, ◌*◌, None}, List.{list_any}};
+ghost use Rattle.scenario_record.specs.{Ranges.{IsInRange}, Record.{proposal, crash, link, outages_on, opening_mind, covers}, Opening.{mind_of}};
 
 use crate::algorithm::AlgorithmKind;
 use crate::link::Link;
@@ -71,8 +68,7 @@ pub struct Scenario {
 }
 
 impl Model for Scenario {
-    ghost use Rattle.scenario_record.specs.Record.{Record};
-    ghost use Rattle.scenario_record.specs.Ranges.{IsInRange};
+    ghost use Rattle.scenario_record.specs.{Record.{Record}, Ranges.{IsInRange}};
 
     ghost Value = { Record };
 

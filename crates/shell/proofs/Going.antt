@@ -1,11 +1,6 @@
 -- What went out is what was wanted, by another name.
 use Rattle.shell.proofs.Basics.{◌≡◌, sym, subst, inl, inr, ℕ, List, Option, Result, Ok, Err, IfErr, OnOk, Wrote, WrotePart, End, Goes, LeftAt, MayHaveGone, Puts, Tells, Went, WentPart, begun, cut, untouched, GoesForWords}
 
--- what follows for each failure follows for the one that is answered
-pub if_failure : {A F : Type 0} (P Q : F → Type 0) → ((failure : F) → P failure → Q failure) → (r : Result A F) → IfErr r P → IfErr r Q
-if_failure P Q f (Ok a) is = tt
-if_failure P Q f (Err failure) is = f failure is
-
 module _ {O : Type 0} (told : O → Option (List ℕ)) (failed : O → ℕ) (old new : O) where
   module _ (P Q : List ℕ → Type 0) (f : (piece : List ℕ) → P piece → Q piece) where
     pub went_as : Went told failed old new P → Went told failed old new Q

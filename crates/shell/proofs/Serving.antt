@@ -1,6 +1,5 @@
 -- How a run for words that state an order or are refused ends, where it ended as `ended` says.
-use Rattle.shell.proofs.Basics.{◌≡◌, ◌⊎◌, sym, subst, inl, inr, ℕ, List, Option, Result, Ok, Err, IfErr, OnOk, arith, WroteNothing, End, HasStatus, IsWhy, Tells, Ends, GoesForWords, IsAsked, IsOfOrder, IsReason, Serves}
-use Rattle.shell.proofs.Going.{tells_as}
+use Rattle.shell.proofs.{Basics.{◌≡◌, ◌⊎◌, sym, subst, inl, inr, ℕ, List, Option, Result, Ok, Err, IfErr, OnOk, arith, WroteNothing, End, HasStatus, IsWhy, Tells, Ends, GoesForWords, IsAsked, IsOfOrder, IsReason, Serves}, Going.{tells_as}}
 use Rattle.shell.proofs.Leaving.{left_four, left_low, left_three, one_to_four}
 
 -- the failure of which a status other than 0 is

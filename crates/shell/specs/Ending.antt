@@ -1,6 +1,5 @@
 -- What went out of an outlet, and how a run of a program ends.
-use Rattle.std.specs.Prelude.{◌≡◌, ◌⊎◌, ℕ, List, MatchResult, Option, Result, ◌≤◌, IfSome, codes, length, ◌≢◌}
-use Rattle.std.specs.Io.KnownBytes.{Consumes}
+use Rattle.std.specs.{Prelude.{◌≡◌, ◌⊎◌, ℕ, List, MatchResult, Option, Result, ◌≤◌, IfSome, codes, length, ◌≢◌}, Io.KnownBytes.{Consumes}}
 use Rattle.reporting.specs.Outlet.{WroteNothing, WrotePart, Wrote}
 
 -- what a failure leaves of what was to be written: nothing, perhaps what a refused run leaves, or a front part of it
@@ -66,7 +65,6 @@ module _ {F : Type 0} (status_of : F → ℕ) (line_of : F → List ℕ) where
 abbrev pub most_bytes : ℕ
 most_bytes = 8388608
 
--- the path of standard input
 abbrev pub input_path : List ℕ
 input_path = codes "-"
 

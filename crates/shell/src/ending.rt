@@ -1,9 +1,6 @@
 //! How a run ends.
-ghost use Rattle.std.specs.Prelude.{◌≡◌, ◌⊎◌, ◌+◌, ◌-◌, ◌^◌, ◌<◌, ◌≤◌, IfErr, OnOk};
-ghost use Rattle.std.specs.Io.KnownBytes.{Keeps};
-ghost use Rattle.std.specs.Process.{exit_status};
-ghost use Rattle.reporting.specs.Outlet.{WroteNothing};
-ghost use Rattle.shell.specs.Ending.{Tells};
+ghost use Rattle.std.specs.{Prelude.{◌≡◌, ◌⊎◌, ◌+◌, ◌-◌, ◌^◌, ◌<◌, ◌≤◌, IfErr, OnOk}, Io.KnownBytes.{Keeps}, Process.{exit_status}};
+ghost use Rattle.{reporting.specs.Outlet.{WroteNothing}, shell.specs.Ending.{Tells}};
 
 use crate::failure::{Failure, report};
 use reporting::{Outlet, StreamOutlet};

@@ -1,6 +1,5 @@
 //! Reading what a path names.
-ghost use Rattle.std.specs.Prelude.{◌≡◌, ◌≢◌, ◌+◌, ◌≤◌, ◌<◌, IfOk, IfSome, OnOk, length, Err};
-ghost use Rattle.std.specs.Io.KnownBytes.{IsAtEnd};
+ghost use Rattle.std.specs.{Prelude.{◌≡◌, ◌≢◌, ◌+◌, ◌≤◌, ◌<◌, IfOk, IfSome, OnOk, length, Err}, Io.KnownBytes.{IsAtEnd}};
 ghost use Rattle.shell.specs.Ending.{AreAllOf, TakesAtMost, input_path, most_bytes};
 
 use crate::input::{InputError, read_all};

@@ -1,8 +1,6 @@
 //! Texts that go out.
-ghost use Rattle.std.specs.Prelude.{◌≡◌, ◌-◌, ◌^◌, ◌<◌, IfErr, OnOk};
-ghost use Rattle.std.specs.List.{flat_map};
-ghost use Rattle.reporting.specs.Outlet.{Wrote, WrotePart};
-ghost use Rattle.shell.specs.Ending.{Tells};
+ghost use Rattle.std.specs.{Prelude.{◌≡◌, ◌-◌, ◌^◌, ◌<◌, IfErr, OnOk}, List.{flat_map}};
+ghost use Rattle.{reporting.specs.Outlet.{Wrote, WrotePart}, shell.specs.Ending.{Tells}};
 
 use crate::failure::Failure;
 use reporting::{Outlet, put_all};

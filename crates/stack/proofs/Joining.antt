@@ -1,16 +1,10 @@
 -- A detector's step and then an algorithm's are the step of the mind that joins them.
-use Rattle.std.proofs.Common.{◌≡◌, ◌≤◌, ◌++◌, ℕ, IsTrue, List, length, None, Some, ap, subst, ◌∙◌, arith, append_assoc, length-append}
+use Rattle.std.proofs.{Common.{◌≡◌, ◌≤◌, ◌++◌, ℕ, IsTrue, List, length, None, Some, ap, subst, ◌∙◌, arith, append_assoc, length-append}, lemmas.{List.Elements.{All-append, All-weaker}, Bool.Decides.{nat_tests}}}
 use Rattle.std.specs.List.{All}
-use Rattle.std.proofs.lemmas.List.Elements.{All-append, All-weaker}
-use Rattle.std.proofs.lemmas.Bool.Decides.{nat_tests}
-use Rattle.process_api.specs.Place.{most_first_actions, most_second_actions, most_algorithm_actions, most_step_actions, Place, same_place}
-use Rattle.process_api.specs.Sets.{Processes}
-use Rattle.process_api.specs.Answer.{IsAllowed}
-use Rattle.process_api.specs.Mind.{Lower, AlgorithmState, Idle, Exchanging, Coordinating, Mind, suspects_of, most_actions, processes_of, stands_at}
-use Rattle.process_api.specs.React.{react_lower, react_algorithm, react}
-use Rattle.process_api.specs.declared.action.Action.{Action}
+use Rattle.process_api.specs.{Place.{most_first_actions, most_second_actions, most_algorithm_actions, most_step_actions, Place, same_place}, Sets.{Processes}, Answer.{IsAllowed}}
+use Rattle.process_api.specs.{Mind.{Lower, AlgorithmState, Idle, Exchanging, Coordinating, Mind, suspects_of, most_actions, processes_of, stands_at}, React.{react_lower, react_algorithm, react}}
+use Rattle.process_api.specs.declared.{action.Action.{Action}, message.StepInput.{StepInput}}
 use Rattle.process_api.specs.declared.action.Action.TheVariants as action
-use Rattle.process_api.specs.declared.message.StepInput.{StepInput}
 
 same_processes : (a b : Place) → IsTrue (same_place a b) → a.processes ≡ b.processes
 same_processes a b h = grind (arith, nat_tests)

@@ -1,6 +1,5 @@
 //! No algorithm.
-ghost use Rattle.std.specs.Prelude.{false};
-ghost use Rattle.process_api.specs.Mind.{Idle};
+ghost use Rattle.{std.specs.Prelude.{false}, process_api.specs.Mind.{Idle}};
 
 use process_api::{Action, Algorithm, ProcSet, StepInput};
 use std::alloc::AllocError;

@@ -1,12 +1,9 @@
 -- How a run opens.
 use Rattle.steps.proofs.Words.{◌≡◌, ℕ, zero, suc, ◌-◌, ◌<◌, ◌≤◌, sym, ap, ◌∙◌, subst, List, [], ◌∷◌, inl, inr, Some, arith, slice_get, get_or, map, option_map, cases_lt, get_or_append_left, get_or_push, All, AllByRecursion, Mind, Record, opening_mind, IsMindIn}
-use Rattle.std.proofs.lemmas.List.Elements.{All-from_recursion}
-use Rattle.std.proofs.lemmas.Option.{slice_get-get_or, slice_get-map}
-use Rattle.process_api.specs.Place.{numbers_to}
-use Rattle.process_api.proofs.Lists.{images, numbers_are, weaker}
+use Rattle.std.proofs.lemmas.{List.Elements.{All-from_recursion}, Option.{slice_get-get_or, slice_get-map}}
+use Rattle.{process_api.specs.Place.{numbers_to}, process_api.proofs.Lists.{images, numbers_are, weaker}}
 pub use Rattle.process_api.proofs.Numbering.{length-numbers_to}
-use Rattle.scenario_record.specs.Ranges.{IsInRange}
-use Rattle.trace_laws.proofs.Sound.{opens_with_mind}
+use Rattle.{scenario_record.specs.Ranges.{IsInRange}, trace_laws.proofs.Sound.{opens_with_mind}}
 
 number_there : (n k : ℕ) → k < n → get_or (numbers_to n) k 0 ≡ suc k
 number_there zero k less = absurd (omega (arith, less))

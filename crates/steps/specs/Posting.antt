@@ -1,15 +1,8 @@
 -- The letters that a run puts on the links between different processes.
 use Rattle.std.specs.Prelude.{◌≡◌, ℕ, ◌+◌, if◌then◌else◌, List, [], ◌∷◌, ◌++◌, nat_eq}
-use Rattle.process_api.specs.declared.action.Action.{Action}
+use Rattle.process_api.specs.declared.{action.Action.{Action}, key.Key.{Key}, message.{Payload.{Payload}, StepInput.{StepInput}}}
 use Rattle.process_api.specs.declared.action.Action.TheVariants as action
-use Rattle.process_api.specs.declared.key.Key.{Key}
-use Rattle.process_api.specs.declared.message.Payload.{Payload}
-use Rattle.process_api.specs.declared.message.StepInput.{StepInput}
-use Rattle.streams.specs.declared.fate.Fate.{Fate}
-use Rattle.trace_laws.specs.Taken.{HaveJoined}
-use Rattle.trace_laws.specs.Setting.{Setting, has_crashed}
-use Rattle.trace_laws.specs.Step.{Process, counted}
-use Rattle.trace_laws.specs.World.{World, Pair, Run, opening, taken}
+use Rattle.{streams.specs.declared.fate.Fate.{Fate}, trace_laws.specs.{Taken.{HaveJoined}, Setting.{Setting, has_crashed}, Step.{Process, counted}, World.{World, Pair, Run, opening, taken}}}
 
 -- a letter to another process: its key on its link, at the tick when it is sent, what it says, and its fate there
 pub record Posted : Type 0 where
@@ -22,8 +15,7 @@ module _ {Mind : Type 0} (S : Setting Mind) where
   module _ (p now : ℕ) where
     -- the letter that an action puts on a link to another process, if any; its number is its link's count with it
     abbrev pub posting : (ℕ → ℕ) → Action → List Posted
-    posting counts (action.Send to what) =
-        if nat_eq to p
+    posting counts (action.Send to what) = if nat_eq to p
         then []
         else record {
           key = record { tick = now; receiver = to; sender = p; number = counts to + 1 };
@@ -40,8 +32,7 @@ module _ {Mind : Type 0} (S : Setting Mind) where
 
   -- the letters of a step. A crashed receiver does nothing
   abbrev pub posted_in : Process Mind → Key → StepInput → List Posted
-  posted_in before key x =
-      if has_crashed (S.crash key.receiver) key.tick
+  posted_in before key x = if has_crashed (S.crash key.receiver) key.tick
       then []
       else posted_by key.receiver key.tick before.counts (S.react before.mind key.tick x).actions
 
@@ -53,8 +44,7 @@ module _ {Mind : Type 0} (S : Setting Mind) where
 
   -- these are the letters of the whole list, from the opening up to the horizon
   abbrev pub ArePosted : List Posted → Type 0
-  ArePosted letters =
-      (history : List Pair) × (last : World Mind) × Run S S.horizon (opening S) history last
+  ArePosted letters = (history : List Pair) × (last : World Mind) × Run S S.horizon (opening S) history last
       × (letters ≡ posted_along (opening S) history)
 
   -- the letters of the whole list were heard, after what was heard before, in their order and nothing else. `heard`

@@ -1,10 +1,6 @@
 -- Machines with their link counts, as processes.
 use Rattle.std.specs.Prelude.{◌≡◌, ℕ, ◌+◌, ◌≤◌, List, length, slice_index_or, IsTrue}
-use Rattle.process_api.specs.Place.{most_step_actions}
-use Rattle.process_api.specs.Mind.{Mind, is_mind_at}
-use Rattle.scenario_record.specs.Record.{Record, crash, place_in}
-use Rattle.trace_laws.specs.Step.{Process}
-use Rattle.steps.specs.declared.seat.Seat.{Seat}
+use Rattle.{process_api.specs.{Place.{most_step_actions}, Mind.{Mind, is_mind_at}}, scenario_record.specs.Record.{Record, crash, place_in}, trace_laws.specs.Step.{Process}, steps.specs.declared.seat.Seat.{Seat}}
 
 -- counts that are kept by receiver, as a function
 abbrev pub count_of : List ℕ → ℕ → ℕ
@@ -20,8 +16,7 @@ own_of mind seat = (mind seat.machine).lower.place.own
 
 -- a mind of a process of this scenario
 abbrev pub IsMindIn : Record → Mind → Type 0
-IsMindIn s m =
-    (1 ≤ m.lower.place.own) × (m.lower.place.own ≤ s.processes)
+IsMindIn s m = (1 ≤ m.lower.place.own) × (m.lower.place.own ≤ s.processes)
     × IsTrue (is_mind_at (place_in s m.lower.place.own) m)
 
 -- a machine of this scenario, which put at most so much on each link
@@ -36,5 +31,4 @@ pub record IsSeated {M : Type 0} (mind : M → Mind) (s : Record) (most : ℕ) (
 
 -- whatever it put on each link, it put at most a step's actions more since
 abbrev pub StaysSeated : {M : Type 0} (mind : M → Mind) → Record → (old new : Seat M) → Type 0
-StaysSeated mind s old new =
-    (most : ℕ) → IsSeated mind s most old → IsSeated mind s (most + most_step_actions) new
+StaysSeated mind s old new = (most : ℕ) → IsSeated mind s most old → IsSeated mind s (most + most_step_actions) new

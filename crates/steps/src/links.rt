@@ -1,14 +1,8 @@
 //! The letters that a process puts on its links.
-ghost use Rattle.std.specs.Prelude.{◌≡◌, ◌≢◌, ◌≤◌, ◌<◌, ◌+◌, ◌^◌, ◌++◌, ◌∷◌, [], ℕ, IfNone, IfOk, IfSome, OnOk, length, replicate, vec_len, vec_capacity};
-ghost use Rattle.std.specs.List.{AllByRecursion};
-ghost use Rattle.process_api.specs.Answer.{IsAllowed};
-ghost use Rattle.process_api.specs.Place.{most_step_actions};
-ghost use Rattle.streams.specs.Fate.{fate_of};
-ghost use Rattle.trace_laws.specs.Taken.{HaveJoined, Serves, StillServes};
-ghost use Rattle.steps.specs.Posting.{posting, posted_by};
-ghost use Rattle.steps.specs.Inside.Links.{later, wake_key, in_step, with_action, entry_of};
-ghost use Rattle.steps.specs.Seat.{count_of};
-ghost use Rattle.trace_laws.specs.Step.{raised, in_time, counted, joining, lost_by, counts_after, added as added_by};
+ghost use Rattle.std.specs.{Prelude.{◌≡◌, ◌≢◌, ◌≤◌, ◌<◌, ◌+◌, ◌^◌, ◌++◌, ◌∷◌, [], ℕ, IfNone, IfOk, IfSome, OnOk, length, replicate, vec_len, vec_capacity}, List.{AllByRecursion}};
+ghost use Rattle.{process_api.specs.{Answer.{IsAllowed}, Place.{most_step_actions}}, streams.specs.Fate.{fate_of}};
+ghost use Rattle.trace_laws.specs.{Taken.{HaveJoined, Serves, StillServes}, Step.{raised, in_time, counted, joining, lost_by, counts_after, added as added_by}};
+ghost use Rattle.steps.specs.{Posting.{posting, posted_by}, Inside.Links.{later, wake_key, in_step, with_action, entry_of}, Seat.{count_of}};
 
 use crate::listener::Listener;
 use process_api::{Action, Entry, Key, Kind, Note, Payload, Pid, StepInput, Tag};

@@ -1,7 +1,6 @@
 //! Who hears of the letters of a run.
 ghost use Rattle.std.specs.Prelude.{◌∷◌, [], List, OnOk};
-ghost use Rattle.trace_laws.specs.Taken.{HaveJoined};
-ghost use Rattle.steps.specs.Posting.{Posted};
+ghost use Rattle.{trace_laws.specs.Taken.{HaveJoined}, steps.specs.Posting.{Posted}};
 
 use process_api::{Key, Payload};
 use std::alloc::AllocError;

@@ -1,10 +1,8 @@
 //! One step of one process.
 ghost use Rattle.std.specs.Prelude.{◌≡◌, ◌≤◌, ◌<◌, ◌+◌, ◌^◌, ℕ, IfOk, OnOk};
 ghost use Rattle.process_api.specs.Place.{most_step_actions};
-ghost use Rattle.trace_laws.specs.Taken.{HaveJoined, Serves, StillServes};
+ghost use Rattle.trace_laws.specs.{Taken.{HaveJoined, Serves, StillServes}, Setting.{setting_of, has_crashed}, Step.{kind_of as kind_for, kind_of_payload, step}};
 ghost use Rattle.steps.specs.Posting.{posted_in};
-ghost use Rattle.trace_laws.specs.Setting.{setting_of, has_crashed};
-ghost use Rattle.trace_laws.specs.Step.{kind_of as kind_for, kind_of_payload, step};
 
 use crate::links::Links;
 use crate::listener::Listener;

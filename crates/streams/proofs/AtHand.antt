@@ -1,10 +1,7 @@
 -- Words that are at hand.
 use Rattle.std.proofs.Common.{◌≡◌, ◌<◌, ◌≤◌, ◌+◌, ◌*◌, ◌%◌, ℕ, List, length, subst, sym, ap, ◌∙◌, get_or, set, replicate, ⊎_elim, arith}
-use Rattle.std.proofs.lemmas.Bool.{cases_eq, cases_lt}
-use Rattle.std.proofs.lemmas.List.{get_or-set_same, get_or-set_other, get_or-replicate, get_or_past, length-replicate}
-use Rattle.std.proofs.lemmas.Nat.{mod-mul-add}
-use Rattle.streams.specs.Fate.{IsDrawn, none}
-use Rattle.streams.specs.declared.kept.Drawn.{Drawn}
+use Rattle.std.proofs.lemmas.{Bool.{cases_eq, cases_lt}, List.{get_or-set_same, get_or-set_other, get_or-replicate, get_or_past, length-replicate}, Nat.{mod-mul-add}}
+use Rattle.streams.specs.{Fate.{IsDrawn, none}, declared.kept.Drawn.{Drawn}}
 
 -- each is of a letter to the receiver at its place
 abbrev pub AreIn : (places seed from : ℕ) → List Drawn → Type 0

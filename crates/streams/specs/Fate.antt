@@ -1,14 +1,7 @@
 -- What becomes of a letter to another process: it depends on its place and tick of sending alone, not on earlier draws.
-use Rattle.std.specs.Prelude.{ℕ, ◌+◌, ◌-◌, ◌*◌, ◌%◌, ◌^◌, List, ◌++◌, replicate, nat_lt, Bool, if◌then◌else◌, ◌≡◌, ◌≤◌, ◌<◌, slice_index_or}
-use Rattle.std.specs.Int.{w64, to_le_bytes}
-use Rattle.std.specs.List.{list_any}
-use Rattle.rand_chacha.specs.ChaCha.{word_at, key_of, ChaCha}
-use Rattle.scenario_record.specs.Record.{covers, Record, link, outages_on}
-use Rattle.scenario_record.specs.declared.link.Link.{Link}
-use Rattle.streams.specs.declared.fate.Fate.{Fate}
-use Rattle.streams.specs.declared.fate.Fate.TheVariants.{Lost, Delay}
-use Rattle.streams.specs.declared.kept.Drawn.{Drawn}
-use Rattle.streams.specs.declared.kept.Kept.{Kept}
+use Rattle.std.specs.{Prelude.{ℕ, ◌+◌, ◌-◌, ◌*◌, ◌%◌, ◌^◌, List, ◌++◌, replicate, nat_lt, Bool, if◌then◌else◌, ◌≡◌, ◌≤◌, ◌<◌, slice_index_or}, Int.{w64, to_le_bytes}, List.{list_any}}
+use Rattle.{rand_chacha.specs.ChaCha.{word_at, key_of, ChaCha}, scenario_record.specs.{Record.{covers, Record, link, outages_on}, declared.link.Link.{Link}}}
+use Rattle.streams.specs.declared.{fate.Fate.{Fate, TheVariants.{Lost, Delay}}, kept.{Drawn.{Drawn}, Kept.{Kept}}}
 
 -- the key: the seed as 8 bytes, the least first, and then 24 zero bytes
 unfoldable pub key_of_seed : ℕ → List ℕ

@@ -22,8 +22,7 @@ pub struct SenderWords {
 }
 
 impl Model for SenderWords {
-    ghost use Rattle.std.specs.Prelude.{ℕ};
-    ghost use Rattle.streams.specs.Fate.{AreDrawn, Fits};
+    ghost use Rattle.{std.specs.Prelude.{ℕ}, streams.specs.Fate.{AreDrawn, Fits}};
 
     ghost Value = { ℕ × ℕ };
 

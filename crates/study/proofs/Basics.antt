@@ -28,11 +28,13 @@ pub use Rattle.toml.proofs.Views.{view-Array, view-Table}
 pub use Rattle.toml.specs.Data.{Data, Items, Members, array, as_array, as_table, get_item, get_member, item, no_items, no_members, table}
 pub use Rattle.toml.specs.View.{items_view, members_view, table_view, view}
 pub use Rattle.toml.specs.declared.value.Value.{Value}
-pub use Rattle.study.specs.AxisWords.{IsFault, entries_said, range_by, range_of}
+pub use Rattle.study.specs.AxisWords.{IsFault, entries_said}
+pub use Rattle.study.specs.Inside.AxisWords.{range_by, range_of}
 unfoldable pub use Rattle.study.specs.AxisWords.{first_fault}
 pub use Rattle.study.specs.Grid.{combinations, AreDealtEvenly, GridRecord, HaveOwnSeeds, Refusal, RunRecord, all_keys, deal_refusal, dealt_to, first_again, keys_of, meets, paths_of, runs, runs_with, told, uneven}
 pub use Rattle.study.specs.KeyWords.{SayNoKeys, SaysKey, SaysNoKey}
-pub use Rattle.study.specs.Laid.{CantBeLaid, HasValues, IsLaidBy, StaysAsItIs, above, drawn_in, file_over, has_sources, horizon_of, is_laid, laid_in, lay_links, listed, older, refused, seed_of, too_many, values_in}
+pub use Rattle.study.specs.Laid.{CantBeLaid, IsLaidBy, above, drawn_in, file_over, has_sources, horizon_of, is_laid, laid_in, lay_links, listed, older, refused, seed_of, too_many, values_in}
+pub use Rattle.study.specs.Inside.Private.{HasValues, StaysAsItIs}
 unfoldable pub use Rattle.study.specs.Laid.{with_rows, with_tables}
 pub use Rattle.study.specs.Placed.{assign_all, put_in_each, set_all}
 pub use Rattle.study.specs.Settings.{Chosen, FilePath, Given, Path, choices, chosen, element, every, file_key_text, file_path_of, given_by, inner, key_text, network, number, path_of, scenario, set_to, settings_in, top}

@@ -1,7 +1,6 @@
 -- Blocks of points.
 use Rattle.study.proofs.Basics.{◌≡◌, ℕ, zero, suc, ◌+◌, ◌-◌, ◌*◌, ◌/◌, ◌≤◌, ◌<◌, List, [], ◌∷◌, ◌++◌, length, take, drop, refl, sym, ◌∙◌, ap, arith, flat_map, range_with_len, div-lt_iff_lt-mul, div-mul-le_self, mul-le-mul_left, mul-div_left, mul-zero, zero-div, mul-suc, add-mul, lt-div-mul-add, le-div, length-range_with_len}
-use Rattle.std.proofs.lemmas.List.{length-drop, length-take, drop_all}
-use Rattle.std.proofs.Math.Seq.{take-length}
+use Rattle.std.proofs.{lemmas.List.{length-drop, length-take, drop_all}, Math.Seq.{take-length}}
 use Rattle.study.specs.Grid.{ShardRecord, IsShard, before, begin_of, end_of, block, AreAll, AreEven}
 
 -- two parts that meet

@@ -1,12 +1,12 @@
 -- Keys as words, alone and one after the other.
 use Rattle.study.proofs.Basics.{◌≡◌, ◌≢◌, ℕ, zero, suc, ◌^◌, ◌≤◌, ◌<◌, List, [], ◌∷◌, ◌++◌, append_assoc, length, length-append, get_or, Bool, true, false, not, ◌==◌, codes, decimal, Option, Some, None, Result, Ok, Err, Bor, MatchOption, IfErr, IsErrAnd, refl, sym, ◌∙◌, ap, subst, inl, inr, arith, lit<, ◌+◌, map, take, and_parts, and_from, eq-eqb, ne_eqb, false≢true, append_cancel_right, get_or_at, map_more, map_push, All-append, list_all_at, IsSplitOnceResult, split_after, split_parts, is_ascii_digit, FilePath, top, inner, element, every, Path, scenario, network, file_key_text, key_text, path_of, Word, is_natural, natural, Key}
+use Rattle.study.proofs.Numerals.{own, natural_digits, natural_some}
 use Rattle.std.proofs.lemmas.Fmt.{decimal-digits_value, digits_decimal, digits_value-decimal, decimal_nonempty, first_decimal, decimal_digit}
 use Rattle.std.specs.List.{All, list_all, AllZip}
-use Rattle.study.specs.KeyWords.{is_name_byte, is_name, is_place, IsPlace, IsPlaceOf, HasNoPlace, IsListed, IsOwner, IsInArray, HasFileNames, HasNames, IsNetworkText, SaysNoKey, is_memory, SaysKey, SayNoKeys}
+use Rattle.study.specs.{KeyWords.{is_name_byte, is_name, IsPlace, IsPlaceOf, IsInArray, HasFileNames, HasNames, SaysNoKey, is_memory, SaysKey, SayNoKeys}, Inside.Private.{is_place, HasNoPlace, IsListed, IsOwner, IsNetworkText}}
 use Rattle.study.specs.declared.error.KeyError.{KeyError}
 use Rattle.study.specs.declared.error.KeyError.TheVariants as error
 use Rattle.network.proofs.ArrayTables.{AllZip-more}
-use Rattle.study.proofs.Numerals.{own, natural_digits, natural_some}
 
 -- ---- bytes that a word lacks
 

@@ -1,7 +1,6 @@
 -- Arrays of tables, as the code changes them.
-use Rattle.std.proofs.Common.{◌≡◌, ◌≢◌, ℕ, suc, List, [], ◌∷◌, ◌++◌, map, filter, length, codes, ◌==◌, Bool, true, false, not, Option, Some, None, option_and_then, if◌then◌else◌, refl, sym, ◌∙◌, ap, arith}
+use Rattle.std.proofs.{Common.{◌≡◌, ◌≢◌, ℕ, suc, List, [], ◌∷◌, ◌++◌, map, filter, length, codes, ◌==◌, Bool, true, false, not, Option, Some, None, option_and_then, if◌then◌else◌, refl, sym, ◌∙◌, ap, arith}, lemmas.Simd.{map-map}}
 use Rattle.study.proofs.Basics.{option_map_or, ne_eqb, map-append, Data, array, table, Items, no_items, item, Members, get_member, as_array, as_table, Value, outage_table, with_outages, put, LinkOutage, listed, values_in, with_tables, with_rows, is_laid, StaysAsItIs, HasValues}
-use Rattle.std.proofs.lemmas.Simd.{map-map}
 use Rattle.toml.specs.View.{view, items_of, items_view}
 use Rattle.scenario.specs.Table.{all_items, is_table, the_tables, tables_at, is_of, is_mistyped}
 use Rattle.scenario.specs.declared.field.Kind.TheVariants as kind

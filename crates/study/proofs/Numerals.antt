@@ -1,8 +1,7 @@
 -- Numbers as words.
 use Rattle.study.proofs.Basics.{◌≡◌, ◌≢◌, ℕ, zero, suc, ◌^◌, ◌≤◌, ◌<◌, List, [], ◌∷◌, length, get_or, drop, Bool, true, false, not, cond, ◌==◌, inl, inr, ℤ, pos, neg_ℤ, Result, Ok, Err, MatchOption, refl, sym, ◌∙◌, ap, subst, rules, arith, cases_Bool, cases_lt, and_parts, eqb-true, lt-ltb, le-ltb, false≢true, is_ascii_digit, list_all, w64, Word, is_natural, is_integer, natural, integer, fits}
 use Rattle.std.proofs.lemmas.Str.Parse.{IsNumeralModel, IsDigitsTest, numerals_by_value, parse_digits, parse_signed_digits, parse_signed_minus}
-use Rattle.std.specs.Result.{OkIff, result_ok}
-use Rattle.std.specs.Str.Parse.{digits_value, starts_with_minus, ParsesUnsigned, ParsesSigned}
+use Rattle.std.specs.{Result.{OkIff, result_ok}, Str.Parse.{digits_value, starts_with_minus, ParsesUnsigned, ParsesSigned}}
 
 abbrev pub Digits : List ℕ → Type 0
 Digits ds = list_all is_ascii_digit ds ≡ true

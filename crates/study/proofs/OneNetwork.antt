@@ -1,21 +1,12 @@
 -- A network file stands for one network: what is laid and what is drawn are one.
 use Rattle.study.proofs.Basics.{◌≡◌, ℕ, zero, suc, ◌+◌, ◌-◌, ◌*◌, ◌/◌, ◌%◌, min, List, [], ◌∷◌, ◌++◌, map, filter, length, slice_index, nat_lt, true, false, refl, sym, ◌∙◌, ap, AllZip, flat_map, range_with_len, take_while, enumerate_from, Members, on_each, of_each, of_burst, of_cut, of_pause, of_replay, drawn_of, LinkOutage}
-use Rattle.network.specs.Laid.{holds, links_between, links_of, only}
-use Rattle.network.specs.Words.{Words, after, place_of, stream_number, stream_of, words_of}
+use Rattle.study.proofs.OneOrder.{one_sorted}
+use Rattle.network.specs.{Laid.{holds, links_between, links_of, only}, Words.{Words, after, place_of, stream_number, stream_of, words_of}}
 use Rattle.network.specs.Drawn.{ticks_of, words_taken, first_ticks_of, first_words_taken, geometric, digits_drawn, Coming, cut_at, coming, episodes, replayed, replayed_in}
 use Rattle.network.specs.Reading.{Said, ticks, values, mean, said_of, SaysLink, SaysBurst, SaysCut, SaysPause, SaysReplay, SaysNetwork}
-use Rattle.network.specs.declared.group.Group.TheVariants.{All}
+use Rattle.network.specs.declared.{group.Group.TheVariants.{All}, spell.Spell.{Spell}, rhythm.Rhythm.{Rhythm}, network.{LinkTable.{LinkTable}, Burst.{Burst}, Cut.{Cut}, Pause.{Pause}, Replay.{Replay}, Network.{Network}}}
 use Rattle.network.specs.declared.kind.Kind.TheVariants as kind
-use Rattle.network.specs.declared.spell.Spell.{Spell}
 use Rattle.network.specs.declared.spell.Spell.TheVariants as spell
-use Rattle.network.specs.declared.rhythm.Rhythm.{Rhythm}
-use Rattle.network.specs.declared.network.LinkTable.{LinkTable}
-use Rattle.network.specs.declared.network.Burst.{Burst}
-use Rattle.network.specs.declared.network.Cut.{Cut}
-use Rattle.network.specs.declared.network.Pause.{Pause}
-use Rattle.network.specs.declared.network.Replay.{Replay}
-use Rattle.network.specs.declared.network.Network.{Network}
-use Rattle.study.proofs.OneOrder.{one_sorted}
 
 -- ---- gaps and lengths by what is said of them
 

@@ -1,11 +1,8 @@
 -- Outages in their order are one list, where they are the same.
 use Rattle.study.proofs.Basics.{◌≡◌, ◌⊎◌, ℕ, suc, ◌+◌, ◌<◌, ◌≤◌, List, [], ◌∷◌, get_or, true, false, ◌&&◌, ◌==◌, cond, Less, Equal, refl, sym, ◌∙◌, ap, subst, inl, inr, arith, and_parts, eqb-true, eq-eqb, false≢true, cases_Bool, cases_lt, sum_by, nat_cmp, is_lt, ordering_then}
-use Rattle.std.proofs.lemmas.List.Sorted.{sum_by-IsPermutation}
-use Rattle.std.proofs.lemmas.List.Sums.{sum_by-cons}
-use Rattle.std.specs.Cmp.{nat_cmp_is}
-use Rattle.std.specs.List.Sorted.{IsSorted, IsPermutation}
-use Rattle.scenario_record.specs.declared.outage.Outage.{Outage}
-use Rattle.network.specs.Ranges.{outage_cmp}
+use Rattle.std.proofs.lemmas.List.{Sorted.{sum_by-IsPermutation}, Sums.{sum_by-cons}}
+use Rattle.std.specs.{Cmp.{nat_cmp_is}, List.Sorted.{IsSorted, IsPermutation}}
+use Rattle.{scenario_record.specs.declared.outage.Outage.{Outage}, network.specs.Ranges.{outage_cmp}}
 
 -- ---- the order
 

@@ -1,7 +1,6 @@
 -- Parts of a word.
 use Rattle.study.proofs.Basics.{◌≡◌, ◌≢◌, ℕ, ◌<◌, List, [], ◌∷◌, ◌++◌, map, take, drop, length, get_or, Bor, Some, true, false, ◌==◌, refl, ◌∙◌, ap, arith, eq-eqb, ne_eqb, get_or_default, list_any-append, list_any_none, IsSplitOnceResult, split_parts, split_once_first}
-use Rattle.std.proofs.Math.Bool.{or-true}
-use Rattle.study.specs.Words.{Word, has, before, after}
+use Rattle.{std.proofs.Math.Bool.{or-true}, study.specs.Words.{Word, has, before, after}}
 
 pub has_not : (c : ℕ) (w : Word) → ((i : ℕ) → i < length w → get_or w i 0 ≢ c) → has c w ≡ false
 has_not c w lacks =

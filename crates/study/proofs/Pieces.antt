@@ -1,7 +1,6 @@
 -- What words say of a range, and of an axis' values, one after the other.
 use Rattle.study.proofs.Basics.{◌≡◌, ℕ, ◌+◌, ◌-◌, ◌≤◌, ◌<◌, List, [], ◌∷◌, ◌++◌, append_assoc, map, length, length-append, get_or, drop, Bor, Bool, true, false, ◌==◌, nat_lt, Option, Some, None, if◌then◌else◌, refl, sym, ◌∙◌, ap, subst, arith, ◌*◌, ◌/◌, ℤ, pos, ◌≤ℤ◌, ◌-ℤ◌, ◌&&◌, ltb, le-ltb, lt-ltb, ltb-false, eqb-true, length-map, get_or-map, at_drop_more, at_drop_all, map_push, append-nil, All-nil, All-cons, All-append, All-map, length-map-range_with_len, map-range_with_len_more, Vec, option_or, option_and_then, Given, number, given_by, settings_in, Setting, Word, between, is_integer, integer, bounds, mul-le-mul_left, div-mul-le_self, ints, unsigned_abs}
-use Rattle.std.proofs.lemmas.Option.{none-some}
-use Rattle.std.specs.List.{All, flat_map, range_with_len}
+use Rattle.{std.proofs.lemmas.Option.{none-some}, std.specs.List.{All, flat_map, range_with_len}}
 use Rattle.study.specs.AxisWords.{RangeRecord, range_fault, steps, number_after, Piece, range, piece_said, values, part_fault, parts_fault, Entry, single, tied, entry_said, entries_said, rows, entry_fault, fault_within, first_fault, Adds, high_word, step_word, range_between, range_said}
 use Rattle.study.specs.declared.error.AxisError.{AxisError}
 use Rattle.study.specs.declared.error.AxisError.TheVariants as error

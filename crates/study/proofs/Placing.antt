@@ -1,8 +1,6 @@
 -- What a change of the code's tables does to the members that they stand for.
 use Rattle.study.proofs.Basics.{◌≡◌, ℕ, zero, suc, ◌<◌, ◌≤◌, List, [], ◌∷◌, length, get_or, set, BTreeMap, Result, Ok, IfOk, MatchResult, String, Global, Ordering, Less, string_bytes, refl, sym, ap, ◌∙◌, arith, Err, ◌-◌, ◌++◌, ◌+◌, drop, match_ordering, AllZip, drop_more, Data, Items, no_items, item, table, array, Members, get_member, view, members_view, items_view, table_view, Value, put, every, PlaceError}
-use Rattle.std.specs.BTreeMap.{insert_entry}
-use Rattle.std.proofs.Math.ListN.{drop_of_length-le}
-use Rattle.std.specs.String.{string_cmp}
+use Rattle.{std.specs.{BTreeMap.{insert_entry}, String.{string_cmp}}, std.proofs.Math.ListN.{drop_of_length-le}}
 use Rattle.toml.proofs.Views.{Entry, get_item_within, get_item_past, view-Table}
 use Rattle.study.specs.Placed.{put_item, put_in_each, put_in_all, set_in_file, items_of, table_of, table_there, element_of, then}
 use Rattle.study.specs.declared.error.PlaceError.TheVariants as error

@@ -1,7 +1,6 @@
 -- Combinations, and the runs of a point, counted and picked by their numbers.
 use Rattle.study.proofs.Basics.{◌≡◌, ℕ, zero, suc, ◌+◌, ◌*◌, ◌/◌, ◌%◌, ◌≤◌, ◌<◌, min, List, [], ◌∷◌, ◌++◌, length, vec_len, length-append, map, get_or, take, drop, refl, sym, ◌∙◌, ap, inl, inr, arith, ◌≢◌, cond, ◌==◌, ◌-◌, ◌^◌, Bool, Option, Some, None, if◌then◌else◌, Vec, suc-mul, zero-mul, zero-add, one-le-mul, mul-div_cancel_left, div-lt_iff_lt-mul, mod-lt, mul_assoc, le-mul_of_pos_right, mul-le-mul_right, mod-eq_of_lt, mul-add-mod_self_right, cases_lt, cases_Bool, eqb-true, eqb-false, ltb-true, ltb-false, div-add-mod', length-map, length-take-le, get_or-map, drop_more, map-append, combinations, Path, Given, Chosen, choices, path_of, settings_in, set_to, paths_of, GridRecord, RunRecord, runs, runs_with, dealt_to, HaveOwnSeeds, AreDealtEvenly, Refusal, uneven, told, deal_refusal, Setting, length-map-range_with_len, get_or-map-range_with_len, sum_by-map-range_with_len_more, ltb}
-use Rattle.std.specs.List.{All, flat_map, count_by, range_with_len}
-use Rattle.std.proofs.lemmas.List.Concat.{get_or-flat_map}
+use Rattle.{std.specs.List.{All, flat_map, count_by, range_with_len}, std.proofs.lemmas.List.Concat.{get_or-flat_map}}
 use Rattle.study.specs.declared.axis.Axis.{Axis}
 
 module _ {X Y : Type 0} (f : X → List Y) (n : ℕ) (wide : (x : X) → length (f x) ≡ n) where

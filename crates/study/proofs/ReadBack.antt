@@ -1,10 +1,9 @@
 -- What is read of files in which a path was set.
 use Rattle.study.proofs.Basics.{◌≡◌, ◌≢◌, ◌⊎◌, inl, inr, ℕ, zero, suc, List, Option, Some, None, Result, Ok, Err, Ordering, Equal, false, refl, sym, ap, ◌∙◌, subst, arith, option_and_then, nat_cmp, is_eq, Data, array, table, Items, no_items, item, Members, no_members, get_member, get_item, put, FilePath, top, inner, element, every, Path, scenario, network, SourcesRecord, PlaceError}
-use Rattle.std.specs.Cmp.Lexicographic.{slice_cmp}
-use Rattle.std.proofs.lemmas.Map.Lookups.{exact_bytes}
+use Rattle.{std.specs.Cmp.Lexicographic.{slice_cmp}, std.proofs.lemmas.Map.Lookups.{exact_bytes}}
 use Rattle.scenario.proofs.DrawnTables.{read_put, keep_put as kept_put}
 use Rattle.study.specs.Placed.{put_item, put_in_each, put_in_all, set_in_file, set_at, with_scenario, with_network, network_there, items_of, table_of, table_or_new, table_there, element_of, then}
-use Rattle.study.specs.Reading.{in_table, at_place, in_array, value_in_file, IsReadInFile, first_key, AreBeside, AreApartInFile, SetsInFile, value_at, AreApart, Sets, AreSet}
+use Rattle.study.specs.{Reading.{in_table, at_place, in_array, value_in_file, IsReadInFile, first_key, AreBeside, AreApartInFile, value_at, AreApart, Sets, AreSet}, Inside.Private.{SetsInFile}}
 
 -- ---- members
 

@@ -1,7 +1,6 @@
 -- The table, the scenario and the text of a run.
 use Rattle.study.proofs.Basics.{◌≡◌, Option, None, Some, MatchOption, Ok, Err, sym, ap, ◌∙◌, Members, with_outages, record_of, processes_of, laid_links, SourcesRecord, horizon_of, seed_of, lay_links, IsLaidBy, file_over}
-use Rattle.scenario_record.specs.Record.{Record}
-use Rattle.study.proofs.OneNetwork.{one_drawn, one_links}
+use Rattle.{study.proofs.OneNetwork.{one_drawn, one_links}, scenario_record.specs.Record.{Record}}
 use Rattle.study.specs.Laid.{RunSources, IsRunTable, IsScenarioOf}
 
 -- ---- a run has one table and one scenario

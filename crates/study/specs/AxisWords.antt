@@ -1,18 +1,9 @@
 -- Which words say which axes.
-use Rattle.std.specs.Prelude.{◌≡◌, ◌<◌, ℕ, ◌+◌, ◌-◌, ◌*◌, ◌/◌, nat_lt, ℤ, pos, unsigned_abs, int_lt, ◌+ℤ◌, ◌-ℤ◌, List, [], ◌∷◌, ◌++◌, map, length, Bool, true, false, not, ◌&&◌, ◌==◌, codes, Option, Some, None, if◌then◌else◌}
-use Rattle.std.specs.Global.{Vec}
-use Rattle.std.specs.List.{flat_map, range_with_len, AllZip}
-use Rattle.std.specs.Option.{option_and_then, option_or}
-use Rattle.study.specs.KeyWords.{SaysKey, SayNoKeys, is_memory as is_key_memory}
-use Rattle.study.specs.Settings.{Path, Given, number, text, path_of, settings_in}
-use Rattle.study.specs.Words.{Word, has, before, after, between, is_integer, integer, fits, bounds}
-use Rattle.study.specs.declared.axis.Axis.{Axis}
-use Rattle.study.specs.declared.range.Range.{Range as RangeNumbers}
-use Rattle.study.specs.declared.range.RangeWords.{RangeWords}
-use Rattle.study.specs.declared.setting.Setting.{Setting}
-use Rattle.study.specs.declared.error.AxisError.{AxisError}
+use Rattle.std.specs.Prelude.{◌≡◌, ℕ, ◌+◌, ◌-◌, ◌*◌, ◌/◌, nat_lt, ℤ, pos, unsigned_abs, int_lt, ◌+ℤ◌, ◌-ℤ◌, List, [], ◌∷◌, ◌++◌, map, length, Bool, true, false, not, ◌&&◌, ◌==◌, codes, Option, Some, None, if◌then◌else◌}
+use Rattle.std.specs.{List.{flat_map, range_with_len, AllZip}, Option.{option_and_then, option_or}}
+use Rattle.study.specs.{KeyWords.{SaysKey, SayNoKeys, is_memory as is_key_memory}, Settings.{Path, Given, number, text, path_of, settings_in}, Words.{Word, has, before, after, between, is_integer, integer, fits, bounds}}
+use Rattle.study.specs.declared.{axis.Axis.{Axis}, error.{AxisError.{AxisError}, KeyError.{KeyError}}}
 use Rattle.study.specs.declared.error.AxisError.TheVariants as error
-use Rattle.study.specs.declared.error.KeyError.{KeyError}
 
 pub record RangeRecord : Type 0 where
   pub low : ℤ
@@ -28,8 +19,7 @@ step_word w = if has 58 w then after 58 w else codes "1"
 
 -- the range from A up to B or B:STEP, where these are integers
 abbrev pub range_between : Word × Word → Option RangeRecord
-range_between ends =
-    if is_integer ends.0 && (is_integer (high_word ends.1) && is_integer (step_word ends.1))
+range_between ends = if is_integer ends.0 && (is_integer (high_word ends.1) && is_integer (step_word ends.1))
     then Some (record { low = integer ends.0; high = integer (high_word ends.1); step = integer (step_word ends.1) })
     else None
 
@@ -44,13 +34,6 @@ steps r = unsigned_abs (r.high -ℤ r.low) / unsigned_abs r.step
 -- the number after k steps
 abbrev pub number_after : RangeRecord → ℕ → ℤ
 number_after r k = r.low +ℤ pos (k * unsigned_abs r.step)
-
--- a range in the code, by its words and by its numbers
-abbrev pub range_by : RangeWords → RangeRecord
-range_by r = record { low = integer r.low.now; high = integer r.high.now; step = integer r.step.now }
-
-abbrev pub range_of : RangeNumbers → RangeRecord
-range_of r = record { low = r.low; high = r.high; step = r.step }
 
 -- what a value says of one key
 pub data Piece : Type 0 where
@@ -73,15 +56,12 @@ values (one z) = number z ∷ []
 values (range r) = map (λ k. number (number_after r k)) (range_with_len 0 (steps r + 1))
 values (word w) = text w ∷ []
 
--- why a range is refused
 abbrev pub range_fault : RangeRecord → Option AxisError
-range_fault r =
-    if not (fits r.low && (fits r.high && fits r.step)) then Some error.NumberTooLarge
+range_fault r = if not (fits r.low && (fits r.high && fits r.step)) then Some error.NumberTooLarge
     else if int_lt r.step (pos 1) then Some error.StepTooLow
     else if int_lt r.high r.low then Some error.EmptyRange
     else None
 
--- why a piece is refused
 abbrev pub piece_fault : Piece → Option AxisError
 piece_fault (one z) = if fits z then None else Some error.NumberTooLarge
 piece_fault (range r) = range_fault r
@@ -114,7 +94,6 @@ abbrev pub rows : Entry → List (List Given)
 rows (single p) = map (λ v. v ∷ []) (values p)
 rows (tied keys ps) = flat_map values ps ∷ []
 
--- why an entry is refused
 abbrev pub entry_fault : Entry → Option AxisError
 entry_fault (single p) = piece_fault p
 entry_fault (tied keys ps) = if length ps == keys then parts_fault ps else Some error.PartsPerKey
@@ -167,24 +146,3 @@ is_memory _ = false
 -- the error says that memory was refused, or it is the fault of the words
 abbrev pub IsFault : Option AxisError → AxisError → Type 0
 IsFault fault e = is_memory e ≡ false → fault ≡ Some e
-
--- the values are those of parts that some words say
-abbrev pub AreOfParts : List Piece → List Given → Type 0
-AreOfParts ps got = (parts_fault ps ≡ None) × (got ≡ flat_map values ps)
-
--- the values are those of entries that some words say
-abbrev pub AreOfEntries : List Entry → List (List Given) → Type 0
-AreOfEntries es got = (first_fault 1000000 es ≡ None) × (got ≡ flat_map rows es)
-
--- the new values are the old ones, for which there was room, with this one after them
-abbrev pub AddsValue : List Given → (old new : Vec (Vec Setting)) → Type 0
-AddsValue row old new = (length (map settings_in old.items) < 1000000)
-    × (map settings_in new.items ≡ map settings_in old.items ++ (row ∷ []))
-
--- the new values are the old ones with the entry's after them
-abbrev pub AddsTo : Entry → (old new : Vec (Vec Setting)) → Type 0
-AddsTo e old new = Adds (map settings_in old.items) (map settings_in new.items) e
-
--- the error says that memory was refused, or why the entry's values can't stand after these
-abbrev pub CannotAdd : Entry → Vec (Vec Setting) → AxisError → Type 0
-CannotAdd e old = IsFault (fault_within (1000000 - length (map settings_in old.items)) e)

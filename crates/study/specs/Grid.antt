@@ -1,12 +1,7 @@
 -- A grid of settings: its points, and the runs of a point. All combinations of choices.
 use Rattle.std.specs.Prelude.{◌≡◌, ℕ, ◌+◌, ◌-◌, ◌*◌, ◌%◌, ◌<◌, ◌^◌, ◌==◌, min, nat_lt, nat_le, List, [], ◌∷◌, ◌++◌, map, length, get_or, Bool, true, false, ◌&&◌, Option, Some, None, option_map, if◌then◌else◌, string_bytes, ◌/◌, ◌≤◌, take, drop}
-use Rattle.std.specs.List.{flat_map, range_with_len, list_any, count_by}
-use Rattle.std.specs.Option.{option_or}
-use Rattle.scenario.specs.Table.{same_text}
-use Rattle.study.specs.Settings.{FilePath, top, inner, element, every, Path, scenario, network, path_of, key_text, Chosen, choices, chosen}
-use Rattle.study.specs.declared.axis.Axis.{Axis}
-use Rattle.study.specs.declared.run.Run.{Run}
-use Rattle.study.specs.declared.error.GridError.{GridError}
+use Rattle.{std.specs.{List.{flat_map, range_with_len, list_any, count_by}, Option.{option_or}}, scenario.specs.Table.{same_text}}
+use Rattle.study.specs.{Settings.{FilePath, top, inner, element, every, Path, scenario, network, path_of, key_text, Chosen, choices, chosen}, declared.{axis.Axis.{Axis}, run.Run.{Run}, error.GridError.{GridError}}}
 use Rattle.study.specs.declared.error.GridError.TheVariants as error
 
 -- one choice of each list, in all ways and in order, with what they hold joined: the last list's choice changes fastest
@@ -37,7 +32,6 @@ keys_of axes = map (λ c. c.path) (get_or (combinations axes) 0 [])
 abbrev pub keys : GridRecord → List Path
 keys g = keys_of g.vary
 
--- the keys of all axes
 abbrev pub all_keys : GridRecord → List Path
 all_keys g = keys_of g.vary ++ (keys_of g.over ++ keys_of g.deal)
 
@@ -121,8 +115,7 @@ pub data Refusal : Type 0 where
   too_many_runs : (runs : ℕ) → Refusal
 
 abbrev pub seeds_refusal : (first last : ℕ) → Option Refusal
-seeds_refusal first last =
-    if nat_lt last first then Some no_seed
+seeds_refusal first last = if nat_lt last first then Some no_seed
     else if nat_le (2 ^ 63) last then Some seed_too_high
     else None
 
@@ -140,8 +133,7 @@ runs_refusal runs = if nat_lt 1000000000000 runs then Some (too_many_runs (told 
 
 -- the first reason against the grid of some axes and seeds
 abbrev pub refusal : (vary over deal : List Axis) (first last : ℕ) → Option Refusal
-refusal vary over deal first last =
-    option_or (seeds_refusal first last)
+refusal vary over deal first last = option_or (seeds_refusal first last)
     (option_or (keys_refusal (paths_of vary ++ (paths_of over ++ paths_of deal)))
     (option_or (points_refusal (length (combinations (map choices vary))))
     (option_or (deal_refusal (last + 1 - first) (length (combinations (map choices deal))))

@@ -1,10 +1,6 @@
 -- Which words say which keys of a study's files.
-use Rattle.std.specs.Prelude.{◌≡◌, ◌≢◌, ◌⊎◌, List, [], ℕ, ◌≤◌, ◌<◌, ◌^◌, ◌∷◌, ◌++◌, length, slice_index, Bool, true, false, not, ◌&&◌, ◌||◌, ◌==◌, codes, decimal}
-use Rattle.std.specs.Char.{is_ascii_alphanumeric}
-use Rattle.std.specs.List.{list_all}
-use Rattle.study.specs.Settings.{FilePath, top, inner, element, every, Path, scenario, network, file_key_text, key_text}
-use Rattle.study.specs.Words.{Word, is_natural}
-use Rattle.study.specs.declared.error.KeyError.{KeyError}
+use Rattle.std.specs.{Prelude.{◌≡◌, ◌≢◌, ◌⊎◌, List, [], ℕ, ◌≤◌, ◌<◌, ◌^◌, ◌∷◌, ◌++◌, length, Bool, true, false, not, ◌&&◌, ◌||◌, ◌==◌, codes, decimal}, Char.{is_ascii_alphanumeric}, List.{list_all}}
+use Rattle.study.specs.{Settings.{FilePath, top, inner, element, every, Path, scenario, network, key_text}, Words.{Word}, declared.error.KeyError.{KeyError}}
 use Rattle.study.specs.declared.error.KeyError.TheVariants as error
 
 -- a letter, a digit, `_` or `-`
@@ -15,32 +11,13 @@ is_name_byte c = is_ascii_alphanumeric c || (c == 95 || c == 45)
 abbrev pub is_name : Word → Bool
 is_name w = not (length w == 0) && list_all is_name_byte w
 
--- a natural number from 1, with no 0 in front
-abbrev pub is_place : Word → Bool
-is_place w = not (slice_index w 0 == 48) && is_natural w
-
 -- a place that stands before a closing bracket, and no place stands before one
 abbrev pub IsPlaceOf : Word → ℕ → Type 0
 IsPlaceOf w place = (1 ≤ place) × (place < 2 ^ 64) × (w ≡ decimal place ++ codes "]")
 
-abbrev pub HasNoPlace : Word → Type 0
-HasNoPlace w = (place : ℕ) → 1 ≤ place → place < 2 ^ 64 → w ≢ decimal place ++ codes "]"
-
 -- what may stand after an array's bracket
 abbrev pub IsPlace : Word → Type 0
 IsPlace w = ((place : ℕ) × IsPlaceOf w place) ⊎ (w ≡ codes "*]")
-
--- what may stand before a key's dot: an array's name with the place of a table, or with a star for all, in brackets
-pub record IsListed (w : Word) : Type 0 where
-  pub array : Word
-  pub place : Word
-  pub named : is_name array ≡ true
-  pub placed : IsPlace place
-  pub text : w ≡ array ++ (91 ∷ place)
-
--- or a table's name
-abbrev pub IsOwner : Word → Type 0
-IsOwner w = (is_name w ≡ true) ⊎ IsListed w
 
 -- its parts are names, and its table is one that an array can have
 abbrev pub HasFileNames : FilePath → Type 0
@@ -59,10 +36,6 @@ IsInArray _ = ⊥
 abbrev pub HasNames : Path → Type 0
 HasNames (scenario p) = HasFileNames p
 HasNames (network p) = IsInArray p × HasFileNames p
-
--- what stands after `network.` in a key of the network's file
-abbrev pub IsNetworkText : Word → Type 0
-IsNetworkText w = (p : FilePath) × (IsInArray p × (HasFileNames p × (w ≡ file_key_text p)))
 
 -- the word says a key: it's the key as it is written, and isn't `seed`
 pub record SaysKey (w : Word) (p : Path) : Type 0 where

@@ -1,37 +1,16 @@
 -- The table of a run: its scenario's, over which its network is laid.
-use Rattle.std.specs.Prelude.{◌≡◌, ◌<◌, ◌≤◌, ◌==◌, ℕ, pos, List, [], ◌∷◌, ◌++◌, map, filter, length, codes, Bool, true, false, not, ◌&&◌, ◌||◌, nat_le, Option, None, MatchOption, if◌then◌else◌, Some, Result, Ok, Err}
-use Rattle.std.specs.List.{list_any}
+use Rattle.std.specs.{Prelude.{◌≡◌, ◌<◌, ◌≤◌, ◌==◌, ℕ, pos, List, [], ◌∷◌, ◌++◌, map, filter, length, codes, Bool, true, false, not, ◌&&◌, ◌||◌, nat_le, Option, None, MatchOption, if◌then◌else◌, Some, Result, Ok, Err}, List.{list_any}}
 use Rattle.std.specs.Option.{option_map_or}
-use Rattle.toml.specs.Data.{Data, integer, array, table, Items, no_items, item, Members, no_members, get_member, as_array, as_table, members_depth, members_have_valid_dates}
-use Rattle.process_api.specs.Place.{most_processes}
-use Rattle.toml.specs.View.{items_of, table_view}
-use Rattle.toml.specs.Parse.{parse_document}
-use Rattle.scenario_record.specs.Record.{Record}
-use Rattle.scenario.specs.Drawn.{put, with_outages}
-use Rattle.scenario.specs.Table.{is_of}
-use Rattle.scenario.specs.Text.{number_at, is_second, pair_of, same_pair, processes_of, record_of}
-use Rattle.scenario.specs.Refusals.{Accepts, refusal_of, is_memory as is_scenario_memory}
+use Rattle.toml.specs.{Data.{Data, integer, array, table, Items, no_items, item, Members, no_members, get_member, as_array, as_table, members_depth, members_have_valid_dates}, View.{items_of}, Parse.{parse_document}}
+use Rattle.{process_api.specs.Place.{most_processes}, scenario_record.specs.Record.{Record}}
+use Rattle.scenario.specs.{Drawn.{put, with_outages}, Table.{is_of}, Text.{number_at, is_second, pair_of, same_pair, processes_of, record_of}, Refusals.{Accepts, refusal_of, is_memory as is_scenario_memory}}
+use Rattle.scenario.specs.declared.{drawn.LinkOutage.{LinkOutage}, error.ScenarioError.{ScenarioError}}
 use Rattle.scenario.specs.declared.field.Kind.TheVariants as kind
-use Rattle.network.specs.Above.{groups_of, AreWithin, HasAbove}
-use Rattle.network.specs.Drawn.{drawn_of, most_outages}
-use Rattle.network.specs.Laid.{laid_links}
-use Rattle.network.specs.Refusals.{IsNetworkOf, Refuses}
-use Rattle.network.specs.declared.above.Above.{Above}
-use Rattle.network.specs.declared.field.TableKind.{TableKind}
-use Rattle.network.specs.declared.laid.LaidLink.{LaidLink}
-use Rattle.network.specs.declared.network.Network.{Network}
-use Rattle.scenario.specs.declared.drawn.LinkOutage.{LinkOutage}
-use Rattle.scenario.specs.declared.error.ScenarioError.{ScenarioError}
-use Rattle.network.specs.declared.refusal.NetworkError.{NetworkError}
-use Rattle.study.specs.Sources.{SourcesRecord}
-use Rattle.study.specs.Placed.{is_memory as is_place_memory}
-use Rattle.study.specs.declared.error.PlaceError.{PlaceError}
-use Rattle.study.specs.declared.extent.Extent.{Extent}
-use Rattle.study.specs.declared.laid_run.LaidRun.{LaidRun}
+use Rattle.network.specs.{Above.{groups_of, AreWithin, HasAbove}, Drawn.{drawn_of, most_outages}, Laid.{laid_links}, Refusals.{IsNetworkOf, Refuses}}
+use Rattle.network.specs.declared.{above.Above.{Above}, field.TableKind.{TableKind}, laid.LaidLink.{LaidLink}, network.Network.{Network}, refusal.NetworkError.{NetworkError}}
+use Rattle.study.specs.{Sources.{SourcesRecord}, Placed.{is_memory as is_place_memory}, declared.error.{PlaceError.{PlaceError}, ReadError.{ReadError}, TextError.{TextError}}}
 use Rattle.study.specs.declared.error.PlaceError.TheVariants as error
-use Rattle.study.specs.declared.error.ReadError.{ReadError}
 use Rattle.study.specs.declared.error.ReadError.TheVariants as read_error
-use Rattle.study.specs.declared.error.TextError.{TextError}
 use Rattle.study.specs.declared.error.TextError.TheVariants as text_error
 
 abbrev pub horizon_of : Members → ℕ
@@ -43,12 +22,6 @@ seed_of t = number_at (codes "seed") 0 t
 -- the processes and the horizon of the table are those that a run can have
 unfoldable pub is_run : Members → Bool
 is_run t = (nat_le 1 (processes_of t) && nat_le (processes_of t) most_processes) && nat_le (horizon_of t) 10000000
-
-pub record IsExtentOf (t : Members) (e : Extent) : Type 0 where
-  pub is_run : is_run t ≡ true
-  pub processes : e.processes ≡ processes_of t
-  pub horizon : e.horizon ≡ horizon_of t
-  pub seed : e.seed ≡ seed_of t
 
 -- what the network lays over the links of the run, and what it draws
 abbrev pub laid_in : Members → Network → List LaidLink
@@ -84,14 +57,6 @@ with_tables key change t =
     option_map_or (λ d. if is_of kind.Tables d then put key (array (items_of (change (values_in d)))) t else t)
     (get_member key t) (put key (array (items_of (change []))) t)
 
--- what is asked of the code: whatever the values are changed to, the table stays; or these are changed
-abbrev pub StaysAsItIs : (key : List ℕ) → Members → Type 0
-StaysAsItIs key t = (change : List Data → List Data) → with_tables key change t ≡ t
-
-abbrev pub HasValues : (key : List ℕ) → List Data → Members → Type 0
-HasValues key ds t =
-    (change : List Data → List Data) → with_tables key change t ≡ put key (array (items_of (change ds))) t
-
 -- a table of `links` is of a link that is laid
 abbrev pub is_laid : List LaidLink → Data → Bool
 is_laid laid d = option_map_or (λ t. list_any (λ l. same_pair (pair_of t) (l.from, l.to)) laid) (as_table d) false
@@ -108,10 +73,6 @@ lay_links laid t = with_rows (codes "links") laid (map link_table laid) t
 -- the links are laid, and then the outages are there besides that the table itself draws
 abbrev pub lay : Network → Members → Members
 lay its t = with_outages (drawn_in t its) (lay_links (laid_in t its) t)
-
--- the table that is laid, by the one over which links are laid and the outages that are drawn
-abbrev pub table_of_laid : LaidRun → Members
-table_of_laid r = with_outages r.outages.items (table_view r.table)
 
 -- ---- whether a network can be laid
 

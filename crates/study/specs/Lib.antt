@@ -8,3 +8,4 @@ pub mod Words
 pub mod KeyWords
 pub mod AxisWords
 pub mod SetWords
+pub mod Inside

@@ -1,16 +1,8 @@
 -- A study's files with a value at a path, in place of the one that is there.
-use Rattle.std.specs.Prelude.{◌≡◌, ℕ, ◌-◌, zero, suc, List, [], ◌∷◌, Option, Some, None, Result, Ok, Err, pos, codes, Bool, true, false, String}
-use Rattle.std.specs.BTreeMap.{BTreeMap}
-use Rattle.std.specs.declared.alloc.Global.{Global}
-use Rattle.toml.specs.Data.{Data, integer, string, array, table, Items, no_items, item, Members, no_members, member, get_member, get_item}
-use Rattle.toml.specs.View.{view, table_view}
-use Rattle.toml.specs.declared.value.Value.{Value}
-use Rattle.scenario.specs.Drawn.{put}
-use Rattle.study.specs.Settings.{FilePath, top, inner, element, every, Path, scenario, network, path_of, Given, number, text, Chosen}
-use Rattle.study.specs.Sources.{SourcesRecord}
-use Rattle.study.specs.Grid.{RunRecord}
-use Rattle.study.specs.declared.assignment.Assignment.{Assignment}
-use Rattle.study.specs.declared.error.PlaceError.{PlaceError}
+use Rattle.std.specs.{Prelude.{◌≡◌, ℕ, ◌-◌, zero, suc, List, [], ◌∷◌, Option, Some, None, Result, Ok, Err, pos, codes, Bool, true, false, String}, BTreeMap.{BTreeMap}, declared.alloc.Global.{Global}}
+use Rattle.{toml.specs.{Data.{Data, integer, string, array, table, Items, no_items, item, Members, no_members, get_member, get_item}, View.{view}, declared.value.Value.{Value}}, scenario.specs.Drawn.{put}}
+use Rattle.study.specs.{Settings.{FilePath, top, inner, element, every, Path, scenario, network, path_of, Given, number, text, Chosen}, Sources.{SourcesRecord}, Grid.{RunRecord}}
+use Rattle.study.specs.declared.{assignment.Assignment.{Assignment}, error.PlaceError.{PlaceError}}
 use Rattle.study.specs.declared.error.PlaceError.TheVariants as error
 
 abbrev pub data_of : Given → Data
@@ -67,8 +59,7 @@ put_in_all k d (item e ds) = put_in_each k d (item e ds)
 abbrev pub set_in_file : FilePath → Data → Members → Result Members PlaceError
 set_in_file (top k) d t = Ok (put k d t)
 set_in_file (inner name k) d t = then (table_or_new (get_member name t)) (λ ms. Ok (put name (table (put k d ms)) t))
-set_in_file (element name place k) d t =
-    then (items_of (get_member name t)) (λ ds. then (element_of place ds)
+set_in_file (element name place k) d t = then (items_of (get_member name t)) (λ ds. then (element_of place ds)
     (λ ms. Ok (put name (array (put_item (place - 1) (table (put k d ms)) ds)) t)))
 set_in_file (every name k) d t =
     then (items_of (get_member name t)) (λ ds. then (put_in_all k d ds) (λ es. Ok (put name (array es) t)))
@@ -107,8 +98,7 @@ assign_all = in_turn (λ (a : Assignment). set_at (path_of a.key) (view a.value)
 
 -- the files of a run: with the point's settings, the run's and its seed
 abbrev pub sources_of_run : List Chosen → RunRecord → SourcesRecord → Result SourcesRecord PlaceError
-sources_of_run point run s =
-    then (set_all point s) (λ t. then (set_all run.settings t)
+sources_of_run point run s = then (set_all point s) (λ t. then (set_all run.settings t)
     (λ u. Ok (with_scenario u (put (codes "seed") (integer (pos run.seed)) u.scenario))))
 
 abbrev pub is_memory : PlaceError → Bool
@@ -121,11 +111,3 @@ IsRefused meant e = is_memory e ≡ false → meant ≡ Err e
 
 abbrev pub Table : Type 0
 Table = BTreeMap (String Global) Value
-
--- with the value at the path the one table is the other
-abbrev pub Puts : FilePath → Data → (old new : Table) → Type 0
-Puts path d old new = set_in_file path d (table_view old) ≡ Ok (table_view new)
-
--- the error says that memory was refused, or why the table can't have the value at the path
-abbrev pub CannotPut : FilePath → Data → Table → PlaceError → Type 0
-CannotPut path d old = IsRefused (set_in_file path d (table_view old))

@@ -1,10 +1,6 @@
 -- What the files have at a path, and what setting a path changes.
-use Rattle.std.specs.Prelude.{◌≡◌, ◌≢◌, ◌⊎◌, ℕ, zero, suc, List, Option, Some, None, MatchOption, Ok}
-use Rattle.std.specs.Option.{option_and_then}
-use Rattle.toml.specs.Data.{Data, array, table, Items, Members, get_member, get_item}
-use Rattle.study.specs.Settings.{FilePath, top, inner, element, every, Path, scenario, network}
-use Rattle.study.specs.Sources.{SourcesRecord}
-use Rattle.study.specs.Placed.{set_at}
+use Rattle.std.specs.{Prelude.{◌≡◌, ◌≢◌, ◌⊎◌, ℕ, zero, suc, List, Option, Some, None, MatchOption, Ok}, Option.{option_and_then}}
+use Rattle.{toml.specs.Data.{Data, array, table, Items, Members, get_member, get_item}, study.specs.{Settings.{FilePath, top, inner, element, every, Path, scenario, network}, Sources.{SourcesRecord}, Placed.{set_at}}}
 
 -- the value at a key of a table, if it is one
 abbrev pub in_table : List ℕ → Option Data → Option Data
@@ -54,14 +50,8 @@ AreBeside _ _ = ⊥
 abbrev pub AreApartInFile : FilePath → FilePath → Type 0
 AreApartInFile path other = (first_key path ≢ first_key other) ⊎ AreBeside path other
 
--- the file has the value at the path, and at every path apart from that what it had
-pub record SetsInFile (path : FilePath) (d : Data) (old new : Members) : Type 0 where
-  pub read : IsReadInFile path d new
-  pub others : (other : FilePath) → AreApartInFile path other → value_in_file other new ≡ value_in_file other old
-
 -- ---- in the files of a study
 
--- the value at a path
 abbrev pub value_at : Path → SourcesRecord → Option Data
 value_at (scenario p) s = value_in_file p s.scenario
 value_at (network p) s = option_and_then (value_in_file p) s.network

@@ -1,15 +1,8 @@
 -- Which words set which keys to which values, for all runs.
 use Rattle.std.specs.Prelude.{◌≡◌, ◌≢◌, [], Bool, true, false, unwrap_or}
-use Rattle.toml.specs.Data.{Data, string}
-use Rattle.toml.specs.Parse.{parse_value}
-use Rattle.toml.specs.View.{view}
-use Rattle.study.specs.KeyWords.{SaysKey, SaysNoKey, is_memory as is_key_memory}
-use Rattle.study.specs.Settings.{Path, path_of}
-use Rattle.study.specs.Words.{Word, has, before, after}
-use Rattle.study.specs.declared.assignment.Assignment.{Assignment}
-use Rattle.study.specs.declared.error.AssignmentError.{AssignmentError}
+use Rattle.{toml.specs.{Data.{Data, string}, Parse.{parse_value}, View.{view}}, study.specs.{KeyWords.{SaysKey, SaysNoKey, is_memory as is_key_memory}, Settings.{Path, path_of}, Words.{Word, has, before, after}}}
+use Rattle.study.specs.declared.{assignment.Assignment.{Assignment}, error.{AssignmentError.{AssignmentError}, KeyError.{KeyError}}}
 use Rattle.study.specs.declared.error.AssignmentError.TheVariants as error
-use Rattle.study.specs.declared.error.KeyError.{KeyError}
 
 -- what TOML reads as one value; and else the word, as a text
 abbrev pub value_said : Word → Data

@@ -1,16 +1,9 @@
 -- Keys of a study's files, and what they are set to.
-use Rattle.std.specs.Prelude.{ℕ, ℤ, List, ◌++◌, map, codes, string_bytes, decimal}
-use Rattle.std.specs.Fmt.{signed_decimal}
-use Rattle.std.specs.Global.{Vec}
-use Rattle.std.specs.List.{zip}
-use Rattle.study.specs.declared.file_key.FileKey.{FileKey}
+use Rattle.std.specs.{Prelude.{ℕ, ℤ, List, ◌++◌, map, codes, string_bytes, decimal}, Fmt.{signed_decimal}, Global.{Vec}, List.{zip}}
+use Rattle.study.specs.declared.{file_key.FileKey.{FileKey}, key.Key.{Key}, setting.Setting.{Setting}, axis.{Axis.{Axis}, Choice.{Choice}}}
 use Rattle.study.specs.declared.file_key.FileKey.TheVariants as file_key
-use Rattle.study.specs.declared.key.Key.{Key}
 use Rattle.study.specs.declared.key.Key.TheVariants as key
-use Rattle.study.specs.declared.setting.Setting.{Setting}
 use Rattle.study.specs.declared.setting.Setting.TheVariants as setting
-use Rattle.study.specs.declared.axis.Axis.{Axis}
-use Rattle.study.specs.declared.axis.Choice.{Choice}
 
 -- where a key stands in a file
 pub data FilePath : Type 0 where

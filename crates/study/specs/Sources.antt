@@ -1,8 +1,5 @@
 -- The files of a study.
-use Rattle.std.specs.Prelude.{Option, option_map}
-use Rattle.toml.specs.Data.{Members}
-use Rattle.toml.specs.View.{table_view}
-use Rattle.study.specs.declared.sources.Sources.{Sources}
+use Rattle.{std.specs.Prelude.{Option, option_map}, toml.specs.{Data.{Members}, View.{table_view}}, study.specs.declared.sources.Sources.{Sources}}
 
 pub record SourcesRecord : Type 0 where
   -- what the scenario's file has

@@ -1,13 +1,8 @@
 -- Numbers as words of a command line, and a word's bounds.
-use Rattle.std.specs.Prelude.{ℕ, ◌^◌, nat_lt, ◌==◌, ℤ, pos, negsuc, neg_ℤ, List, length, drop, Bool, not, ◌&&◌, cond, codes, Option, Some, None, if◌then◌else◌, ◌≡◌, true, nat_le}
-use Rattle.std.specs.Char.{is_ascii_digit}
-use Rattle.std.specs.List.{list_any, list_all, starts_with, before_first, after_first, slice_split}
-use Rattle.std.specs.Str.Parse.{digits_value, starts_with_minus}
-use Rattle.std.specs.Option.{option_and_then}
-use Rattle.study.specs.Grid.{ShardRecord}
-use Rattle.study.specs.declared.error.SeedsError.{SeedsError}
+use Rattle.std.specs.{Prelude.{ℕ, ◌^◌, nat_lt, ◌==◌, ℤ, pos, negsuc, neg_ℤ, List, length, drop, Bool, not, ◌&&◌, cond, codes, Option, Some, None, if◌then◌else◌, nat_le}, Char.{is_ascii_digit}}
+use Rattle.std.specs.{List.{list_any, list_all, starts_with, before_first, after_first, slice_split}, Str.Parse.{digits_value, starts_with_minus}, Option.{option_and_then}}
+use Rattle.study.specs.{Grid.{ShardRecord}, declared.error.{SeedsError.{SeedsError}, ShardError.{ShardError}}}
 use Rattle.study.specs.declared.error.SeedsError.TheVariants as error
-use Rattle.study.specs.declared.error.ShardError.{ShardError}
 use Rattle.study.specs.declared.error.ShardError.TheVariants as shard_error
 
 abbrev pub Word : Type 0
@@ -53,31 +48,22 @@ bounds w =
 
 -- which words say which seeds
 abbrev pub seeds_between : Word × Word → Option (ℕ × ℕ)
-seeds_between ends =
-    if is_natural ends.0 && is_natural ends.1 then Some (natural ends.0, natural ends.1) else None
+seeds_between ends = if is_natural ends.0 && is_natural ends.1 then Some (natural ends.0, natural ends.1) else None
 
 -- the first seed and the last: A and B of A..=B, or both A
 abbrev pub seeds_said : Word → Option (ℕ × ℕ)
 seeds_said w = if is_natural w then Some (natural w, natural w) else option_and_then seeds_between (bounds w)
 
--- the words of the first seed and the last
-pub record AreEnds (w first last : Word) : Type 0 where
-  pub first_natural : is_natural first ≡ true
-  pub last_natural : is_natural last ≡ true
-  pub said : seeds_said w ≡ Some (natural first, natural last)
-
 -- why there are no such seeds
 abbrev pub seeds_fault : Option (ℕ × ℕ) → Option SeedsError
 seeds_fault None = Some error.NoSeeds
-seeds_fault (Some (first, last)) =
-    if not (nat_lt first (2 ^ 63) && nat_lt last (2 ^ 63)) then Some error.SeedTooHigh
+seeds_fault (Some (first, last)) = if not (nat_lt first (2 ^ 63) && nat_lt last (2 ^ 63)) then Some error.SeedTooHigh
     else if nat_lt last first then Some error.EmptyRange
     else None
 
 -- K and N of K/N
 abbrev pub shard_said : Word → Option ShardRecord
-shard_said w =
-    if has 47 w && (is_natural (before 47 w) && is_natural (after 47 w))
+shard_said w = if has 47 w && (is_natural (before 47 w) && is_natural (after 47 w))
     then Some (record { number = natural (before 47 w); of = natural (after 47 w) })
     else None
 

@@ -1,10 +1,8 @@
 //! Axes, as arguments of a command line.
-ghost use Rattle.std.specs.Prelude.{◌≡◌, ◌<◌, ◌≤◌, ◌++◌, ◌∷◌, [], false, None, IfOk, OnOk, IfErr, map, length};
-ghost use Rattle.std.specs.List.{AllZip};
-ghost use Rattle.study.specs.Settings.{given_by, settings_in, path_of};
-ghost use Rattle.study.specs.Words.{between};
-ghost use Rattle.study.specs.KeyWords.{SaysKey, SayNoKeys, is_memory as is_key_memory};
-ghost use Rattle.study.specs.AxisWords.{range_by, range_of, steps as steps_between, range as as_range, piece_said, parts_fault, single, tied, entry_said, rows, first_fault, entries, entries_said, SaysAxis, SaysNoAxis, is_memory, IsFault, AreOfParts, AreOfEntries, AddsValue, AddsTo, CannotAdd};
+ghost use Rattle.std.specs.{Prelude.{◌≡◌, ◌<◌, ◌≤◌, ◌++◌, ◌∷◌, [], false, None, IfOk, OnOk, IfErr, map, length}, List.{AllZip}};
+ghost use Rattle.study.specs.{Settings.{given_by, settings_in, path_of}, Words.{between}, KeyWords.{SaysKey, SayNoKeys, is_memory as is_key_memory}};
+ghost use Rattle.study.specs.Inside.AxisWords.{range_by, range_of, AreOfParts, AreOfEntries, AddsValue, AddsTo, CannotAdd};
+ghost use Rattle.study.specs.AxisWords.{steps as steps_between, range as as_range, piece_said, parts_fault, single, tied, entry_said, rows, first_fault, entries, entries_said, SaysAxis, SaysNoAxis, is_memory, IsFault};
 
 use crate::axis::Axis;
 use crate::error::{AxisError, KeyError};

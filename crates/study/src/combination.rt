@@ -1,7 +1,6 @@
 //! Combinations of choices, counted and picked by their numbers.
 ghost use Rattle.std.specs.Prelude.{◌≡◌, ◌≤◌, ◌<◌, ◌++◌, [], length, map, get_or, OnOk};
-ghost use Rattle.study.specs.Grid.{combinations, told};
-ghost use Rattle.study.specs.Settings.{choices, chosen, path_of, given_by, set_to};
+ghost use Rattle.study.specs.{Grid.{combinations, told}, Settings.{choices, chosen, path_of, given_by, set_to}};
 
 use crate::axis::{Axis, Choice};
 use crate::key::Key;

@@ -1,10 +1,8 @@
 //! How far a run goes, by its table.
 ghost use Rattle.std.specs.Prelude.{◌≡◌, ◌<◌, ◌^◌, pos, false, MatchOption};
 ghost use Rattle.toml.specs.View.{table_view};
-ghost use Rattle.scenario.specs.Table.{number_or};
-ghost use Rattle.scenario.specs.Faults.{integer_in};
-ghost use Rattle.scenario.specs.Text.{number_at, is_second as second_in};
-ghost use Rattle.study.specs.Laid.{is_run, IsExtentOf};
+ghost use Rattle.scenario.specs.{Table.{number_or}, Faults.{integer_in}, Text.{number_at, is_second as second_in}};
+ghost use Rattle.study.specs.{Laid.{is_run}, Inside.Private.{IsExtentOf}};
 
 use crate::extent::Extent;
 use crate::placed::value_at;

@@ -1,7 +1,6 @@
 //! Keys of a file.
 ghost use Rattle.std.specs.Prelude.{◌≡◌};
-ghost use Rattle.study.specs.Settings.{file_path_of};
-ghost use Rattle.study.specs.Grid.{meets_in_file};
+ghost use Rattle.study.specs.{Settings.{file_path_of}, Grid.{meets_in_file}};
 
 use std::fmt;
 
@@ -80,8 +79,7 @@ impl FileKey {
 }
 
 impl fmt::Display for FileKey {
-    ghost use Rattle.std.specs.Prelude.{Some};
-    ghost use Rattle.study.specs.Settings.{file_path_of, file_key_text};
+    ghost use Rattle.{std.specs.Prelude.{Some}, study.specs.Settings.{file_path_of, file_key_text}};
 
     ghost output = { λ k. Some (file_key_text (file_path_of k)) };
 

@@ -1,7 +1,6 @@
 //! Grids of settings.
 ghost use Rattle.std.specs.Prelude.{◌≡◌, ◌<◌, ◌≤◌, [], map, length, get_or, IfOk, OnOk, IfErr};
-ghost use Rattle.study.specs.Settings.{choices, chosen};
-ghost use Rattle.study.specs.Grid.{points, keys_of, keys, runs, run_of, grid_of, paths_of, NoneApplies, IsFirst, HaveOwnSeeds, AreDealtEvenly};
+ghost use Rattle.study.specs.{Settings.{choices, chosen}, Grid.{points, keys_of, keys, runs, run_of, grid_of, paths_of, NoneApplies, IsFirst, HaveOwnSeeds, AreDealtEvenly}};
 
 use crate::axis::{Axis, Choice};
 use crate::combination::pick_combination;
@@ -27,9 +26,7 @@ pub struct Grid {
 
 impl Model for Grid {
     ghost use Rattle.std.specs.Prelude.{◌≡◌, ◌<◌, ◌≤◌, ◌+◌, ◌*◌, ◌%◌, ◌^◌, map, length};
-    ghost use Rattle.study.specs.Grid.{combinations};
-    ghost use Rattle.study.specs.Settings.{choices};
-    ghost use Rattle.study.specs.Grid.{GridRecord};
+    ghost use Rattle.study.specs.{Grid.{combinations, GridRecord}, Settings.{choices}};
 
     ghost Value = { GridRecord };
 

@@ -1,7 +1,6 @@
 //! The rules of grids, one after the other.
 ghost use Rattle.std.specs.Prelude.{◌≡◌, ◌<◌, ◌≤◌, ◌^◌, ◌*◌, ◌%◌, ◌++◌, None, false, map, length, IfOk, OnOk, IfErr};
-ghost use Rattle.study.specs.Grid.{combinations, paths_of, seeds_refusal, keys_refusal, points_refusal, deal_refusal, runs_refusal, reason_of, is_memory};
-ghost use Rattle.study.specs.Settings.{choices, path_of};
+ghost use Rattle.study.specs.{Grid.{combinations, paths_of, seeds_refusal, keys_refusal, points_refusal, deal_refusal, runs_refusal, reason_of, is_memory}, Settings.{choices, path_of}};
 
 use crate::axis::Axis;
 use crate::combination::count_combinations;

@@ -1,8 +1,6 @@
 //! Keys of a study's files.
-ghost use Rattle.std.specs.Prelude.{◌≡◌, ◌≤◌, map, take, drop, length, option_map, string_bytes, IfOk};
-ghost use Rattle.std.specs.List.{list_any};
-ghost use Rattle.study.specs.Settings.{path_of, key_text};
-ghost use Rattle.study.specs.Grid.{meets, first_again as again};
+ghost use Rattle.std.specs.{Prelude.{◌≡◌, ◌≤◌, map, take, drop, length, option_map, string_bytes, IfOk}, List.{list_any}};
+ghost use Rattle.study.specs.{Settings.{path_of, key_text}, Grid.{meets, first_again as again}};
 
 use crate::file_key::FileKey;
 use std::alloc::{AllocError, Global};
@@ -40,8 +38,7 @@ impl Key {
 }
 
 impl fmt::Display for Key {
-    ghost use Rattle.std.specs.Prelude.{Some};
-    ghost use Rattle.study.specs.Settings.{path_of, key_text};
+    ghost use Rattle.{std.specs.Prelude.{Some}, study.specs.Settings.{path_of, key_text}};
 
     ghost output = { λ k. Some (key_text (path_of k)) };
 

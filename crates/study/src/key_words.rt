@@ -1,8 +1,7 @@
 //! Keys, as arguments of a command line.
-ghost use Rattle.std.specs.Prelude.{◌≡◌, ◌<◌, ◌++◌, ◌∷◌, false, codes, string_bytes, true, IfOk, IfErr, MatchOption};
-ghost use Rattle.std.specs.List.{list_all};
-ghost use Rattle.study.specs.Settings.{path_of, key_text, file_path_of, file_key_text};
-ghost use Rattle.study.specs.KeyWords.{is_name_byte, is_name, is_place, IsPlace, IsPlaceOf, HasNoPlace, IsListed, IsOwner, IsInArray, HasFileNames, HasNames, IsNetworkText, SaysKey, SaysNoKey, is_memory};
+ghost use Rattle.std.specs.{Prelude.{◌≡◌, ◌<◌, ◌++◌, ◌∷◌, false, codes, string_bytes, true, IfOk, IfErr, MatchOption}, List.{list_all}};
+ghost use Rattle.study.specs.{Settings.{path_of, key_text, file_path_of, file_key_text}, KeyWords.{is_name_byte, is_name, IsPlace, IsPlaceOf, IsInArray, HasFileNames, HasNames, SaysKey, SaysNoKey, is_memory}};
+ghost use Rattle.study.specs.Inside.Private.{is_place, HasNoPlace, IsListed, IsOwner, IsNetworkText};
 
 use crate::error::KeyError;
 use crate::file_key::FileKey;

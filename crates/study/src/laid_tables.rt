@@ -1,13 +1,9 @@
 //! Tables of links and of outages, laid over those of a scenario's table.
-ghost use Rattle.std.specs.Prelude.{◌≡◌, ◌++◌, ◌∷◌, [], codes, not, true, filter, map, IfOk, OnOk, IfErr, IfNone, IfSome, if◌then◌else◌};
-ghost use Rattle.std.specs.List.{list_any};
-ghost use Rattle.toml.specs.Data.{Data};
-ghost use Rattle.toml.specs.View.{view, table_view};
-ghost use Rattle.scenario.specs.Drawn.{with_outages};
-ghost use Rattle.scenario.specs.Text.{same_pair};
-ghost use Rattle.study.specs.Placed.{is_memory};
+ghost use Rattle.std.specs.{Prelude.{◌≡◌, ◌++◌, ◌∷◌, [], codes, not, true, filter, map, IfOk, OnOk, IfErr, IfNone, IfSome, if◌then◌else◌}, List.{list_any}};
+ghost use Rattle.toml.specs.{Data.{Data}, View.{view, table_view}};
+ghost use Rattle.scenario.specs.{Drawn.{with_outages}, Text.{same_pair}};
+ghost use Rattle.study.specs.{Placed.{is_memory}, Inside.Private.{StaysAsItIs, HasValues}, Laid.{with_number, with_rows}};
 ghost use Rattle.study.specs.Laid as spec;
-ghost use Rattle.study.specs.Laid.{StaysAsItIs, HasValues, with_number, with_rows};
 
 use crate::error::PlaceError;
 use crate::extent_of::natural_at;
@@ -67,8 +63,7 @@ impl Row for LaidLink {
 }
 
 impl Row for LinkOutage {
-    ghost use Rattle.toml.specs.Data.{table};
-    ghost use Rattle.scenario.specs.Drawn.{outage_table};
+    ghost use Rattle.{toml.specs.Data.{table}, scenario.specs.Drawn.{outage_table}};
 
     ghost said = { λ o. table (outage_table o) };
 

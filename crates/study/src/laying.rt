@@ -1,14 +1,9 @@
 //! A network laid over a scenario's table.
 ghost use Rattle.std.specs.Prelude.{◌≡◌, ◌<◌, ◌≤◌, false, true, length, IfOk, IfErr};
-ghost use Rattle.toml.specs.View.{table_view};
-ghost use Rattle.scenario.specs.Drawn.{with_outages};
-ghost use Rattle.scenario.specs.Text.{processes_of};
-ghost use Rattle.network.specs.Drawn.{drawn_of, most_outages};
-ghost use Rattle.network.specs.Ranges.{IsNetwork};
+ghost use Rattle.{toml.specs.View.{table_view}, scenario.specs.{Drawn.{with_outages}, Text.{processes_of}}};
+ghost use Rattle.network.specs.{Drawn.{drawn_of, most_outages}, Ranges.{IsNetwork}};
 ghost use Rattle.study.specs.Laid as spec;
-ghost use Rattle.study.specs.Laid.{IsExtentOf, Fits, IsLaidBy, CantBeLaid, IsLaid, IsUnlaid, table_of_laid};
-ghost use Rattle.study.specs.Placed.{is_memory};
-ghost use Rattle.study.specs.Sources.{sources_of};
+ghost use Rattle.study.specs.{Inside.Private.{IsExtentOf, table_of_laid}, Laid.{Fits, IsLaidBy, CantBeLaid, IsLaid, IsUnlaid}, Placed.{is_memory}, Sources.{sources_of}};
 
 use crate::error::PlaceError;
 use crate::extent::Extent;

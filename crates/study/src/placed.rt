@@ -1,12 +1,9 @@
 //! A study's files with values at keys, in place of those that are there.
 ghost use Rattle.std.specs.Prelude.{◌≡◌, ◌<◌, ◌≤◌, true, IfOk, OnOk, IfErr, Ok, map, length, option_map};
-ghost use Rattle.toml.specs.Data.{get_member, table};
-ghost use Rattle.toml.specs.View.{view, table_view, array_view, items_view};
+ghost use Rattle.toml.specs.{Data.{get_member, table}, View.{view, table_view, array_view, items_view}};
 ghost use Rattle.scenario.specs.Drawn.{put as put_member};
-ghost use Rattle.study.specs.Settings.{file_path_of, path_of, given_by, chosen, inner, element, every};
-ghost use Rattle.study.specs.Reading.{AreSet, Sets};
-ghost use Rattle.study.specs.Sources.{sources_of};
-ghost use Rattle.study.specs.Placed.{data_of, put_item, put_in_each, set_at, set_chosen, set_all, assign_all, table_of, table_or_new, items_of, element_of, is_memory, IsRefused, Puts, CannotPut};
+ghost use Rattle.study.specs.{Settings.{file_path_of, path_of, given_by, chosen, inner, element, every}, Reading.{AreSet, Sets}, Sources.{sources_of}};
+ghost use Rattle.study.specs.{Placed.{data_of, put_item, put_in_each, set_at, set_chosen, set_all, assign_all, table_of, table_or_new, items_of, element_of, is_memory, IsRefused}, Inside.Private.{Puts, CannotPut}};
 
 use crate::assignment::Assignment;
 use crate::axis::Choice;

@@ -1,6 +1,6 @@
 //! Ranges of integers, as arguments of a command line.
 ghost use Rattle.std.specs.Prelude.{◌≡◌, ◌≤◌, ◌&&◌, None, Some, IfOk, IfErr, MatchOption};
-ghost use Rattle.study.specs.AxisWords.{high_word, step_word, range_said, range_by, range_of, range_fault, steps as steps_between, number_after};
+ghost use Rattle.study.specs.{AxisWords.{high_word, step_word, range_said, range_fault, steps as steps_between, number_after}, Inside.AxisWords.{range_by, range_of}};
 
 use crate::error::AxisError;
 use crate::range::{Range, RangeWords};

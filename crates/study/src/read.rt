@@ -1,11 +1,7 @@
 //! The scenarios of runs.
 ghost use Rattle.std.specs.Prelude.{◌≡◌, false, Ok, IfOk, IfErr, map};
 ghost use Rattle.toml.specs.View.{table_view};
-ghost use Rattle.study.specs.Settings.{chosen};
-ghost use Rattle.study.specs.Sources.{sources_of};
-ghost use Rattle.study.specs.Grid.{run_of};
-ghost use Rattle.study.specs.Placed.{sources_of_run, IsRefused, is_memory as is_place_memory};
-ghost use Rattle.study.specs.Laid.{IsRunTable, HasNoTable, IsScenarioOf, IsRefusedFor, is_memory};
+ghost use Rattle.study.specs.{Settings.{chosen}, Sources.{sources_of}, Grid.{run_of}, Placed.{sources_of_run, IsRefused, is_memory as is_place_memory}, Laid.{IsRunTable, HasNoTable, IsScenarioOf, IsRefusedFor, is_memory}};
 
 use crate::axis::Choice;
 use crate::error::{PlaceError, ReadError};

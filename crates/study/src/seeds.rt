@@ -1,6 +1,6 @@
 //! Seeds, as arguments of a command line.
 ghost use Rattle.std.specs.Prelude.{◌≡◌, None, Some, IfOk, IfErr, MatchOption};
-ghost use Rattle.study.specs.Words.{seeds_said, seeds_fault, AreEnds};
+ghost use Rattle.study.specs.{Words.{seeds_said, seeds_fault}, Inside.Private.{AreEnds}};
 
 use crate::error::SeedsError;
 use crate::words::{bounds_in, is_natural_word, natural_up_to};

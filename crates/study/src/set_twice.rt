@@ -1,7 +1,6 @@
 //! Keys that are set for all runs and again.
 ghost use Rattle.std.specs.Prelude.{◌≡◌, ◌++◌, map, option_map, OnOk, IfOk};
-ghost use Rattle.study.specs.Settings.{path_of};
-ghost use Rattle.study.specs.Grid.{set_twice};
+ghost use Rattle.study.specs.{Settings.{path_of}, Grid.{set_twice}};
 
 use crate::assignment::Assignment;
 use crate::grid::Grid;

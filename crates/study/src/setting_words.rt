@@ -1,7 +1,6 @@
 //! The value to which a key is set, as an argument of a command line.
 ghost use Rattle.std.specs.Prelude.{◌≡◌, ◌∷◌, [], None, IfOk, IfErr, MatchOption};
-ghost use Rattle.study.specs.Settings.{given_by};
-ghost use Rattle.study.specs.AxisWords.{range_by, range, piece_said, piece_fault, part_fault, values, IsFault};
+ghost use Rattle.study.specs.{Settings.{given_by}, Inside.AxisWords.{range_by}, AxisWords.{range, piece_said, piece_fault, part_fault, values, IsFault}};
 
 use crate::error::AxisError;
 use crate::range::RangeWords;

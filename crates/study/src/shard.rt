@@ -1,6 +1,5 @@
 //! Shards of a study.
-ghost use Rattle.std.specs.Prelude.{◌≡◌, ◌≤◌, ◌-◌, ◌↔◌, IsTrue, IsSome, IfSome};
-ghost use Rattle.std.specs.List.{range_with_len};
+ghost use Rattle.std.specs.{Prelude.{◌≡◌, ◌≤◌, ◌-◌, ◌↔◌, IsTrue, IsSome, IfSome}, List.{range_with_len}};
 ghost use Rattle.study.specs.Grid.{ShardRecord, IsShard, begin_of, end_of, block, AreAll, AreEven};
 
 use std::marker::Model;

@@ -1,7 +1,6 @@
 //! The files of a study.
 ghost use Rattle.std.specs.Prelude.{◌≡◌, None, IfOk};
-ghost use Rattle.toml.specs.View.{table_view};
-ghost use Rattle.study.specs.Sources.{sources_of};
+ghost use Rattle.{toml.specs.View.{table_view}, study.specs.Sources.{sources_of}};
 
 use std::alloc::AllocError;
 use toml::Table;

@@ -1,10 +1,6 @@
 //! The text of a run's file.
 ghost use Rattle.std.specs.Prelude.{◌≡◌, false, IfOk, IfErr, map, string_bytes};
-ghost use Rattle.study.specs.Settings.{chosen};
-ghost use Rattle.study.specs.Sources.{sources_of};
-ghost use Rattle.study.specs.Grid.{run_of};
-ghost use Rattle.study.specs.Placed.{sources_of_run};
-ghost use Rattle.study.specs.Laid.{IsRunText, HasNoText, is_text_memory};
+ghost use Rattle.study.specs.{Settings.{chosen}, Sources.{sources_of}, Grid.{run_of}, Placed.{sources_of_run}, Laid.{IsRunText, HasNoText, is_text_memory}};
 
 use crate::axis::Choice;
 use crate::error::{PlaceError, TextError};

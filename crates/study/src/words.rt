@@ -1,7 +1,5 @@
 //! Numbers and bounds, as arguments of a command line.
-ghost use Rattle.std.specs.Prelude.{◌≡◌, ◌≤◌, ◌<◌, ◌^◌, true, false, length, map, IfOk, MatchOption, option_map};
-ghost use Rattle.std.specs.Char.{is_ascii_digit};
-ghost use Rattle.std.specs.List.{list_all};
+ghost use Rattle.std.specs.{Prelude.{◌≡◌, ◌≤◌, ◌<◌, ◌^◌, true, false, length, map, IfOk, MatchOption, option_map}, Char.{is_ascii_digit}, List.{list_all}};
 ghost use Rattle.study.specs.Words.{between, is_natural, is_integer, natural, integer, fits, bounds};
 
 use std::alloc::{AllocError, Global};

@@ -1,7 +1,6 @@
 -- Files that are accepted: their one scenario, and what is told of it.
 use Rattle.study_commands.proofs.Words.{◌≡◌, ◌∙◌, ◌++◌, ap, sym, ℕ, List, Describes, entries_in, longest_window, Accepts, record_of, Record, accepted_line, accepted_text}
-use Rattle.std.specs.Prelude.{unwrap_or}
-use Rattle.diagnosis.specs.declared.answer.Accepted.{Accepted}
+use Rattle.{std.specs.Prelude.{unwrap_or}, diagnosis.specs.declared.answer.Accepted.{Accepted}}
 
 pub same_scenario : (bytes : List ℕ) (s t : Record) → Accepts bytes s → Accepts bytes t → s ≡ t
 same_scenario bytes s t one other =

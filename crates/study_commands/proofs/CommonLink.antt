@@ -1,7 +1,6 @@
 -- Links of pairs' own, as they are looked for.
 use Rattle.study_commands.proofs.Words.{◌≡◌, ◌∙◌, ap, sym, refl, ℕ, suc, ◌+◌, ◌-◌, ◌<◌, ◌≤◌, ◌==◌, ◌&&◌, ◌||◌, Bool, true, false, not, cond, List, [], ◌∷◌, map, filter, arith, Option, Some, None, if◌then◌else◌, cons_option, filter_map, list_any, range_with_len, option_and_then, option_map, option_map_or, pair_of, same_pair, ends_from, is_no_end, pair_in, tables_in, goes_by_link, sends_by_link, Data, Items, Members, as_array, as_table, get_member, items_view, view, Value}
-use Rattle.scenario.proofs.Among.{tables_of}
-use Rattle.scenario.specs.Table.{all_items, is_of, is_table, tables_at, the_tables}
+use Rattle.{scenario.proofs.Among.{tables_of}, scenario.specs.Table.{all_items, is_of, is_table, tables_at, the_tables}}
 use Rattle.scenario.specs.declared.field.Kind.TheVariants as kind
 
 -- the tables of `links`, by what stands there

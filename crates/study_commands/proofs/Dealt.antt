@@ -1,10 +1,7 @@
 -- Crash ticks that an axis deals.
 use Rattle.study_commands.proofs.Words.{◌≡◌, ◌∙◌, ap, sym, refl, subst, ℕ, zero, suc, ◌+◌, ◌<◌, ◌≤◌, Bool, true, false, List, [], ◌∷◌, ◌++◌, length, map, get_or, take, drop, drop-cons, ◌||◌, option_to_list, arith, All, zip, drop_all, length-map, get_or-map, take_all, get_or-range_with_len, length-range_with_len, get_or-zip, length-zip, filter_map, list_any, range_with_len, Chosen, Given, Path, choices, path_of, set_to, settings_in, Axis, tick_said, dealt_to, dealt_by, keys_of, tick_in}
-use Rattle.std.specs.Global.{Vec}
-use Rattle.study.proofs.Points.{paths_set}
-use Rattle.study.specs.declared.key.Key.{Key}
-use Rattle.study.specs.declared.setting.Setting.{Setting}
-use Rattle.study_commands.proofs.AddedItems.{filter_map_more}
+use Rattle.{study_commands.proofs.AddedItems.{filter_map_more}, std.specs.Global.{Vec}, study.proofs.Points.{paths_set}}
+use Rattle.study.specs.declared.{key.Key.{Key}, setting.Setting.{Setting}}
 
 said_in : (paths : List Path) (givens : List Given) (place : ℕ) → length givens ≡ length paths
     → tick_in place (set_to paths givens) ≡ tick_said place givens

@@ -1,7 +1,6 @@
 -- What is found first.
 use Rattle.study_commands.proofs.Words.{◌≡◌, ◌∙◌, ap, sym, ℕ, suc, ◌+◌, ◌<◌, ◌≤◌, Bool, true, cond, List, length, drop, drop-cons, get_or, Option, Some, None, is_some, get_or-range_with_len, drop_all, get_or_default, count_by, position, position_from, range_with_len, option_and_then, option_map, found}
-use Rattle.std.proofs.lemmas.Iterator.Adapters.{position_from-zero}
-use Rattle.study_commands.specs.declared.found.Found.{Found}
+use Rattle.{std.proofs.lemmas.Iterator.Adapters.{position_from-zero}, study_commands.specs.declared.found.Found.{Found}}
 
 module _ {X : Type 0} (p : X → Bool) (xs : List X) where
   pub first_here : (place : ℕ) (d : X) → place < length xs → p (get_or xs place d) ≡ true

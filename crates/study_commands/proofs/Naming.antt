@@ -1,7 +1,6 @@
 -- Files of which one at most is standard input.
 use Rattle.study_commands.proofs.Words.{◌≡◌, ◌≢◌, ◌⊎◌, inl, inr, ap, refl, sym, subst, ℕ, List, Bool, true, false, Option, None, Some, String, Global, Members, AreBytes, MayBeTable, NameInputTwice, network_path, FileRefusal, IsNoNetwork, IsOfFiles, IsOfNetwork, IsRightOfTable, absent, broken, too_long, unreadable, Fault, Memory, Refused, SourceTexts}
-use Rattle.std.proofs.lemmas.Slice.Eq.{bytes_eq-Decides}
-use Rattle.std.specs.Str.{bytes_eq}
+use Rattle.{std.proofs.lemmas.Slice.Eq.{bytes_eq-Decides}, std.specs.Str.{bytes_eq}}
 use Rattle.shell.specs.Ending.{TakesAtMost, input_path}
 
 by_test : (a b : List ℕ) (r : Bool) → bytes_eq a b ≡ r → (a ≡ b) ⊎ (a ≢ b)

@@ -1,14 +1,7 @@
 -- The phases of ticks, as a sort finds them, and their gaps.
 use Rattle.study_commands.proofs.Words.{◌≡◌, ◌⊎◌, inl, inr, ◌∙◌, ap, sym, refl, subst, ℕ, zero, suc, ◌+◌, ◌-◌, ◌<◌, ◌≤◌, ◌==◌, ◌||◌, ◌%◌, Bool, true, false, cond, List, [], ◌∷◌, ◌++◌, map, max, fold, take, get_or, length, length-append, add-one, arith, eqb, All, zip, eq-eqb, ne_eqb, All-filter, get_or-range_with_len, length-range_with_len, get_or-zip, length-zip, get_or-append-add, get_or-map, get_or_append_left, length-map, take_all, gaps, next_phases, phases}
-use Rattle.std.proofs.Math.Bool.{or-true}
-use Rattle.std.proofs.lemmas.List.Kept.{IsStrictlySortedBy-dedup}
-use Rattle.std.proofs.lemmas.List.Sorted.{list_any-IsPermutation}
-use Rattle.std.proofs.lemmas.Nat.{mod_below}
-use Rattle.std.proofs.lemmas.List.Sums.{fold_more}
-use Rattle.std.specs.Cmp.{nat_cmp_total, ranks, unsigned_ties}
-use Rattle.std.specs.List.{dedup, dedup_from, filter, list_any, range_with_len}
-use Rattle.std.specs.List.Sorted.{IsPermutation, IsSorted, IsStrictlySortedBy}
-use Rattle.std.specs.Ordering.{MatchOrdering, nat_cmp}
+use Rattle.std.proofs.{Math.Bool.{or-true}, lemmas.{List.{Kept.{IsStrictlySortedBy-dedup}, Sorted.{list_any-IsPermutation}, Sums.{fold_more}}, Nat.{mod_below}}}
+use Rattle.std.specs.{Cmp.{nat_cmp_total, ranks, unsigned_ties}, List.{dedup, dedup_from, filter, list_any, range_with_len, Sorted.{IsPermutation, IsSorted, IsStrictlySortedBy}}, Ordering.{MatchOrdering, nat_cmp}}
 
 -- numbers that rise, from the first one on, and stay below a bound
 Rise : (low bound : ℕ) → List ℕ → Type 0

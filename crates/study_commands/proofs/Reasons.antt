@@ -1,7 +1,6 @@
 -- Why commands stop, for each of their faults.
 use Rattle.study_commands.proofs.Words.{◌⊎◌, ℕ, List, None, Option, String, Global, IsBefore, IsOfWordsFor, AreBytes, IsScenario, AreNoSources, IsBeforeReading, IsOfBytes, IsOfFile, IsOfOwnFile, IsOfSources, IsOfTable, IsRight, IsToldWith, IsUnread, refusal_text, FileRefusal, broken, HasNone, IsOfStudy, IsOfText, IsTooLong, StopsCheck, SaysNoSources, Fault, Limit, Memory, Refused, Words, WordsMemory, Write, IsDocumentOf, Record, GridRecord, SourceTexts}
-use Rattle.study_commands.specs.Refusal.{IsOfRun, StopsLetters}
-use Rattle.study.specs.Laid.{RunSources}
+use Rattle.{study_commands.specs.Refusal.{IsOfRun, StopsLetters}, study.specs.Laid.{RunSources}}
 
 -- a fault that comes before anything is written is one
 pub stops_so : (Holds : Fault → Type 0) (f : Fault) → IsBefore Holds f → Holds f

@@ -1,8 +1,7 @@
 -- Files that stand for a scenario, or for none.
 use Rattle.study_commands.proofs.Words.{◌≡◌, ◌⊎◌, ◌==◌, arith, ◌&&◌, inl, inr, refl, subst, sym, ℕ, List, [], ◌∷◌, length, map, Bool, true, false, not, cond, ne_eqb, AllZip, Record, Members, GridRecord, SaysAssignment, Assignment, SourcesRecord, IsOfWordsFor, AreFiles, AreSet, AreSources, IsOwnScenario, IsScenario, IsTable, MayBeTable, is_alone, network_path, no_axes, set_words, AreNoSources, IsNoScenario, IsOfFile, IsOfFiles, IsOfOwnFile, IsOfSources, Decided, IsRefusedFile, SaysNoSources, Fault, Memory, Refused, Words, WordsMemory, SourceTexts}
 use Rattle.std.proofs.Common.{Bor, Option, None, Some, is_some, option_map, MatchOption}
-use Rattle.study.specs.Laid.{IsLaid, IsLaidBy, is_run}
-use Rattle.study_commands.specs.Inside.Setting.{CannotSet, StandsForNone}
+use Rattle.{study.specs.Laid.{IsLaid, IsLaidBy, is_run}, study_commands.specs.Inside.Setting.{CannotSet, StandsForNone}}
 
 -- a scenario's file alone is the table of its run
 none_laid : (t : Members) (b : Bool) → MatchOption {T = Members} (cond b None None) (t ≡ t) (λ file. IsLaidBy t file t)

@@ -1,9 +1,8 @@
 -- What stands where a run of the program stops.
 use Rattle.study_commands.proofs.Words.{◌≡◌, ◌⊎◌, ap, inl, inr, refl, ℕ, List, Option, None, Some, Result, Ok, Err, IfErr, OnOk, Answers, GoesFor, IsNoSweep, Writes, end_of, status_of, StopsFor, Fault, Words, WordsMemory, Write, Wrote, WrotePart, goes_as, put_goes, Puts, AsksHelp, AsksVersion, Explains}
-use Rattle.study_commands.specs.Serve.{AreAnswered, IsNoFault, TellsLine, TellsOf}
-use Rattle.study_line.specs.declared.order.Order.{Order}
+use Rattle.study_commands.specs.{Serve.{AreAnswered, TellsLine, TellsOf}, Inside.Private.{IsNoFault}}
+use Rattle.study_line.specs.declared.order.{Order.{Order}, WordsError.{WordsError}}
 use Rattle.study_line.specs.declared.order.Order.TheVariants as order
-use Rattle.study_line.specs.declared.order.WordsError.{WordsError}
 use Rattle.study_line.specs.declared.order.WordsError.TheVariants as refusal
 
 module _ {O : Type 0} (told : O → Option (List ℕ)) (failed : O → ℕ) (old new : O) where

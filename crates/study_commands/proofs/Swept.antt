@@ -1,15 +1,11 @@
 -- Where a study stops, and what a sweep leaves.
 use Rattle.study_commands.proofs.Words.{◌≡◌, ℕ, ◌<◌, ◌⊎◌, inl, inr, refl, subst, sym, Result, Err, IfErr, List, length, take, Option, arith, All-contains, All-drop, All-take, length-range_with_len, get_or-range_with_len, LeftAt, MayHaveGone, Went, IsBefore, IsRefusal, end_of, StopsSweep, Fault, Refused, WroteNothing, GridRecord, points, SourceTexts, IsTextOf, numbers_of, units_of, SourcesRecord}
-use Rattle.std.specs.List.{All, Contains, range_with_len}
-use Rattle.study_commands.specs.Sweep.{IsFaultOf, IsOfRun, IsSaid, IsSweepAnswer, IsSweepFront}
-use Rattle.study_commands.proofs.Reasons.{stops_so}
+use Rattle.{study_commands.proofs.Reasons.{stops_so}, std.specs.List.{All, Contains, range_with_len}}
+use Rattle.study_commands.specs.{Inside.Private.{IsFaultOf, IsOfRun}, Sweep.{IsSaid, IsSweepAnswer, IsSweepFront}}
 use Rattle.study.specs.Grid.{ShardRecord, end_of as shard_end}
 use Rattle.study_line.specs.declared.order.StudyTexts.{StudyTexts}
-use Rattle.sweep.specs.Layout.{LayoutRecord}
-use Rattle.sweep.specs.Outcome.{BreaksOff, CantBeRun, IsFirstUnready, WroteStudy, WroteFirst}
-use Rattle.sweep.specs.declared.error.SweepError.{SweepError}
+use Rattle.sweep.specs.{Layout.{LayoutRecord}, Outcome.{BreaksOff, CantBeRun, IsFirstUnready, WroteStudy, WroteFirst}, declared.{error.SweepError.{SweepError}, group.Group.{Group}}}
 use Rattle.sweep.specs.declared.error.SweepError.TheVariants as error
-use Rattle.sweep.specs.declared.group.Group.{Group}
 
 -- what stands for a failure stands where that is answered
 pub if_err : {A F : Type 0} (r : Result A F) (Stands : F → Type 0) (f : F) → r ≡ Err f → Stands f → IfErr r Stands

@@ -34,14 +34,15 @@ pub use Rattle.toml.specs.Data.{Data, Items, Members, array, as_array, as_table,
 pub use Rattle.toml.specs.View.{items_view, table_view, view}
 pub use Rattle.toml.specs.declared.value.Value.{Value}
 pub use Rattle.trace_laws.specs.Taken.{HaveJoined}
-pub use Rattle.study_commands.specs.Answer.{Answers, GoesFor, IsNoSweep, Leaves, Writes}
-pub use Rattle.study_commands.specs.Check.{bounds_text, accepted_line, accepted_text, study_begin}
+pub use Rattle.study_commands.specs.Answer.{Answers, GoesFor, Leaves, Writes}
+pub use Rattle.study_commands.specs.Inside.Private.{IsNoSweep, accepted_line, IsNoFault}
+pub use Rattle.study_commands.specs.Check.{bounds_text, accepted_text, study_begin}
 pub use Rattle.study_commands.specs.Draw.{IsOfPicture, process_said}
 pub use Rattle.study_commands.specs.Fault.{IsBefore, IsOfWordsFor, IsRefusal, end_of, line_of, status_of}
 pub use Rattle.study_commands.specs.File.{AreBytes, AreFiles, AreSet, AreSources, IsOwnScenario, IsScenario, IsTable, MayBeTable, NameInputTwice, is_alone, network_path, no_axes, set_words}
 pub use Rattle.study_commands.specs.Inside.Warned.{AreFirst, Gains, IsFirstOf, IsRunOf, OfRuns, dealt_of, ends_from, is_no_end, pair_in, paths_said, tables_in, tick_said, warning_of}
 pub use Rattle.study_commands.specs.Refusal.{AreNoSources, Decided, FileRefusal, IsBeforeReading, IsNoNetwork, IsNoScenario, IsOfBytes, IsOfFile, IsOfFiles, IsOfNetwork, IsOfOwnFile, IsOfSources, IsOfTable, IsRefusedFile, IsRight, IsRightOfTable, IsToldWith, IsUnread, Says, absent, broken, line_with, refusal_text, too_long, unreadable}
-pub use Rattle.study_commands.specs.Serve.{AreAnswered, IsNoFault}
+pub use Rattle.study_commands.specs.Serve.{AreAnswered}
 pub use Rattle.study_commands.specs.WarningText.{choice_text, choices_text, warning_line}
 pub use Rattle.study_commands.specs.Warnings.{IsFirst, are_tables, dealt_by, dealt_to, found, gaps, goes_by_link, is_of_link, is_of_outage, keys_of, late, late_with, lates, linked_pairs, next_phases, period_of, phases, sends_by_link, sets_outage, tick_in, uneven, uneven_in, unevens, unlinked, unlinked_where, unused, uses_link, warning_of_dealt, warnings}
 pub use Rattle.study_commands.specs.Why.{HasNone, IsOfStudy, IsOfText, IsTooLong, StopsCheck, StopsFor, StopsShow, StopsSweep}

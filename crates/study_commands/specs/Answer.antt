@@ -1,27 +1,10 @@
 -- What an order is answered with. What `letters` answers. What `show` answers.
 use Rattle.std.specs.Prelude.{ℕ, List, Option, None, Some, Result, ◌≡◌, ◌+◌, ◌<◌, ◌≤◌, length}
-use Rattle.scenario_record.specs.Record.{Record}
-use Rattle.study.specs.Sources.{SourcesRecord}
-use Rattle.study.specs.Grid.{GridRecord, points, runs}
-use Rattle.study.specs.Placed.{sources_of_run}
-use Rattle.study.specs.Laid.{IsRunText}
-use Rattle.study_commands.specs.Check.{IsCheckAnswer, IsStudyCheck}
-use Rattle.study_commands.specs.Draw.{IsDrawAnswer}
-use Rattle.study_commands.specs.Fault.{end_of}
-use Rattle.study_commands.specs.Sweep.{IsSweepAnswer, IsSweepFront}
-use Rattle.study_commands.specs.declared.fault.Fault.{Fault}
-use Rattle.shell.specs.Ending.{Goes, most_bytes}
-use Rattle.study_line.specs.declared.order.Order.{Order}
+use Rattle.{scenario_record.specs.Record.{Record}, study.specs.{Sources.{SourcesRecord}, Grid.{GridRecord, points, runs}, Placed.{sources_of_run}, Laid.{IsRunText}}}
+use Rattle.study_commands.specs.{Check.{IsCheckAnswer, IsStudyCheck}, Draw.{IsDrawAnswer}, Fault.{end_of}, Sweep.{IsSweepAnswer, IsSweepFront}, declared.fault.Fault.{Fault}, File.{IsScenario, AreSources}, Study.{IsGrid}}
+use Rattle.{shell.specs.Ending.{Goes, most_bytes}, study_line.specs.declared.order.{Order.{Order}, SourceTexts.{SourceTexts}, StudyTexts.{StudyTexts}, GridTexts.{GridTexts}}}
 use Rattle.study_line.specs.declared.order.Order.TheVariants as order
-use Rattle.study_line.specs.declared.order.SourceTexts.{SourceTexts}
-use Rattle.study_line.specs.declared.order.StudyTexts.{StudyTexts}
-use Rattle.study_line.specs.declared.order.GridTexts.{GridTexts}
-use Rattle.reporting.specs.LettersText.{letters_text}
-use Rattle.reporting.specs.declared.letter.Letter.{Letter}
-use Rattle.runs.specs.Letters.{AreLetters}
-use Rattle.sweep.specs.StudyText.{point_at, run_at}
-use Rattle.study_commands.specs.File.{IsScenario, AreSources}
-use Rattle.study_commands.specs.Study.{IsGrid}
+use Rattle.{reporting.specs.{LettersText.{letters_text}, declared.letter.Letter.{Letter}}, runs.specs.Letters.{AreLetters}, sweep.specs.StudyText.{point_at, run_at}}
 
 -- a number that counts from 1 has this place, counted from 0, among so many
 pub record IsPlace (number count place : ℕ) : Type 0 where
@@ -62,11 +45,6 @@ Answers input (order.Letters texts) piece = IsLettersAnswer input texts piece
 Answers input (order.Draw texts words) piece = IsDrawAnswer input texts words piece
 Answers input (order.Show texts grid point run) piece = IsShowAnswer input texts grid point run piece
 Answers input (order.Sweep texts study) piece = IsSweepAnswer input texts study piece
-
--- the order asks for one text, and not for a sweep
-abbrev pub IsNoSweep : Order → Type 0
-IsNoSweep (order.Sweep texts study) = ⊥
-IsNoSweep _ = Unit {0}
 
 -- the piece is what is written for the order, as far as it comes: of a sweep the rows of the first points
 abbrev pub Writes : Option (List ℕ) → Order → List ℕ → Type 0

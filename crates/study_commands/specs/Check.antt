@@ -1,23 +1,9 @@
 -- What `check` answers. What no run of a scenario breaks, in lines.
 use Rattle.std.specs.Prelude.{◌≡◌, ℕ, if◌then◌else◌, nat_lt, List, [], length, ◌++◌, codes, decimal, Option, ◌==◌, nat_le, Bool, None, Some}
-use Rattle.process_api.specs.declared.numbers.DetectorNumbers.{DetectorNumbers}
-use Rattle.process_api.specs.declared.numbers.DetectorNumbers.TheVariants.{Timeout, Freshness}
-use Rattle.promised.specs.Promised.{promised}
-use Rattle.diagnosis.specs.Diagnosis.{entries_in, longest_window}
-use Rattle.diagnosis.specs.declared.answer.Accepted.{Accepted}
-use Rattle.study.specs.Sources.{SourcesRecord}
-use Rattle.study.specs.Grid.{GridRecord, runs, ShardRecord}
-use Rattle.study_commands.specs.File.{IsScenario}
-use Rattle.study_commands.specs.Sweep.{IsSaid}
-use Rattle.study_commands.specs.declared.checking.TheConstants.{WORTH_FOUR_WORKERS}
-use Rattle.study_line.specs.declared.order.SourceTexts.{SourceTexts}
-use Rattle.study_line.specs.declared.order.StudyTexts.{StudyTexts}
-use Rattle.sweep.specs.Layout.{LayoutRecord}
-use Rattle.sweep.specs.Outcome.{AreReady}
-use Rattle.sweep.specs.StudyText.{numbers_of}
-use Rattle.scenario_record.specs.Record.{Record}
-use Rattle.promised.specs.declared.bounds.PromisedBounds.{PromisedBounds}
-use Rattle.study_commands.specs.declared.bounds_lines.TheConstants.{MOST_TICKS}
+use Rattle.{process_api.specs.declared.numbers.DetectorNumbers.{DetectorNumbers, TheVariants.{Timeout, Freshness}}, promised.specs.{Promised.{promised}, declared.bounds.PromisedBounds.{PromisedBounds}}}
+use Rattle.{diagnosis.specs.Diagnosis.{entries_in, longest_window}, study.specs.{Sources.{SourcesRecord}, Grid.{GridRecord, runs, ShardRecord}}}
+use Rattle.study_commands.specs.{File.{IsScenario}, Sweep.{IsSaid}, declared.{checking.TheConstants.{WORTH_FOUR_WORKERS}, bounds_lines.TheConstants.{MOST_TICKS}}}
+use Rattle.{study_line.specs.declared.order.{SourceTexts.{SourceTexts}, StudyTexts.{StudyTexts}}, sweep.specs.{Layout.{LayoutRecord}, Outcome.{AreReady}, StudyText.{numbers_of}}, scenario_record.specs.Record.{Record}}
 
 -- within how many ticks crashes are detected; with time-outs, under which condition
 abbrev pub within_text : DetectorNumbers → (ticks : ℕ) → List ℕ
@@ -39,15 +25,13 @@ detection_text detector is_late detection =
 
 -- how many links surely bring no mistake, where any are watched
 abbrev pub reliable_text : (watched reliable : ℕ) → List ℕ
-reliable_text watched reliable =
-    if watched == 0 then []
+reliable_text watched reliable = if watched == 0 then []
     else codes "watched links that surely bring no mistake: " ++ (decimal reliable ++ (codes " of "
     ++ (decimal watched ++ codes "\n")))
 
 -- of the mistakes over how many links nothing is promised, where there are such
 abbrev pub lossy_text : (lossy : ℕ) → List ℕ
-lossy_text lossy =
-    if lossy == 0 then []
+lossy_text lossy = if lossy == 0 then []
     else codes "watched links with loss or outages, of whose mistakes nothing is promised: "
     ++ (decimal lossy ++ codes "\n")
 
@@ -59,16 +43,14 @@ key_of (Freshness its) = codes "delta"
 -- with which numbers of that key the other links can bring no mistake, where there are others
 abbrev pub needed_text : (key : List ℕ) → Option ℕ → List ℕ
 needed_text key None = []
-needed_text key (Some ticks) =
-    if nat_le ticks MOST_TICKS
+needed_text key (Some ticks) = if nat_le ticks MOST_TICKS
     then codes "with " ++ (key ++ (codes " " ++ (decimal ticks
     ++ codes " or more no link without loss and outages can bring a mistake\n")))
     else codes "no "
     ++ (key ++ codes " that a file may have is sure to be enough for the links without loss and outages\n")
 
 abbrev pub bounds_text : DetectorNumbers → PromisedBounds → List ℕ
-bounds_text detector b =
-    detection_text detector b.is_late b.detection
+bounds_text detector b = detection_text detector b.is_late b.detection
     ++ (reliable_text b.watched b.reliable ++ (lossy_text b.lossy ++ needed_text (key_of detector) b.needed))
 
 -- that a run of about so many entries may have more than its limit, where that is so
@@ -78,8 +60,7 @@ limit_text limit entries =
 
 -- how long windows may be, about how many entries they then have, and which way is likely faster
 abbrev pub window_text : (ticks entries : ℕ) → List ℕ
-window_text ticks entries =
-    if nat_lt entries WORTH_FOUR_WORKERS
+window_text ticks entries = if nat_lt entries WORTH_FOUR_WORKERS
     then codes "windows of " ++ (decimal ticks ++ (codes " ticks have about " ++ (decimal entries
     ++ codes " entries: list is likely faster\n")))
     else codes "windows of " ++ (decimal ticks ++ (codes " ticks have about " ++ (decimal entries
@@ -91,10 +72,6 @@ accepted_text processes horizon limit window entries seconds in_window =
     codes "ok: " ++ (decimal processes ++ (codes " processes, horizon " ++ (decimal horizon ++ (codes ", about "
     ++ (decimal entries ++ (codes " entries in " ++ (decimal seconds ++ (codes " s\n"
     ++ (window_text window in_window ++ limit_text limit entries)))))))))
-
-abbrev pub accepted_line : Accepted → List ℕ
-accepted_line a =
-    accepted_text a.processes a.horizon a.limit a.window a.estimate.entries a.estimate.seconds a.estimate.in_window
 
 -- these are the scenario's processes, its horizon, its limit and its longest window, which has its share of the
 -- entries. It isn't said how near the estimate of all entries comes. After that come the bounds that no run breaks

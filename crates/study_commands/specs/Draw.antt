@@ -1,28 +1,13 @@
 -- What `draw` answers.
-use Rattle.std.specs.Prelude.{◌≡◌, ◌⊎◌, ℕ, ◌-◌, List, [], ◌++◌, map, nat_le, ◌&&◌, Contains, Option, None, Some, String, codes, decimal, if◌then◌else◌, option_map, unwrap_or}
-use Rattle.std.specs.declared.alloc.Global.{Global}
-use Rattle.printable.specs.Printable.{printable}
-use Rattle.process_api.specs.Place.{most_processes}
-use Rattle.study.specs.Words.{Word, between, is_natural, natural}
-use Rattle.drawing.specs.LettersPicture.{DrawsLetters, IsMemory, letters_refusal, refusal}
-use Rattle.drawing.specs.Suspicions.{DrawsSuspicions}
-use Rattle.drawing.specs.declared.error.DrawError.{DrawError}
+use Rattle.std.specs.{Prelude.{◌≡◌, ◌⊎◌, ℕ, ◌-◌, List, [], ◌++◌, map, nat_le, ◌&&◌, Contains, Option, None, Some, String, codes, decimal, if◌then◌else◌, option_map, unwrap_or}, declared.alloc.Global.{Global}}
+use Rattle.{printable.specs.Printable.{printable}, process_api.specs.{Place.{most_processes}, Order.{EntryRecord}}, study.specs.Words.{Word, between, is_natural, natural}}
+use Rattle.drawing.specs.{LettersPicture.{DrawsLetters, IsMemory, letters_refusal, refusal}, Suspicions.{DrawsSuspicions}, declared.error.DrawError.{DrawError}}
 use Rattle.drawing.specs.declared.error.DrawError.TheVariants as picture_error
-use Rattle.trace_laws.specs.Setting.{setting_of}
-use Rattle.trace_laws.specs.World.{IsTrace}
-use Rattle.study_commands.specs.File.{IsScenario, no_axes}
-use Rattle.study_commands.specs.Refusal.{IsOfFile, Says, line_with, IsTooLong}
-use Rattle.study_commands.specs.WordRefusals.{SaysNoSources}
-use Rattle.study_commands.specs.declared.fault.Fault.{Fault}
-use Rattle.study_commands.specs.declared.fault.Fault.TheVariants.{Limit, Memory, NotDrawn, Words, WordsMemory, Write}
-use Rattle.runs.specs.Letters.{AreLetters}
-use Rattle.reporting.specs.declared.letter.Letter.{Letter}
-use Rattle.process_api.specs.Order.{EntryRecord}
-use Rattle.scenario_record.specs.Record.{Record}
-use Rattle.study_line.specs.declared.order.Picture.{Picture}
+use Rattle.trace_laws.specs.{Setting.{setting_of}, World.{IsTrace}}
+use Rattle.study_commands.specs.{File.{IsScenario, no_axes}, Refusal.{IsOfFile, Says, line_with, IsTooLong}, WordRefusals.{SaysNoSources}, declared.fault.Fault.{Fault, TheVariants.{Limit, Memory, NotDrawn, Words, WordsMemory, Write}}}
+use Rattle.{runs.specs.Letters.{AreLetters}, reporting.specs.declared.letter.Letter.{Letter}, scenario_record.specs.Record.{Record}}
+use Rattle.study_line.specs.declared.order.{Picture.{Picture}, PictureTexts.{PictureTexts}, SourceTexts.{SourceTexts}}
 use Rattle.study_line.specs.declared.order.Picture.TheVariants as picture
-use Rattle.study_line.specs.declared.order.PictureTexts.{PictureTexts}
-use Rattle.study_line.specs.declared.order.SourceTexts.{SourceTexts}
 
 -- the text is the picture of who suspects whom at these ticks of the scenario's run, and nothing speaks against it
 pub record ShowsSuspicions (s : Record) (from until : ℕ) (text : List ℕ) : Type 0 where
@@ -88,14 +73,12 @@ pub record IsDrawAnswer (input : Option (List ℕ)) (texts : SourceTexts) (words
 -- the picture is refused for this: the processes and ticks asked for, or the letters that the scenario's run sends
 abbrev pub IsRefused : Picture → Record → (of : List ℕ) (from until : ℕ) → DrawError → Type 0
 IsRefused picture.Suspicions s of from until error = refusal s from until ≡ Some error
-IsRefused picture.Letters s of from until error =
-    (refusal s from until ≡ Some error)
+IsRefused picture.Letters s of from until error = (refusal s from until ≡ Some error)
     ⊎ ((letters : List Letter) × AreLetters s letters × (letters_refusal s letters of from until ≡ Some error))
 
 -- the line of ticks that aren't those of a run, of which this is the last
 abbrev pub line_of_ticks : (path : List ℕ) → (last : ℕ) → List ℕ
-line_of_ticks path last =
-    printable path ++ (codes ": Ticks: these ticks aren't those of the run, which are 0 to "
+line_of_ticks path last = printable path ++ (codes ": Ticks: these ticks aren't those of the run, which are 0 to "
     ++ (decimal last ++ codes "\n"))
 
 -- the line of a picture of the scenario's run that is refused for this

@@ -1,8 +1,5 @@
 -- The exit status of a fault, its line, and what it leaves of what was to be written.
-use Rattle.std.specs.Prelude.{ℕ, List, Some, None, codes, string_bytes}
-use Rattle.study_commands.specs.declared.fault.Fault.{Fault}
-use Rattle.study_commands.specs.declared.fault.Fault.TheVariants.{Form, Limit, Memory, NotDrawn, Refused, Words}
-use Rattle.study_commands.specs.declared.fault.Fault.TheVariants.{WordsMemory, Write}
+use Rattle.{std.specs.Prelude.{ℕ, List, Some, None, codes, string_bytes}, study_commands.specs.declared.fault.Fault.{Fault, TheVariants.{Form, Limit, Memory, NotDrawn, Refused, Words, WordsMemory, Write}}}
 use Rattle.shell.specs.Ending.{End, begun, cut, untouched}
 
 -- 1: the file, a run's scenario or a picture is refused, 2: the words are, 3: a run is or memory was, 4: writing failed

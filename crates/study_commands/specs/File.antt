@@ -1,19 +1,8 @@
 -- The files that a command line names, and what is set in them.
-use Rattle.std.specs.Prelude.{◌≡◌, ◌≢◌, ◌≤◌, ◌==◌, ◌&&◌, ℕ, List, [], length, map, Bool, not, Option, None, Some, is_some, option_map, Ok}
-use Rattle.std.specs.List.{AllZip}
-use Rattle.toml.specs.Data.{Members}
-use Rattle.scenario_record.specs.Record.{Record}
-use Rattle.scenario.specs.Refusals.{Accepts, IsDocumentOf}
-use Rattle.shell.specs.Ending.{AreAllOf, input_path, most_bytes}
-use Rattle.study.specs.Grid.{GridRecord, grid_of, set_twice}
-use Rattle.study.specs.Placed.{assign_all}
-use Rattle.study.specs.Laid.{IsScenarioOf}
-use Rattle.study.specs.SetWords.{SaysAssignment}
-use Rattle.study.specs.Settings.{Path, path_of}
-use Rattle.study.specs.Sources.{SourcesRecord}
-use Rattle.study.specs.Words.{Word}
-use Rattle.study.specs.declared.assignment.Assignment.{Assignment}
-use Rattle.study_line.specs.declared.order.SourceTexts.{SourceTexts}
+use Rattle.std.specs.{Prelude.{◌≡◌, ◌≢◌, ◌≤◌, ◌==◌, ◌&&◌, ℕ, List, [], length, map, Bool, not, Option, None, Some, is_some, option_map, Ok}, List.{AllZip}}
+use Rattle.{toml.specs.Data.{Members}, scenario_record.specs.Record.{Record}, scenario.specs.Refusals.{Accepts, IsDocumentOf}, shell.specs.Ending.{AreAllOf, input_path, most_bytes}}
+use Rattle.study.specs.{Grid.{GridRecord, grid_of, set_twice}, Placed.{assign_all}, Laid.{IsScenarioOf}, SetWords.{SaysAssignment}, Settings.{Path, path_of}, Sources.{SourcesRecord}, Words.{Word}}
+use Rattle.{study.specs.declared.assignment.Assignment.{Assignment}, study_line.specs.declared.order.SourceTexts.{SourceTexts}}
 
 -- the path of the network's file, where one is named
 abbrev pub network_path : SourceTexts → Option (List ℕ)

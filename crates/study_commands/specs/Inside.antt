@@ -3,3 +3,4 @@ pub mod Statuses
 pub mod Warned
 pub mod Setting
 pub mod RangeHint
+pub mod Private

@@ -1,32 +1,13 @@
 -- Why files are refused, and how that is told.
-use Rattle.std.specs.Prelude.{◌≡◌, ◌≢◌, ◌<◌, ◌⊎◌, ℕ, List, ◌++◌, length, false, Option, None, Some, IfSome, Ok, Err, Bool, true, String, codes, string_bytes}
-use Rattle.std.specs.declared.alloc.Global.{Global}
-use Rattle.diagnosis.specs.Diagnosis.{RefusesFor}
-use Rattle.diagnosis.specs.Text.{refused_text}
-use Rattle.diagnosis.specs.declared.answer.Refused.{Refused as Diagnosed}
-use Rattle.printable.specs.Printable.{printable}
-use Rattle.study_commands.specs.File.{AreBytes, AreFiles, AreSources, is_alone, network_path, no_axes, set_words, IsScenario}
-use Rattle.study_commands.specs.WordRefusals.{SaysNoSources}
-use Rattle.study_commands.specs.declared.fault.Fault.{Fault}
-use Rattle.study_commands.specs.declared.fault.Fault.TheVariants.{Memory, Refused, Words, WordsMemory, Limit, Write}
-use Rattle.scenario.specs.Refusals.{IsDocumentOf}
-use Rattle.std.specs.List.{AllZip}
-use Rattle.process_api.specs.Order.{EntryRecord}
-use Rattle.process_api.specs.declared.run_error.RunError.{RunError}
+use Rattle.std.specs.{Prelude.{◌≡◌, ◌≢◌, ◌<◌, ◌⊎◌, ℕ, List, ◌++◌, length, false, Option, None, Some, IfSome, Ok, Err, Bool, true, String, codes, string_bytes}, declared.alloc.Global.{Global}, List.{AllZip}}
+use Rattle.{diagnosis.specs.{Diagnosis.{RefusesFor}, Text.{refused_text}, declared.answer.Refused.{Refused as Diagnosed}}, printable.specs.Printable.{printable}}
+use Rattle.study_commands.specs.{File.{AreBytes, AreFiles, AreSources, is_alone, network_path, no_axes, set_words, IsScenario}, WordRefusals.{SaysNoSources}}
+use Rattle.{study_commands.specs.declared.fault.Fault.{Fault, TheVariants.{Memory, Refused, Words, WordsMemory, Limit, Write}}, scenario.specs.Refusals.{IsDocumentOf}}
+use Rattle.process_api.specs.{Order.{EntryRecord}, declared.run_error.RunError.{RunError}}
 use Rattle.process_api.specs.declared.run_error.RunError.TheVariants as error
-use Rattle.scenario_record.specs.Record.{Record}
-use Rattle.study.specs.Grid.{GridRecord}
-use Rattle.study.specs.Placed.{assign_all, is_memory as is_place_memory}
-use Rattle.study.specs.Laid.{IsRefusedFor, is_memory}
-use Rattle.study.specs.SetWords.{SaysAssignment}
-use Rattle.study.specs.Sources.{SourcesRecord}
-use Rattle.study.specs.declared.assignment.Assignment.{Assignment}
-use Rattle.study.specs.declared.error.PlaceError.{PlaceError}
-use Rattle.study.specs.declared.error.ReadError.{ReadError}
-use Rattle.study_line.specs.declared.order.SourceTexts.{SourceTexts}
-use Rattle.trace_laws.specs.Setting.{setting_of}
-use Rattle.trace_laws.specs.World.{IsTrace}
-use Rattle.shell.specs.Ending.{input_path, most_bytes}
+use Rattle.{scenario_record.specs.Record.{Record}, study.specs.{Grid.{GridRecord}, Placed.{assign_all, is_memory as is_place_memory}, Laid.{IsRefusedFor, is_memory}, SetWords.{SaysAssignment}, Sources.{SourcesRecord}}}
+use Rattle.{study.specs.declared.{assignment.Assignment.{Assignment}, error.{PlaceError.{PlaceError}, ReadError.{ReadError}}}, study_line.specs.declared.order.SourceTexts.{SourceTexts}}
+use Rattle.{trace_laws.specs.{Setting.{setting_of}, World.{IsTrace}}, shell.specs.Ending.{input_path, most_bytes}}
 
 -- the line, where there was memory for one
 abbrev pub Says : Option (String Global) → List ℕ → Type 0

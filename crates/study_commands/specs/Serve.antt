@@ -1,16 +1,8 @@
 -- What the program does for a command line.
 use Rattle.std.specs.Prelude.{◌≡◌, ◌⊎◌, ◌++◌, ℕ, List, Option, Result, codes, string_bytes}
-use Rattle.study_commands.specs.Answer.{Answers, Leaves, Writes, texts_of}
-use Rattle.study_commands.specs.Fault.{end_of, line_of, status_of}
-use Rattle.study_commands.specs.File.{NameNoInput}
-use Rattle.study_commands.specs.Why.{StopsFor}
-use Rattle.study_commands.specs.declared.fault.Fault.{Fault}
-use Rattle.study_commands.specs.declared.fault.Fault.TheVariants.{Form, Words, WordsMemory, Write}
-use Rattle.printable.specs.Printable.{printable, printable_lines}
-use Rattle.shell.specs.Ending.{Ends, GoesForWords as Goes, IsReason as IsReasonOf}
-use Rattle.study_line.specs.Order.{AsksHelp, AsksVersion, Explains, States, version_text}
-use Rattle.study_line.specs.declared.order.Order.{Order}
-use Rattle.study_line.specs.declared.order.WordsError.{WordsError}
+use Rattle.study_commands.specs.{Answer.{Answers, Leaves, Writes, texts_of}, Fault.{end_of, line_of, status_of}, File.{NameNoInput}, Why.{StopsFor}, declared.fault.Fault.{Fault, TheVariants.{Form, Words, WordsMemory, Write}}}
+use Rattle.{printable.specs.Printable.{printable, printable_lines}, shell.specs.Ending.{Ends, GoesForWords as Goes, IsReason as IsReasonOf}}
+use Rattle.study_line.specs.{Order.{AsksHelp, AsksVersion, Explains, States, version_text}, declared.order.{Order.{Order}, WordsError.{WordsError}}}
 use Rattle.study_line.specs.declared.order.WordsError.TheVariants as refusal
 
 -- the words ask for help or for the version, and this is told of it; of help its text isn't said
@@ -55,12 +47,6 @@ abbrev pub EndsFor : {O F : Type 0} (told : O → Option (List ℕ)) (failed : O
 EndsFor told failed old new told_of failed_of before after input words status =
     Ends (States words) (AreAnswered words) (Answers input) (Writes input) (Leaves input) told failed old new
     status_of line_of (IsReason input words) told_of failed_of before after status
-
--- the text told of the words is no fault: it is help, or the version
-abbrev pub IsNoFault : WordsError → List ℕ → Type 0
-IsNoFault (refusal.Help text) piece = Unit {0}
-IsNoFault refusal.Version piece = piece ≡ version_text
-IsNoFault _ piece = ⊥
 
 -- no order that the words state names standard input
 abbrev pub NamesNoInput : List (List ℕ) → Type 0

@@ -1,20 +1,9 @@
 -- Which study the words of a command line say.
-use Rattle.std.specs.Prelude.{◌≡◌, ℕ, List, map, Option, Some, None, option_map}
-use Rattle.std.specs.List.{AllZip}
-use Rattle.study.specs.AxisWords.{SaysAxis}
-use Rattle.study.specs.Grid.{GridRecord, NoneApplies, grid_of, ShardRecord}
-use Rattle.study.specs.Words.{seeds_said, Word, shard_said}
-use Rattle.study.specs.declared.axis.Axis.{Axis}
-use Rattle.study_line.specs.declared.order.Each.{Each}
+use Rattle.std.specs.{Prelude.{◌≡◌, ℕ, List, map, Option, Some, None, option_map}, List.{AllZip}}
+use Rattle.study.specs.{AxisWords.{SaysAxis}, Grid.{GridRecord, NoneApplies, grid_of, ShardRecord}, Words.{seeds_said, Word, shard_said}, declared.axis.Axis.{Axis}}
+use Rattle.study_line.specs.declared.order.{Each.{Each}, GridTexts.{GridTexts}, StudyTexts.{StudyTexts}}
 use Rattle.study_line.specs.declared.order.Each.TheVariants as each
-use Rattle.study_line.specs.declared.order.GridTexts.{GridTexts}
-use Rattle.study_line.specs.declared.order.StudyTexts.{StudyTexts}
-use Rattle.sweep.specs.GroupWords.{SaysGroup}
-use Rattle.sweep.specs.Groups.{groups_of}
-use Rattle.sweep.specs.Layout.{ArePicks, LayoutRecord}
-use Rattle.sweep.specs.StudyText.{names_of}
-use Rattle.sweep.specs.declared.group.PairGroup.{PairGroup}
-use Rattle.sweep.specs.declared.layout.Rows.{Rows}
+use Rattle.sweep.specs.{GroupWords.{SaysGroup}, Groups.{groups_of}, Layout.{ArePicks, LayoutRecord}, StudyText.{names_of}, declared.{group.PairGroup.{PairGroup}, layout.Rows.{Rows}}}
 use Rattle.sweep.specs.declared.layout.Rows.TheVariants as rows
 
 -- the grid has the axes and the seeds that its words say, and nothing speaks against it

@@ -1,19 +1,7 @@
 -- What `sweep` answers.
-use Rattle.std.specs.Prelude.{◌≡◌, ◌<◌, ℕ, List, length, take, Option, Result}
-use Rattle.study.specs.Sources.{SourcesRecord}
-use Rattle.study_commands.specs.Fault.{IsRefusal, end_of}
-use Rattle.study_commands.specs.File.{AreSources}
-use Rattle.study_commands.specs.Study.{IsGrid, IsLayout, IsShardOf, columns_word, pairs_words, shard_word}
-use Rattle.study_commands.specs.declared.fault.Fault.{Fault}
-use Rattle.study_commands.specs.declared.fault.Fault.TheVariants.{Memory, Write}
-use Rattle.shell.specs.Ending.{Goes}
-use Rattle.study.specs.Grid.{GridRecord, points, runs, ShardRecord}
-use Rattle.study_line.specs.declared.order.SourceTexts.{SourceTexts}
-use Rattle.study_line.specs.declared.order.StudyTexts.{StudyTexts}
-use Rattle.sweep.specs.Layout.{LayoutRecord}
-use Rattle.sweep.specs.StudyText.{IsStudyText, IsTextOf, units_of}
-use Rattle.sweep.specs.declared.error.SweepError.{SweepError}
-use Rattle.sweep.specs.declared.error.SweepError.TheVariants as error
+use Rattle.{std.specs.Prelude.{ℕ, List, take, Option}, study.specs.{Sources.{SourcesRecord}, Grid.{GridRecord, ShardRecord}}}
+use Rattle.{study_commands.specs.{File.{AreSources}, Study.{IsGrid, IsLayout, IsShardOf, columns_word, pairs_words, shard_word}}, study_line.specs.declared.order.{SourceTexts.{SourceTexts}, StudyTexts.{StudyTexts}}}
+use Rattle.sweep.specs.{Layout.{LayoutRecord}, StudyText.{IsStudyText, IsTextOf, units_of}}
 
 -- the study that words say of the files, and the layout of its rows
 module _ (input : Option (List ℕ)) (texts : SourceTexts) (study : StudyTexts) where
@@ -42,23 +30,3 @@ module _ (input : Option (List ℕ)) (texts : SourceTexts) (study : StudyTexts) 
     pub said : IsSaid sources grid shard layout
     pub count : ℕ
     pub text : IsTextOf sources grid shard layout (take count (units_of layout.rows grid shard)) piece
-
--- what went out for a sweep: its text, or the rows of the first points
-abbrev pub GoesForSweep : {O A : Type 0} (told : O → Option (List ℕ)) (failed : O → ℕ) (old new : O) → Option (List ℕ)
-    → SourceTexts → StudyTexts → Result A Fault → Type 0
-GoesForSweep told failed old new input texts study outcome =
-    let front = IsSweepFront input texts study in
-    Goes end_of told failed old new (IsSweepAnswer input texts study) front front outcome
-
--- the fault of a sweep that breaks off: of a run that is refused its line isn't said
-abbrev pub IsFaultOf : SweepError → Fault → Type 0
-IsFaultOf (error.Refused point run reason) f = IsRefusal f
-IsFaultOf (error.NoSuchProcess point run group processes) f = IsRefusal f
-IsFaultOf error.Memory f = f ≡ Memory
-IsFaultOf error.Write f = f ≡ Write
-
--- an error that tells of a run tells of one of the study
-abbrev pub IsOfRun : GridRecord → SweepError → Type 0
-IsOfRun g (error.Refused point run reason) = (point < length (points g)) × (run < length (runs g))
-IsOfRun g (error.NoSuchProcess point run group processes) = (point < length (points g)) × (run < length (runs g))
-IsOfRun g _ = Unit {0}

@@ -1,26 +1,11 @@
 -- Lines of warnings, and who is told them.
-use Rattle.std.specs.Prelude.{ℕ, ◌+◌, codes, decimal, List, [], ◌∷◌, ◌++◌, map, length, option_map, option_to_list, ◌≡◌, ◌⊎◌, Option, None, Some}
-use Rattle.std.specs.List.{AllZip}
-use Rattle.printable.specs.Printable.{printable}
-use Rattle.scenario_record.specs.Record.{Record}
-use Rattle.study.specs.Grid.{GridRecord, ShardRecord}
-use Rattle.study.specs.Settings.{Chosen, given_text, key_text}
-use Rattle.study.specs.Sources.{SourcesRecord}
-use Rattle.study_commands.specs.Warnings.{IsFirst, Warning, late, lates, outages, unevens, unused, warnings}
-use Rattle.study_commands.specs.declared.late.Late.{Late}
-use Rattle.study_commands.specs.declared.spread.Spread.{Spread}
-use Rattle.sweep.specs.StudyText.{numbers_of, point_at}
-use Rattle.toml.specs.Data.{Members}
-use Rattle.study_line.specs.Order.{AsksHelp, AsksVersion, States}
-use Rattle.study_line.specs.declared.order.Order.{Order}
+use Rattle.std.specs.{Prelude.{ℕ, ◌+◌, codes, decimal, List, [], ◌∷◌, ◌++◌, map, length, option_map, option_to_list, ◌≡◌, ◌⊎◌, Option, None, Some}, List.{AllZip}}
+use Rattle.{printable.specs.Printable.{printable}, scenario_record.specs.Record.{Record}, study.specs.{Grid.{GridRecord, ShardRecord}, Settings.{Chosen, given_text, key_text}, Sources.{SourcesRecord}}}
+use Rattle.study_commands.specs.{Warnings.{IsFirst, Warning, late, lates, outages, unevens, unused, warnings}, declared.{late.Late.{Late}, spread.Spread.{Spread}}, File.{IsScenario}, Sweep.{IsSaid}}
+use Rattle.{sweep.specs.{StudyText.{numbers_of, point_at}, Layout.{LayoutRecord}, Outcome.{HeardLimits}}, toml.specs.Data.{Members}}
+use Rattle.study_line.specs.{Order.{AsksHelp, AsksVersion, States}, declared.order.{Order.{Order}, SourceTexts.{SourceTexts}, StudyTexts.{StudyTexts}}}
 use Rattle.study_line.specs.declared.order.Order.TheVariants as order
-use Rattle.study_line.specs.declared.order.SourceTexts.{SourceTexts}
-use Rattle.study_line.specs.declared.order.StudyTexts.{StudyTexts}
 use Rattle.trace_laws.specs.Taken.{HaveJoined}
-use Rattle.sweep.specs.Layout.{LayoutRecord}
-use Rattle.sweep.specs.Outcome.{HeardLimits}
-use Rattle.study_commands.specs.File.{IsScenario}
-use Rattle.study_commands.specs.Sweep.{IsSaid}
 
 -- a key and what it is set to, after this
 abbrev pub choice_text : (before : List ℕ) → Chosen → List ℕ
@@ -41,13 +26,11 @@ late_text its =
     codes "from tick " ++ (decimal its.from ++ (codes " on, horizon " ++ (decimal its.horizon ++ codes "\n")))
 
 abbrev pub lone_late_line : Late → List ℕ
-lone_late_line its =
-    codes "fdstudy: no detector can suspect anybody before the horizon: " ++ late_text its
+lone_late_line its = codes "fdstudy: no detector can suspect anybody before the horizon: " ++ late_text its
 
 -- how many different phases there are, of which period, with which greatest gap
 abbrev pub spread_text : Spread → List ℕ
-spread_text its =
-    decimal its.phases ++ (codes " different phases of the period " ++ (decimal its.period
+spread_text its = decimal its.phases ++ (codes " different phases of the period " ++ (decimal its.period
     ++ (codes ", with a gap of " ++ (decimal its.gap ++ codes " ticks"))))
 
 -- that each pair of so many processes has a link of its own
@@ -62,17 +45,14 @@ points_text g of points first =
 
 module _ (g : GridRecord) (of : ℕ) where
   abbrev pub warning_line : Warning → List ℕ
-  warning_line (lates its) =
-      codes "fdstudy: no detector can suspect anybody before the horizon at "
+  warning_line (lates its) = codes "fdstudy: no detector can suspect anybody before the horizon at "
       ++ (points_text g of its.points its.first ++ (codes ": " ++ late_text its.what))
   warning_line (unevens key its) =
       codes "fdstudy: " ++ (printable (key_text key) ++ (codes " is dealt " ++ (spread_text its.what
       ++ (codes ", at " ++ (points_text g of its.points its.first ++ codes "\n")))))
-  warning_line (unused key its) =
-      codes "fdstudy: no link uses " ++ (printable (key_text key) ++ (codes " at "
+  warning_line (unused key its) = codes "fdstudy: no link uses " ++ (printable (key_text key) ++ (codes " at "
       ++ (points_text g of its.points its.first ++ (codes ": " ++ pairs_text its.what))))
-  warning_line outages =
-      codes "fdstudy: at each point every run has the same outages of the scenario file, "
+  warning_line outages = codes "fdstudy: at each point every run has the same outages of the scenario file, "
       ++ codes "so runs are no independent evidence of them\n"
 
 module _ {W : Type 0} (warned : W → List (List ℕ) → W → Type 0) (old new : W) where
@@ -137,6 +117,5 @@ module _ {W : Type 0} (heard : W → List (ℕ × ℕ) → W → Type 0) (warned
 
     -- and for words: where they ask for help or for the version nothing
     abbrev pub IsToldFor : (words : List (List ℕ)) → Type 0
-    IsToldFor words =
-        ((asked : Order) × States words asked × IsTold asked)
+    IsToldFor words = ((asked : Order) × States words asked × IsTold asked)
         ⊎ ((AsksHelp words ⊎ AsksVersion words) × (new ≡ old))

@@ -1,24 +1,10 @@
 -- What is warned of before the runs of a scenario or a study: numbers that make what comes of them misleading.
-use Rattle.std.specs.Prelude.{ℕ, ◌+◌, ◌-◌, ◌*◌, ◌%◌, ◌==◌, max, nat_lt, fold, pos, codes}
-use Rattle.std.specs.Prelude.{List, [], ◌∷◌, ◌++◌, map, filter, length, get_or, slice_get, Bool, true, false, not, ◌&&◌}
-use Rattle.std.specs.Prelude.{if◌then◌else◌, Option, None, Some, is_some, option_and_then, option_map, option_to_list}
-use Rattle.std.specs.Int.{div_ceil}
-use Rattle.std.specs.List.{count_by, filter_map, flat_map, list_any, position, range_with_len, zip}
-use Rattle.process_api.specs.declared.numbers.DetectorNumbers.{DetectorNumbers}
+use Rattle.std.specs.Prelude.{ℕ, ◌+◌, ◌-◌, ◌*◌, ◌%◌, ◌==◌, max, nat_lt, fold, pos, codes, List, [], ◌∷◌, ◌++◌, map, filter, length, get_or, slice_get, Bool, true, false, not, ◌&&◌, if◌then◌else◌, Option, None, Some, is_some, option_and_then, option_map, option_to_list}
+use Rattle.{std.specs.{Int.{div_ceil}, List.{count_by, filter_map, flat_map, list_any, position, range_with_len, zip}}, process_api.specs.declared.numbers.DetectorNumbers.{DetectorNumbers}}
 use Rattle.process_api.specs.declared.numbers.DetectorNumbers.TheVariants as numbers
-use Rattle.scenario.specs.Table.{same_text, tables_at}
-use Rattle.scenario.specs.Text.{pair_of, processes_of, record_of, same_pair}
-use Rattle.scenario_record.specs.Record.{Record}
-use Rattle.study.specs.Grid.{GridRecord, all_keys}
-use Rattle.study.specs.Placed.{sources_of_run}
-use Rattle.study.specs.Laid.{IsRunTable}
-use Rattle.study.specs.Settings.{Chosen, FilePath, Given, Path, element, every, inner, number, scenario}
-use Rattle.study.specs.Sources.{SourcesRecord}
-use Rattle.study_commands.specs.declared.found.Found.{Found}
-use Rattle.study_commands.specs.declared.late.Late.{Late}
-use Rattle.study_commands.specs.declared.spread.Spread.{Spread}
-use Rattle.sweep.specs.StudyText.{point_at, run_at}
-use Rattle.toml.specs.Data.{Data, Members, array, get_member, item}
+use Rattle.{scenario.specs.{Table.{same_text, tables_at}, Text.{pair_of, processes_of, record_of, same_pair}}, scenario_record.specs.Record.{Record}}
+use Rattle.study.specs.{Grid.{GridRecord, all_keys}, Placed.{sources_of_run}, Laid.{IsRunTable}, Settings.{Chosen, FilePath, Given, Path, element, every, inner, number, scenario}, Sources.{SourcesRecord}}
+use Rattle.{study_commands.specs.declared.{found.Found.{Found}, late.Late.{Late}, spread.Spread.{Spread}}, sweep.specs.StudyText.{point_at, run_at}, toml.specs.Data.{Data, Members, array, get_member, item}}
 
 -- the first tick at which a detector can suspect anybody: the first check that finds `timeout` ticks of silence, at
 -- the least multiple of `check` that is at least `timeout`; or the first freshness point
@@ -28,8 +14,7 @@ first_suspicion (numbers.Freshness its) = its.eta + its.delta
 
 -- the horizon comes before: no event of the horizon or a later tick is taken
 abbrev pub late_with : DetectorNumbers → (horizon : ℕ) → Option Late
-late_with detector horizon =
-    if nat_lt (first_suspicion detector) horizon then None
+late_with detector horizon = if nat_lt (first_suspicion detector) horizon then None
     else Some (record { from = first_suspicion detector; horizon = horizon })
 
 abbrev pub late : Record → Option Late
@@ -60,8 +45,7 @@ greatest_gap period all = fold max 0 (gaps period all)
 
 -- the ticks are uneven: a gap is above twice the period divided by the number of different phases
 abbrev pub uneven_in : (period : ℕ) → (ticks : List ℕ) → Option Spread
-uneven_in period ticks =
-    let all = phases period ticks in
+uneven_in period ticks = let all = phases period ticks in
     let gap = greatest_gap period all in
     if nat_lt (2 * period) (gap * length all)
     then Some (record { period = period; phases = length all; gap = gap }) else None
@@ -102,8 +86,7 @@ dealt_to choices key =
     if is_crash_tick key.1 then Some (record { key = key.1; ticks = filter_map (tick_in key.0) choices }) else None
 
 abbrev pub dealt_by : (choices : List (List Chosen)) → List Dealt
-dealt_by choices =
-    filter_map (dealt_to choices) (zip (range_with_len 0 (length (keys_of choices))) (keys_of choices))
+dealt_by choices = filter_map (dealt_to choices) (zip (range_with_len 0 (length (keys_of choices))) (keys_of choices))
 
 -- all crash ticks that a study deals to its seeds
 abbrev pub dealt : GridRecord → List Dealt

@@ -1,29 +1,11 @@
 -- Why an order isn't carried out: which of its words, its files or its runs are refused.
-use Rattle.std.specs.Prelude.{◌≡◌, ◌⊎◌, ◌<◌, ℕ, List, length, false, Option, None, Some, String}
-use Rattle.std.specs.declared.alloc.Global.{Global}
-use Rattle.study_commands.specs.Draw.{StopsPicture}
-use Rattle.study_commands.specs.File.{AreSources}
-use Rattle.study_commands.specs.Refusal.{AreNoSources, IsOfFile, StopsLetters}
-use Rattle.study_commands.specs.Answer.{IsPlace}
-use Rattle.study_commands.specs.Study.{IsGrid, IsLayout, IsShardOf, columns_word, pairs_words, shard_word}
-use Rattle.study_commands.specs.WordRefusals.{IsOutside, SaysNoGrid, SaysNoLayout, SaysNoShard, SaysNoSources}
-use Rattle.study_commands.specs.declared.fault.Fault.{Fault}
-use Rattle.study_commands.specs.declared.fault.Fault.TheVariants.{Memory, Refused, Words, WordsMemory, Write}
-use Rattle.study.specs.Grid.{GridRecord, points, runs, ShardRecord}
-use Rattle.study.specs.Placed.{sources_of_run}
-use Rattle.shell.specs.Ending.{most_bytes}
-use Rattle.study.specs.Laid.{HasNoText, IsRunText, RunSources, is_text_memory}
-use Rattle.study.specs.declared.error.TextError.{TextError}
-use Rattle.study_line.specs.declared.order.GridTexts.{GridTexts}
-use Rattle.study_line.specs.declared.order.SourceTexts.{SourceTexts}
-use Rattle.study_line.specs.declared.order.StudyTexts.{StudyTexts}
-use Rattle.study_line.specs.declared.order.Order.{Order}
+use Rattle.std.specs.{Prelude.{◌≡◌, ◌⊎◌, ◌<◌, ℕ, List, length, false, Option, None, Some, String}, declared.alloc.Global.{Global}}
+use Rattle.study_commands.specs.{Draw.{StopsPicture}, File.{AreSources}, Refusal.{AreNoSources, IsOfFile, StopsLetters}, Answer.{IsPlace}, Study.{IsGrid, IsLayout, IsShardOf, columns_word, pairs_words, shard_word}}
+use Rattle.study_commands.specs.{WordRefusals.{IsOutside, SaysNoGrid, SaysNoLayout, SaysNoShard, SaysNoSources}, declared.fault.Fault.{Fault, TheVariants.{Memory, Refused, Words, WordsMemory, Write}}}
+use Rattle.study.specs.{Grid.{GridRecord, points, runs, ShardRecord}, Placed.{sources_of_run}, Laid.{HasNoText, IsRunText, RunSources, is_text_memory}, declared.error.TextError.{TextError}, Sources.{SourcesRecord}}
+use Rattle.{shell.specs.Ending.{most_bytes}, study_line.specs.declared.order.{GridTexts.{GridTexts}, SourceTexts.{SourceTexts}, StudyTexts.{StudyTexts}, Order.{Order}}}
 use Rattle.study_line.specs.declared.order.Order.TheVariants as order
-use Rattle.sweep.specs.Layout.{LayoutRecord}
-use Rattle.sweep.specs.Outcome.{IsFirstUnready}
-use Rattle.sweep.specs.StudyText.{point_at, run_at}
-use Rattle.sweep.specs.declared.error.SweepError.{SweepError}
-use Rattle.study.specs.Sources.{SourcesRecord}
+use Rattle.sweep.specs.{Layout.{LayoutRecord}, Outcome.{IsFirstUnready}, StudyText.{point_at, run_at}, declared.error.SweepError.{SweepError}}
 
 -- a command over a study stops for its words, its files or a run, because memory was refused, or at a failed write
 abbrev pub IsOfStudy : (OfWords : Type 0) (OfFile : Option (String Global) → Type 0) → Fault → Type 0

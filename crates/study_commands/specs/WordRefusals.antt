@@ -1,37 +1,13 @@
 -- Why words of a study are refused.
-use Rattle.std.specs.Prelude.{◌≡◌, ◌⊎◌, ◌<◌, ℕ, List, ◌++◌, map, Bool, true, false, nat_le, if◌then◌else◌, Option, Some}
-use Rattle.std.specs.Prelude.{codes, string_bytes}
-use Rattle.std.specs.List.{AllZip, Contains}
+use Rattle.std.specs.{Prelude.{◌≡◌, ◌⊎◌, ◌<◌, ℕ, List, map, Bool, true, false, nat_le, Option, Some}, List.{AllZip, Contains}}
 use Rattle.diagnosis.specs.Diagnosis.{edits, most_edits}
-use Rattle.printable.specs.Printable.{printable}
-use Rattle.study.specs.AxisWords.{SaysAxis, SaysNoAxis, is_memory as is_axis_memory}
-use Rattle.study.specs.Grid.{GridRecord, IsFirst, set_twice, is_memory as is_grid_memory}
-use Rattle.study.specs.Words.{seeds_fault, seeds_said, Word, shard_fault, shard_said}
-use Rattle.study.specs.SetWords.{SaysAssignment, SaysNoAssignment, is_memory as is_set_memory}
-use Rattle.study.specs.Settings.{Path}
-use Rattle.study.specs.declared.assignment.Assignment.{Assignment}
-use Rattle.study.specs.declared.axis.Axis.{Axis}
-use Rattle.study.specs.declared.error.AssignmentError.{AssignmentError}
-use Rattle.study.specs.declared.error.AxisError.{AxisError}
-use Rattle.study.specs.declared.error.GridError.{GridError}
-use Rattle.study.specs.declared.error.SeedsError.{SeedsError}
-use Rattle.study.specs.declared.error.ShardError.{ShardError}
-use Rattle.study_commands.specs.File.{NameInputTwice, paths_set, set_words}
-use Rattle.study_commands.specs.Study.{rows_for}
-use Rattle.study_commands.specs.declared.fault.Fault.{Fault}
-use Rattle.study_commands.specs.declared.fault.Fault.TheVariants.{Words, WordsMemory}
-use Rattle.study_line.specs.declared.order.Each.{Each}
-use Rattle.study_line.specs.declared.order.GridTexts.{GridTexts}
-use Rattle.study_line.specs.declared.order.SourceTexts.{SourceTexts}
-use Rattle.sweep.specs.GroupWords.{SaysGroup, SaysNoGroup}
-use Rattle.sweep.specs.Groups.{groups_of}
-use Rattle.sweep.specs.Layout.{IsNoLayout}
-use Rattle.sweep.specs.StudyText.{names_of}
-use Rattle.sweep.specs.declared.error.GroupError.{GroupError}
+use Rattle.study.specs.{AxisWords.{SaysAxis, SaysNoAxis, is_memory as is_axis_memory}, Grid.{GridRecord, IsFirst, set_twice, is_memory as is_grid_memory}, Words.{seeds_fault, seeds_said, Word, shard_fault, shard_said}}
+use Rattle.study.specs.{SetWords.{SaysAssignment, SaysNoAssignment, is_memory as is_set_memory}, Settings.{Path}}
+use Rattle.study.specs.declared.{assignment.Assignment.{Assignment}, axis.Axis.{Axis}, error.{AssignmentError.{AssignmentError}, AxisError.{AxisError}, GridError.{GridError}, SeedsError.{SeedsError}, ShardError.{ShardError}}}
+use Rattle.{study_commands.specs.{File.{NameInputTwice, paths_set, set_words}, Study.{rows_for}}, study_line.specs.declared.order.{Each.{Each}, GridTexts.{GridTexts}, SourceTexts.{SourceTexts}}}
+use Rattle.sweep.specs.{GroupWords.{SaysGroup, SaysNoGroup}, Groups.{groups_of}, Layout.{IsNoLayout}, StudyText.{names_of}, declared.{error.{GroupError.{GroupError}, LayoutError.{LayoutError}}, group.PairGroup.{PairGroup}}}
 use Rattle.sweep.specs.declared.error.GroupError.TheVariants as group
-use Rattle.sweep.specs.declared.error.LayoutError.{LayoutError}
 use Rattle.sweep.specs.declared.error.LayoutError.TheVariants as layout
-use Rattle.sweep.specs.declared.group.PairGroup.{PairGroup}
 
 abbrev pub is_layout_memory : LayoutError → Bool
 is_layout_memory layout.Memory = true
@@ -45,7 +21,6 @@ pub record HasNoAxis (words : List Word) : Type 0 where
   pub other : is_axis_memory reason ≡ false
   pub says : SaysNoAxis word reason
 
--- the word says no seeds
 pub record SaysNoSeeds (word : Word) : Type 0 where
   pub reason : SeedsError
   pub is : seeds_fault (seeds_said word) ≡ Some reason
@@ -64,10 +39,8 @@ pub record MakeNoGrid (words : GridTexts) : Type 0 where
   pub other : is_grid_memory reason ≡ false
   pub first : IsFirst vary over deal seeds.0 seeds.1 reason
 
--- the words say no grid
 abbrev pub SaysNoGrid : GridTexts → Type 0
-SaysNoGrid words =
-    HasNoAxis (map (λ w. w.now) words.vary.items) ⊎ (HasNoAxis (map (λ w. w.now) words.over.items)
+SaysNoGrid words = HasNoAxis (map (λ w. w.now) words.vary.items) ⊎ (HasNoAxis (map (λ w. w.now) words.over.items)
     ⊎ (HasNoAxis (map (λ w. w.now) words.deal.items) ⊎ (SaysNoSeeds words.seeds.now ⊎ MakeNoGrid words)))
 
 -- there is a word, and it says no shard
@@ -104,20 +77,6 @@ SaysNoLayout kind pairs columns grid = HasNoGroup pairs
 -- a name is perhaps meant by a word that names no column
 abbrev pub is_like : (word name : Word) → Bool
 is_like word name = nat_le (edits word name) (most_edits word)
-
--- what is told of such a word, and of the name that is nearest to it
-abbrev pub no_column_line : (word nearest : Word) → List ℕ
-no_column_line word nearest = codes "fdstudy: words: NoColumn: " ++ (printable word ++ (codes " ("
-    ++ (if is_like word nearest
-    then codes "did you mean " ++ (printable nearest ++ codes "? fdstudy sweep --help lists the columns)\n")
-    else codes "no name is like it; fdstudy sweep --help lists the columns)\n")))
-
--- the fault tells it, or that there was no memory for it
-abbrev pub TellsOfLayout : LayoutError → Fault → Type 0
-TellsOfLayout (layout.Unknown name nearest) (Words line) =
-    string_bytes line ≡ no_column_line (string_bytes name) (string_bytes nearest)
-TellsOfLayout error WordsMemory = Unit {0}
-TellsOfLayout error _ = ⊥
 
 -- one of the words sets no key, for a reason other than memory
 pub record HasNoAssignment (words : List Word) : Type 0 where

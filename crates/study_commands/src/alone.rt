@@ -1,12 +1,9 @@
 //! The scenario of the files that a command line names, where no study is asked for.
 ghost use Rattle.std.specs.Prelude.{◌≡◌, ◌+◌, Ok, IfErr, IfOk};
 ghost use Rattle.shell.specs.Ending.{TakesAtMost, most_bytes};
-ghost use Rattle.study.specs.Laid.{IsRunTable, IsScenarioOf, is_memory};
+ghost use Rattle.study.specs.{Laid.{IsRunTable, IsScenarioOf, is_memory}, Sources.{sources_of}};
 ghost use Rattle.toml.specs.View.{table_view};
-ghost use Rattle.study.specs.Sources.{sources_of};
-ghost use Rattle.study_commands.specs.File.{AreSources, IsScenario, NameNoInput, is_alone as is_alone_in, no_axes};
-ghost use Rattle.study_commands.specs.Refusal.{IsOfFile, IsOfSources};
-ghost use Rattle.study_commands.specs.Inside.Setting.{StandsForNone};
+ghost use Rattle.study_commands.specs.{File.{AreSources, IsScenario, NameNoInput, is_alone as is_alone_in, no_axes}, Refusal.{IsOfFile, IsOfSources}, Inside.Setting.{StandsForNone}};
 
 use crate::fault::Fault;
 use crate::file::own_scenario_at;

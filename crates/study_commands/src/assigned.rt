@@ -1,11 +1,7 @@
 //! Keys that arguments set for all runs.
-ghost use Rattle.std.specs.Prelude.{◌≡◌, false, None, IfErr, IfOk, OnOk, map};
-ghost use Rattle.std.specs.List.{AllZip};
-ghost use Rattle.study.specs.Grid.{set_twice};
-ghost use Rattle.study.specs.SetWords.{SaysAssignment, is_memory};
-ghost use Rattle.study_commands.specs.Fault.{IsOfWords, IsOfWordsFor};
-ghost use Rattle.study_commands.specs.File.{AreSet, NameInputTwice, paths_set, set_words};
-ghost use Rattle.study_commands.specs.WordRefusals.{HasNoAssignment, IsSetTwice, SaysNoSources};
+ghost use Rattle.std.specs.{Prelude.{◌≡◌, false, None, IfErr, IfOk, OnOk, map}, List.{AllZip}};
+ghost use Rattle.study.specs.{Grid.{set_twice}, SetWords.{SaysAssignment, is_memory}};
+ghost use Rattle.study_commands.specs.{Fault.{IsOfWords, IsOfWordsFor}, File.{AreSet, NameInputTwice, paths_set, set_words}, WordRefusals.{HasNoAssignment, IsSetTwice, SaysNoSources}};
 
 use crate::fault::Fault;
 use printable::Printable;

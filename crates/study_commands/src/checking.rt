@@ -1,20 +1,10 @@
 //! The command `check`, which says what a scenario file has, or where it breaks a rule and why.
 ghost use Rattle.std.specs.Prelude.{◌≡◌, ◌≢◌, ◌+◌, ◌++◌, false, Ok, IfOk, IfErr, OnOk, string_bytes};
-ghost use Rattle.promised.specs.Promised.{promised};
-ghost use Rattle.scenario.specs.Refusals.{Accepts};
-ghost use Rattle.scenario.specs.Text.{record_of};
-ghost use Rattle.scenario_record.specs.Record.{Record};
-ghost use Rattle.study.specs.Laid.{IsScenarioOf};
-ghost use Rattle.study.specs.Sources.{sources_of};
-ghost use Rattle.study_commands.specs.Check.{bounds_text, IsCheckAnswer, TellsOf, accepted_line, limit_text, window_text};
-ghost use Rattle.study_commands.specs.Fault.{IsBefore};
-ghost use Rattle.study_commands.specs.File.{IsOwnScenario, NameNoInput};
-ghost use Rattle.study_commands.specs.Inside.Setting.{StandsForNone};
-ghost use Rattle.study_commands.specs.Refusal.{IsOfOwnFile};
-ghost use Rattle.study_commands.specs.WarningText.{IsToldOfFile, IsWarnedOf};
-ghost use Rattle.study_commands.specs.Why.{StopsCheck};
-ghost use Rattle.shell.specs.Ending.{TakesAtMost, input_path, most_bytes};
-ghost use Rattle.toml.specs.View.{table_view};
+ghost use Rattle.{promised.specs.Promised.{promised}, scenario.specs.{Refusals.{Accepts}, Text.{record_of}}};
+ghost use Rattle.{scenario_record.specs.Record.{Record}, study.specs.{Laid.{IsScenarioOf}, Sources.{sources_of}}};
+ghost use Rattle.study_commands.specs.{Check.{bounds_text, IsCheckAnswer, TellsOf, limit_text, window_text}, Inside.{Private.{accepted_line}, Setting.{StandsForNone}}, Fault.{IsBefore}, File.{IsOwnScenario, NameNoInput}};
+ghost use Rattle.study_commands.specs.{Refusal.{IsOfOwnFile}, WarningText.{IsToldOfFile, IsWarnedOf}, Why.{StopsCheck}};
+ghost use Rattle.{shell.specs.Ending.{TakesAtMost, input_path, most_bytes}, toml.specs.View.{table_view}};
 
 use crate::alone::{is_alone, sources_alone, table_of_sources};
 use crate::bounds_lines::bounds_lines;

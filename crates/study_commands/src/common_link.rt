@@ -1,11 +1,7 @@
 //! Whether letters of a run go by the table `link`.
-ghost use Rattle.std.specs.Prelude.{◌≡◌, codes, map, IfOk};
-ghost use Rattle.std.specs.List.{filter_map, list_any, range_with_len};
-ghost use Rattle.scenario.specs.Table.{tables_at, the_tables};
-ghost use Rattle.scenario.specs.Text.{processes_of};
-ghost use Rattle.study_commands.specs.Inside.Warned.{ends_from, is_no_end as is_no_end_of, pair_in, tables_in};
-ghost use Rattle.study_commands.specs.Warnings.{sends_by_link as sends_by_link_of, unlinked_where};
-ghost use Rattle.study_commands.specs.Warnings.{uses_link as uses_link_of};
+ghost use Rattle.std.specs.{Prelude.{◌≡◌, codes, map, IfOk}, List.{filter_map, list_any, range_with_len}};
+ghost use Rattle.scenario.specs.{Table.{tables_at, the_tables}, Text.{processes_of}};
+ghost use Rattle.study_commands.specs.{Inside.Warned.{ends_from, is_no_end as is_no_end_of, pair_in, tables_in}, Warnings.{sends_by_link as sends_by_link_of, unlinked_where, uses_link as uses_link_of}};
 ghost use Rattle.toml.specs.View.{items_view, table_view, view};
 
 use crate::adding::push_some;

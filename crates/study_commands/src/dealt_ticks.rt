@@ -1,10 +1,7 @@
 //! Crash ticks that a study deals to its seeds.
-ghost use Rattle.std.specs.Prelude.{◌≡◌, ◌++◌, IfOk, OnOk, map, option_map};
-ghost use Rattle.std.specs.List.{filter_map};
+ghost use Rattle.std.specs.{Prelude.{◌≡◌, ◌++◌, IfOk, OnOk, map, option_map}, List.{filter_map}};
 ghost use Rattle.study.specs.Settings.{choices, given_by, path_of};
-ghost use Rattle.study_commands.specs.Inside.Warned.{dealt_of, tick_said};
-ghost use Rattle.study_commands.specs.Warnings.{dealt, dealt_by, dealt_to, is_crash_tick as is_crash_tick_at};
-ghost use Rattle.study_commands.specs.Warnings.{tick_in};
+ghost use Rattle.study_commands.specs.{Inside.Warned.{dealt_of, tick_said}, Warnings.{dealt, dealt_by, dealt_to, is_crash_tick as is_crash_tick_at, tick_in}};
 
 use crate::adding::push_some;
 use std::alloc::{AllocError, Global};

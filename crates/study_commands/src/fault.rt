@@ -74,9 +74,7 @@ impl From<AllocError> for Fault {
 
 impl Failure for Fault {
     ghost use Rattle.std.specs.Prelude.{refl};
-    ghost use Rattle.study_commands.specs.Fault.{end_of, line_of, status_of};
-    ghost use Rattle.study_commands.specs.Inside.Statuses.{has_status};
-    ghost use Rattle.study_commands.specs.declared.fault.Fault.TheVariants.{Write};
+    ghost use Rattle.study_commands.specs.{Fault.{end_of, line_of, status_of}, Inside.Statuses.{has_status}, declared.fault.Fault.TheVariants.{Write}};
 
     ghost status = { status_of };
 

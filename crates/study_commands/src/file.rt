@@ -1,10 +1,8 @@
 //! The files that paths name.
 ghost use Rattle.std.specs.Prelude.{◌≡◌, ◌≢◌, ◌+◌, ℕ, List, Some, IfOk, IfErr, option_map};
-ghost use Rattle.diagnosis.specs.Diagnosis.{RefusesFor};
-ghost use Rattle.toml.specs.View.{table_view};
+ghost use Rattle.{diagnosis.specs.Diagnosis.{RefusesFor}, toml.specs.View.{table_view}};
 ghost use Rattle.study.specs.Sources.{sources_of};
-ghost use Rattle.study_commands.specs.File.{AreBytes, AreFiles, IsOwnScenario, IsTable, MayBeTable, NameInputTwice, NameNoInput};
-ghost use Rattle.study_commands.specs.Refusal.{IsOfBytes, IsOfFiles, IsOfNetwork, IsOfOwnFile, IsOfTable, IsToldWith, IsUnread};
+ghost use Rattle.study_commands.specs.{File.{AreBytes, AreFiles, IsOwnScenario, IsTable, MayBeTable, NameInputTwice, NameNoInput}, Refusal.{IsOfBytes, IsOfFiles, IsOfNetwork, IsOfOwnFile, IsOfTable, IsToldWith, IsUnread}};
 ghost use Rattle.shell.specs.Ending.{TakesAtMost, input_path, most_bytes};
 
 use crate::fault::Fault;

@@ -1,9 +1,7 @@
 //! The first runs of points, as far as they are looked at.
 ghost use Rattle.std.specs.Prelude.{◌≡◌, ◌≤◌, ◌-◌, ◌<◌, IfOk, length};
-ghost use Rattle.study.specs.Grid.{points};
-ghost use Rattle.study.specs.Sources.{sources_of};
-ghost use Rattle.study_commands.specs.Inside.Warned.{AreFirst, IsFirstOf, IsRunOf};
-ghost use Rattle.study_commands.specs.Warnings.{IsFirst};
+ghost use Rattle.study.specs.{Grid.{points}, Sources.{sources_of}};
+ghost use Rattle.study_commands.specs.{Inside.Warned.{AreFirst, IsFirstOf, IsRunOf}, Warnings.{IsFirst}};
 ghost use Rattle.toml.specs.View.{table_view};
 
 use crate::common_link::uses_link;

@@ -1,6 +1,5 @@
 //! Findings at points of a study.
-ghost use Rattle.std.specs.Prelude.{◌≡◌, ◌+◌, ◌^◌, ◌<◌, is_some, length};
-ghost use Rattle.std.specs.List.{count_by, position, range_with_len};
+ghost use Rattle.std.specs.{Prelude.{◌≡◌, ◌+◌, ◌^◌, ◌<◌, is_some, length}, List.{count_by, position, range_with_len}};
 ghost use Rattle.study_commands.specs.Warnings.{found};
 
 /// What is found at some of a study's points.

@@ -1,9 +1,6 @@
 //! The command `letters`: the letters of a scenario's run.
 ghost use Rattle.std.specs.Prelude.{◌≡◌, ◌+◌, IfErr, IfOk};
-ghost use Rattle.study_commands.specs.Fault.{IsBefore};
-ghost use Rattle.study_commands.specs.File.{NameNoInput};
-ghost use Rattle.study_commands.specs.Answer.{IsLettersAnswer};
-ghost use Rattle.study_commands.specs.Refusal.{StopsLetters};
+ghost use Rattle.study_commands.specs.{Fault.{IsBefore}, File.{NameNoInput}, Answer.{IsLettersAnswer}, Refusal.{StopsLetters}};
 ghost use Rattle.shell.specs.Ending.{TakesAtMost, most_bytes};
 
 use crate::alone::scenario_at;

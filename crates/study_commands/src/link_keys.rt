@@ -1,9 +1,7 @@
 //! Keys of the table `link` that a study sets.
 ghost use Rattle.std.specs.Prelude.{◌≡◌, ◌++◌, IfOk, OnOk, filter, map};
-ghost use Rattle.study.specs.Grid.{paths_of};
-ghost use Rattle.study.specs.Settings.{path_of};
-ghost use Rattle.study_commands.specs.Inside.Warned.{paths_said};
-ghost use Rattle.study_commands.specs.Warnings.{is_of_link as is_of_link_at, link_keys as link_keys_of};
+ghost use Rattle.study.specs.{Grid.{paths_of}, Settings.{path_of}};
+ghost use Rattle.study_commands.specs.{Inside.Warned.{paths_said}, Warnings.{is_of_link as is_of_link_at, link_keys as link_keys_of}};
 
 use std::alloc::{AllocError, Global};
 use study::{Axis, FileKey, Grid, Key};

@@ -1,12 +1,8 @@
 //! The command `draw`: pictures of a scenario's run.
 ghost use Rattle.std.specs.Prelude.{◌≡◌, ◌+◌, IfErr, IfOk, None, Some, map, option_map, string_bytes};
 ghost use Rattle.drawing.specs.LettersPicture.{refusal};
-ghost use Rattle.study_commands.specs.Draw.{AreNamed, HasNoProcess, IsDrawAnswer, IsOfPicture, NamesNone};
-ghost use Rattle.study_commands.specs.Draw.{Shows, StopsPicture, TellsOf, line_of_ticks, picture_line, process_said};
-ghost use Rattle.study_commands.specs.Fault.{IsBefore, IsOfWordsFor};
-ghost use Rattle.study_commands.specs.File.{NameNoInput};
-ghost use Rattle.study_commands.specs.Refusal.{line_with};
-ghost use Rattle.shell.specs.Ending.{TakesAtMost, most_bytes};
+ghost use Rattle.study_commands.specs.{Draw.{AreNamed, HasNoProcess, IsDrawAnswer, IsOfPicture, NamesNone, Shows, StopsPicture, TellsOf, line_of_ticks, picture_line, process_said}, Fault.{IsBefore, IsOfWordsFor}, File.{NameNoInput}};
+ghost use Rattle.{study_commands.specs.Refusal.{line_with}, shell.specs.Ending.{TakesAtMost, most_bytes}};
 
 use crate::alone::scenario_at;
 use crate::fault::Fault;

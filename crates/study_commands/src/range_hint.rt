@@ -1,9 +1,6 @@
 //! How a range is written, where a setting looks like one.
-ghost use Rattle.std.specs.Prelude.{◌≡◌, ◌||◌, ◌==◌};
-ghost use Rattle.std.specs.Char.{is_ascii_digit};
-ghost use Rattle.std.specs.List.{list_all, list_any};
-ghost use Rattle.study.specs.Settings.{given_by};
-ghost use Rattle.study.specs.Words.{has};
+ghost use Rattle.std.specs.{Prelude.{◌≡◌, ◌||◌, ◌==◌}, Char.{is_ascii_digit}, List.{list_all, list_any}};
+ghost use Rattle.study.specs.{Settings.{given_by}, Words.{has}};
 ghost use Rattle.study_commands.specs.Inside.RangeHint.{is_like_range, is_set_like_range};
 
 use study::{Choice, Setting};

@@ -1,13 +1,7 @@
 //! Studies that are ready for their first run: all scenarios are read, and warnings are told.
 ghost use Rattle.std.specs.Prelude.{◌≡◌, ◌+◌, false, IfErr, IfOk, OnOk};
-ghost use Rattle.shell.specs.Ending.{TakesAtMost, most_bytes};
-ghost use Rattle.study.specs.Sources.{sources_of};
-ghost use Rattle.study_commands.specs.Fault.{IsBefore};
-ghost use Rattle.study_commands.specs.File.{NameNoInput};
-ghost use Rattle.study_commands.specs.Inside.Setting.{CantBeSwept};
-ghost use Rattle.study_commands.specs.Sweep.{IsSaid};
-ghost use Rattle.study_commands.specs.WarningText.{IsToldAfterReading};
-ghost use Rattle.study_commands.specs.Why.{StopsSweep};
+ghost use Rattle.{shell.specs.Ending.{TakesAtMost, most_bytes}, study.specs.Sources.{sources_of}};
+ghost use Rattle.study_commands.specs.{Fault.{IsBefore}, File.{NameNoInput}, Inside.Setting.{CantBeSwept}, Sweep.{IsSaid}, WarningText.{IsToldAfterReading}, Why.{StopsSweep}};
 ghost use Rattle.sweep.specs.Outcome.{AreReady};
 
 use crate::fault::Fault;

@@ -1,7 +1,6 @@
 //! Points and runs of a study, named by their numbers and settings.
 ghost use Rattle.std.specs.Prelude.{◌≡◌, ◌++◌, ◌<◌, IfOk, OnOk, length, map, string_bytes};
-ghost use Rattle.study.specs.Grid.{points, runs};
-ghost use Rattle.study.specs.Settings.{chosen};
+ghost use Rattle.study.specs.{Grid.{points, runs}, Settings.{chosen}};
 ghost use Rattle.study_commands.specs.WarningText.{choice_text, choices_text, point_name};
 
 use std::alloc::{AllocError, Global};

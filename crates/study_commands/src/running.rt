@@ -1,9 +1,7 @@
 //! Runs of a scenario by the event list, over machines that are made here.
 ghost use Rattle.std.specs.Prelude.{◌≡◌, IfErr, IfOk};
-ghost use Rattle.trace_laws.specs.Setting.{setting_of};
-ghost use Rattle.trace_laws.specs.World.{IsTrace};
-ghost use Rattle.study_commands.specs.Refusal.{IsOfRun, fault_of_run};
-ghost use Rattle.runs.specs.Letters.{AreLetters};
+ghost use Rattle.trace_laws.specs.{Setting.{setting_of}, World.{IsTrace}};
+ghost use Rattle.{study_commands.specs.Refusal.{IsOfRun, fault_of_run}, runs.specs.Letters.{AreLetters}};
 
 use crate::fault::Fault;
 use event_list::{RunError, run_list};

@@ -1,14 +1,8 @@
 //! One run of the program.
 ghost use Rattle.std.specs.Prelude.{◌≡◌, ◌^◌, ◌-◌, ◌+◌, ◌<◌, ◌≤◌, false, IfErr, IfOk, OnOk, map};
-ghost use Rattle.study_commands.specs.Answer.{Answers, GoesFor, IsNoSweep, texts_of};
-ghost use Rattle.study_commands.specs.Fault.{IsBefore, end_of};
-ghost use Rattle.study_commands.specs.File.{NameNoInput};
-ghost use Rattle.study_commands.specs.Serve.{EndsFor, GoesForWords, IsNoFault, IsReason, NamesNoInput, TellsLine};
-ghost use Rattle.study_commands.specs.Serve.{TellsOf, other_word_line};
-ghost use Rattle.study_commands.specs.WarningText.{IsTold, IsToldFor};
-ghost use Rattle.printable.specs.Printable.{printable_lines};
-ghost use Rattle.study_commands.specs.Why.{StopsFor};
-ghost use Rattle.shell.specs.Ending.{Puts, TakesAtMost, most_bytes};
+ghost use Rattle.study_commands.specs.{Answer.{Answers, GoesFor, texts_of}, Inside.Private.{IsNoSweep, IsNoFault}, Fault.{IsBefore, end_of}, File.{NameNoInput}};
+ghost use Rattle.study_commands.specs.{Serve.{EndsFor, GoesForWords, IsReason, NamesNoInput, TellsLine, TellsOf, other_word_line}, WarningText.{IsTold, IsToldFor}, Why.{StopsFor}};
+ghost use Rattle.{printable.specs.Printable.{printable_lines}, shell.specs.Ending.{Puts, TakesAtMost, most_bytes}};
 
 use crate::checking::serve_check;
 use crate::fault::Fault;

@@ -1,10 +1,7 @@
 //! Outages that all runs of a point have.
-ghost use Rattle.std.specs.Prelude.{◌≡◌, map};
-ghost use Rattle.std.specs.List.{list_any};
-ghost use Rattle.study.specs.Settings.{choices, path_of};
-ghost use Rattle.study_commands.specs.Warnings.{has_outage as has_outage_in, is_of_outage as is_of_outage_at};
-ghost use Rattle.study_commands.specs.Warnings.{sets_outage as sets_outage_in, shares_outages as shares_outages_in};
-ghost use Rattle.study.specs.Sources.{sources_of};
+ghost use Rattle.std.specs.{Prelude.{◌≡◌, map}, List.{list_any}};
+ghost use Rattle.study.specs.{Settings.{choices, path_of}, Sources.{sources_of}};
+ghost use Rattle.study_commands.specs.Warnings.{has_outage as has_outage_in, is_of_outage as is_of_outage_at, sets_outage as sets_outage_in, shares_outages as shares_outages_in};
 ghost use Rattle.toml.specs.View.{table_view};
 
 use study::{Axis, FileKey, Grid, Key, Sources, value_at};

@@ -1,16 +1,8 @@
 //! The command `show`: the scenario file of one run of a study.
 ghost use Rattle.std.specs.Prelude.{◌≡◌, ◌+◌, ◌<◌, ◌≤◌, IfOk, IfErr, length, string_bytes};
-ghost use Rattle.study.specs.Sources.{sources_of};
-ghost use Rattle.study_commands.specs.Fault.{IsBefore, IsOfWordsFor};
-ghost use Rattle.study_commands.specs.File.{NameNoInput};
-ghost use Rattle.study_commands.specs.Answer.{IsPlace, IsShowAnswer};
-ghost use Rattle.study_commands.specs.Why.{IsOfText, StopsShow};
-ghost use Rattle.study_commands.specs.WordRefusals.{IsOutside};
-ghost use Rattle.shell.specs.Ending.{TakesAtMost, most_bytes};
-ghost use Rattle.study.specs.Grid.{points, runs};
-ghost use Rattle.study.specs.Placed.{sources_of_run};
-ghost use Rattle.study.specs.Laid.{IsRunText, is_text_memory};
-ghost use Rattle.sweep.specs.StudyText.{point_at, run_at};
+ghost use Rattle.study.specs.{Sources.{sources_of}, Grid.{points, runs}, Placed.{sources_of_run}, Laid.{IsRunText, is_text_memory}};
+ghost use Rattle.study_commands.specs.{Fault.{IsBefore, IsOfWordsFor}, File.{NameNoInput}, Answer.{IsPlace, IsShowAnswer}, Why.{IsOfText, StopsShow}, WordRefusals.{IsOutside}};
+ghost use Rattle.{shell.specs.Ending.{TakesAtMost, most_bytes}, sweep.specs.StudyText.{point_at, run_at}};
 
 use crate::fault::Fault;
 use crate::refused_run::{line_of_length, line_of_run};

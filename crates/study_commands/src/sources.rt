@@ -1,11 +1,8 @@
 //! The files of a study, with the values that arguments set in them.
 ghost use Rattle.std.specs.Prelude.{◌≡◌, ◌+◌, Err, Ok, IfErr, IfOk};
 ghost use Rattle.shell.specs.Ending.{TakesAtMost, most_bytes};
-ghost use Rattle.study.specs.Placed.{assign_all, is_memory};
-ghost use Rattle.study.specs.Sources.{sources_of};
-ghost use Rattle.study_commands.specs.File.{AreSources, NameNoInput};
-ghost use Rattle.study_commands.specs.Refusal.{IsOfSources};
-ghost use Rattle.study_commands.specs.Inside.Setting.{CannotSet};
+ghost use Rattle.study.specs.{Placed.{assign_all, is_memory}, Sources.{sources_of}};
+ghost use Rattle.study_commands.specs.{File.{AreSources, NameNoInput}, Refusal.{IsOfSources}, Inside.Setting.{CannotSet}};
 
 use crate::assigned::assigned_by;
 use crate::fault::Fault;

@@ -1,7 +1,6 @@
 //! Ticks that leave a part of a period out.
 ghost use Rattle.std.specs.Prelude.{◌≡◌, ◌<◌, ◌≤◌, All, IfOk, get_or, length, map};
-ghost use Rattle.study_commands.specs.Warnings.{greatest_gap as greatest_gap_of, period_of as period_in};
-ghost use Rattle.study_commands.specs.Warnings.{next_phases, phases as phases_in, uneven_in};
+ghost use Rattle.study_commands.specs.Warnings.{greatest_gap as greatest_gap_of, period_of as period_in, next_phases, phases as phases_in, uneven_in};
 
 use crate::first_run::FirstRun;
 use process_api::DetectorNumbers;

@@ -1,11 +1,6 @@
 //! The command `check` with a study: how many points and runs there are, and about how large they will be.
 ghost use Rattle.std.specs.Prelude.{◌≡◌, ◌+◌, false, IfOk, IfErr, OnOk, string_bytes};
-ghost use Rattle.study_commands.specs.Check.{IsStudyCheck};
-ghost use Rattle.study_commands.specs.Inside.Setting.{TellsOfStudy};
-ghost use Rattle.study_commands.specs.WarningText.{IsToldOfCheck};
-ghost use Rattle.study_commands.specs.Why.{StopsSweep};
-ghost use Rattle.study_commands.specs.Fault.{IsBefore};
-ghost use Rattle.study_commands.specs.File.{NameNoInput};
+ghost use Rattle.study_commands.specs.{Check.{IsStudyCheck}, Inside.Setting.{TellsOfStudy}, WarningText.{IsToldOfCheck}, Why.{StopsSweep}, Fault.{IsBefore}, File.{NameNoInput}};
 ghost use Rattle.shell.specs.Ending.{TakesAtMost, most_bytes};
 
 use crate::fault::Fault;

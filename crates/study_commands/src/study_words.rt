@@ -1,11 +1,7 @@
 //! Studies, as arguments of a command line.
-ghost use Rattle.std.specs.Prelude.{◌≡◌, false, Some, IfOk, IfErr, map, option_map};
-ghost use Rattle.std.specs.List.{AllZip};
-ghost use Rattle.study_commands.specs.Fault.{IsOfWords, IsOfWordsFor};
-ghost use Rattle.study_commands.specs.Study.{IsGrid, IsShardOf};
-ghost use Rattle.study_commands.specs.WordRefusals.{HasNoAxis, HasNoGroup, SaysNoGrid, SaysNoSeeds, SaysNoShard, is_group_memory};
-ghost use Rattle.study.specs.AxisWords.{SaysAxis, is_memory};
-ghost use Rattle.study.specs.Words.{seeds_said};
+ghost use Rattle.std.specs.{Prelude.{◌≡◌, false, Some, IfOk, IfErr, map, option_map}, List.{AllZip}};
+ghost use Rattle.study_commands.specs.{Fault.{IsOfWords, IsOfWordsFor}, Study.{IsGrid, IsShardOf}, WordRefusals.{HasNoAxis, HasNoGroup, SaysNoGrid, SaysNoSeeds, SaysNoShard, is_group_memory}};
+ghost use Rattle.study.specs.{AxisWords.{SaysAxis, is_memory}, Words.{seeds_said}};
 ghost use Rattle.sweep.specs.GroupWords.{SaysGroup};
 
 use crate::fault::Fault;

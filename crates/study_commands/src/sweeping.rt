@@ -1,14 +1,8 @@
 //! The command `sweep`: the table of a study.
 ghost use Rattle.std.specs.Prelude.{◌≡◌, ◌^◌, ◌-◌, ◌+◌, ◌<◌, ◌≤◌, false, IfOk, IfErr, IfSome, OnOk, map, option_map};
-ghost use Rattle.study_commands.specs.Fault.{IsBefore, IsOfWordsFor};
-ghost use Rattle.study_commands.specs.File.{NameNoInput};
-ghost use Rattle.study_commands.specs.Study.{IsLayout, rows_for};
-ghost use Rattle.study_commands.specs.Sweep.{GoesForSweep, IsFaultOf, IsOfRun, IsSaid};
-ghost use Rattle.study_commands.specs.WarningText.{IsToldOfSweep};
-ghost use Rattle.study_commands.specs.Why.{StopsSweep};
-ghost use Rattle.study_commands.specs.WordRefusals.{SaysNoLayout, TellsOfLayout, is_layout_memory};
-ghost use Rattle.study.specs.Sources.{sources_of};
-ghost use Rattle.shell.specs.Ending.{TakesAtMost, most_bytes};
+ghost use Rattle.study_commands.specs.{Fault.{IsBefore, IsOfWordsFor}, File.{NameNoInput}, Study.{IsLayout, rows_for}, Inside.Private.{GoesForSweep, IsFaultOf, IsOfRun, TellsOfLayout}, Sweep.{IsSaid}, WarningText.{IsToldOfSweep}};
+ghost use Rattle.study_commands.specs.{Why.{StopsSweep}, WordRefusals.{SaysNoLayout, is_layout_memory}};
+ghost use Rattle.{study.specs.Sources.{sources_of}, shell.specs.Ending.{TakesAtMost, most_bytes}};
 
 use crate::fault::Fault;
 use crate::ready::ready_over;

@@ -1,6 +1,6 @@
 //! Arguments that name a column which there isn't.
 ghost use Rattle.std.specs.Prelude.{◌≡◌, IfOk, string_bytes};
-ghost use Rattle.study_commands.specs.WordRefusals.{is_like as is_like_to, no_column_line};
+ghost use Rattle.study_commands.specs.{WordRefusals.{is_like as is_like_to}, Inside.Private.{no_column_line}};
 
 use diagnosis::edits_between;
 use printable::Printable;

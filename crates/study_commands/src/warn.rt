@@ -1,8 +1,7 @@
 //! Tells the warnings of a scenario or a study, before the first run.
 ghost use Rattle.std.specs.Prelude.{◌≡◌, false, map, OnOk};
 ghost use Rattle.study.specs.Sources.{sources_of};
-ghost use Rattle.study_commands.specs.Inside.Warned.{warning_of};
-ghost use Rattle.study_commands.specs.WarningText.{IsWarnedOf, IsWarnedOfStudy, warning_line};
+ghost use Rattle.study_commands.specs.{Inside.Warned.{warning_of}, WarningText.{IsWarnedOf, IsWarnedOfStudy, warning_line}};
 ghost use Rattle.trace_laws.specs.Taken.{HaveJoined};
 
 use crate::first_runs::first_runs;

@@ -1,11 +1,7 @@
 //! The warnings before the runs of a study.
-ghost use Rattle.std.specs.Prelude.{◌≡◌, ◌+◌, ◌^◌, ◌<◌, IfOk, OnOk, length, map, option_map};
-ghost use Rattle.std.specs.List.{filter_map};
-ghost use Rattle.study.specs.Settings.{path_of};
-ghost use Rattle.study.specs.Sources.{sources_of};
-ghost use Rattle.study_commands.specs.Inside.Warned.{Gains, OfRuns, dealt_of, paths_said, warning_of};
-ghost use Rattle.study_commands.specs.Warnings.{lates, unevens, unused, warning_of_dealt};
-ghost use Rattle.study_commands.specs.Warnings.{warning_of_key, warning_of_lates, warnings};
+ghost use Rattle.std.specs.{Prelude.{◌≡◌, ◌+◌, ◌^◌, ◌<◌, IfOk, OnOk, length, map, option_map}, List.{filter_map}};
+ghost use Rattle.study.specs.{Settings.{path_of}, Sources.{sources_of}};
+ghost use Rattle.study_commands.specs.{Inside.Warned.{Gains, OfRuns, dealt_of, paths_said, warning_of}, Warnings.{lates, unevens, unused, warning_of_dealt, warning_of_key, warning_of_lates, warnings}};
 
 use crate::adding::push_some;
 use crate::common_link::unlinked_of;

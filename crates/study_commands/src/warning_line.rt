@@ -1,10 +1,7 @@
 //! Warnings, in lines.
 ghost use Rattle.std.specs.Prelude.{◌≡◌, IfOk, string_bytes};
 ghost use Rattle.study.specs.Settings.{path_of};
-ghost use Rattle.study_commands.specs.Inside.Warned.{warning_of};
-ghost use Rattle.study_commands.specs.WarningText.{late_text as late_text_of, lone_late_line};
-ghost use Rattle.study_commands.specs.WarningText.{points_text as points_text_of, spread_text as spread_text_of};
-ghost use Rattle.study_commands.specs.WarningText.{pairs_text as pairs_text_of, warning_line};
+ghost use Rattle.study_commands.specs.{Inside.Warned.{warning_of}, WarningText.{late_text as late_text_of, lone_late_line, points_text as points_text_of, spread_text as spread_text_of, pairs_text as pairs_text_of, warning_line}};
 ghost use Rattle.study_commands.specs.Warnings.{lates, unevens, unused};
 
 use crate::found::Found;

@@ -1,17 +1,11 @@
 -- What clap's matches say.
 use Rattle.study_line.proofs.Basics.{rules, ◌≡◌, ◌∙◌, ap, sym, subst, refl, true, codes, [], map, ℕ, List, Option, Some, None, Result, Ok, Err, IfOk, IfErr, option_map, App, Row, Text, HasKind, HasMatchesOf, ReadsOne, app_of, fault_of, found_of, is_simple, is_simple_and_free, one_of, one_text, rows_of, subcommand_of, subcommand_rows_of, first_value-rows, one_text-rows, whole_app, Explains, IsNumberAt, Lacks, MayBeUnsignedAt, States, StatesFound, StatesIn}
 use Rattle.std.proofs.lemmas.Option.{same_Some}
-use Rattle.std.specs.Borrow.{Bor}
-use Rattle.std.specs.Option.{option_map_or, unwrap_or}
-use Rattle.std.specs.Str.Parse.{ParsesUnsigned, ExplainsUnsignedError, HasUnsignedDigitsIfOk}
-use Rattle.std.specs.declared.num.ParseIntError.{ParseIntError}
-use Rattle.clap.specs.declared.builder.command.Command.{Command}
-use Rattle.clap.specs.declared.error.Error.{Error}
-use Rattle.clap.specs.declared.parser.matches.ArgMatches.{ArgMatches}
+use Rattle.std.specs.{Borrow.{Bor}, Option.{option_map_or, unwrap_or}, Str.Parse.{ParsesUnsigned, ExplainsUnsignedError, HasUnsignedDigitsIfOk}, declared.num.ParseIntError.{ParseIntError}}
+use Rattle.clap.specs.declared.{builder.command.Command.{Command}, error.Error.{Error}, parser.matches.ArgMatches.{ArgMatches}}
 use Rattle.clap.proofs.OnLiterals.{clap_on_literals}
-use Rattle.study_line.specs.declared.order.Order.{Order}
+use Rattle.study_line.specs.declared.order.{Order.{Order}, WordsError.{WordsError}}
 use Rattle.study_line.specs.declared.order.Order.TheVariants as order
-use Rattle.study_line.specs.declared.order.WordsError.{WordsError}
 use Rattle.study_line.specs.declared.order.WordsError.TheVariants as refusal
 
 -- the text of an argument as the rows have it

@@ -1,15 +1,7 @@
 -- The command line, as clap sees it.
-use Rattle.std.specs.Prelude.{◌≡◌, [], ◌∷◌, Bool, IfOk, Result, Some, codes, false, true}
-use Rattle.clap.specs.Words.{App, Rule, Text, app_of, new_app, new_rule, rule_of, with_rule, with_subcommand}
-use Rattle.clap.specs.declared.builder.arg.Arg.{Arg}
-use Rattle.clap.specs.declared.builder.action.ArgAction.TheVariants.{Append}
-use Rattle.clap.specs.declared.builder.command.Command.TheViews.{out-Command}
-use Rattle.clap.specs.declared.builder.command.Command.{Command}
+use Rattle.std.specs.Prelude.{◌≡◌, [], ◌∷◌, Bool, Some, codes, false, true}
+use Rattle.clap.specs.{Words.{App, Rule, Text, new_app, new_rule, with_rule, with_subcommand}, declared.builder.{action.ArgAction.TheVariants.{Append}, command.Command.{Command, TheViews.{out-Command}}}}
 use Rattle.clap.specs.declared.builder.value_parser.ValueParser.TheVariants as parser
-
--- the argument has this rule, and isn't one of each subcommand too
-abbrev pub HasRule : Rule → Arg → Type 0
-HasRule rule a = (rule_of a ≡ rule) × (a.global ≡ false)
 
 -- help shows one name for the value
 abbrev pub path_rule : Rule
@@ -24,8 +16,7 @@ abbrev pub repeated_rule : Text → Rule
 repeated_rule name = record (option_rule name) { action = Some Append }
 
 abbrev pub with_axes : App → App
-with_axes app =
-    with_rule (with_rule (with_rule app (repeated_rule (codes "vary"))) (repeated_rule (codes "over")))
+with_axes app = with_rule (with_rule (with_rule app (repeated_rule (codes "vary"))) (repeated_rule (codes "over")))
     (repeated_rule (codes "deal"))
 
 -- the runs of a study: some commands are nothing without seeds
@@ -62,14 +53,12 @@ with_ticks app = with_rule (with_rule app (tick_rule (codes "from"))) (tick_rule
 
 -- a command that takes a scenario's file, and perhaps a network's and what is set in them
 abbrev pub with_path : Text → App
-with_path name =
-    with_rule (with_rule (with_rule (new_app name) path_rule) (option_rule (codes "network")))
+with_path name = with_rule (with_rule (with_rule (new_app name) path_rule) (option_rule (codes "network")))
     (repeated_rule (codes "set"))
 
 -- what the table of a study has
 abbrev pub with_table : App → App
-with_table app =
-    with_rule (with_rule (with_rule app (option_rule (codes "columns"))) (option_rule (codes "each")))
+with_table app = with_rule (with_rule (with_rule app (option_rule (codes "columns"))) (option_rule (codes "each")))
     (repeated_rule (codes "pairs"))
 
 -- a command that takes a path and a study
@@ -99,8 +88,7 @@ top_app = let app = new_app (codes "fdstudy") in
 
 -- the commands about one scenario
 abbrev pub with_scenario : App → App
-with_scenario app =
-    with_subcommand (with_subcommand (with_subcommand app check_app.top) letters_app.top) draw_app.top
+with_scenario app = with_subcommand (with_subcommand (with_subcommand app check_app.top) letters_app.top) draw_app.top
 
 -- and the commands about a study
 abbrev pub whole_app : App
@@ -109,7 +97,3 @@ whole_app = with_subcommand (with_subcommand (with_scenario top_app) show_app.to
 -- no argument is one of each subcommand too
 abbrev pub IsLocal : Command → Type 0
 IsLocal c = (out-Command c).has_globals ≡ false
-
--- where a command was made it is this one
-abbrev pub Makes : {E : Type 0} → App → Result Command E → Type 0
-Makes app made = IfOk made (λ c. (app_of c ≡ app) × IsLocal c)

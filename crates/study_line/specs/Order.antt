@@ -1,25 +1,11 @@
 -- What the words of a command line state.
-use Rattle.std.specs.Prelude.{◌≡◌, ◌≢◌, [], ◌∷◌, ℕ, Bool, List, Ok, Option, Some, None, true}
-use Rattle.std.specs.Prelude.{IfErr, IfOk, Result, codes, is_some, map, not, option_map, unwrap_or}
-use Rattle.std.specs.Borrow.{Bor}
-use Rattle.std.specs.List.{list_all}
-use Rattle.std.specs.Option.{option_map_or}
-use Rattle.std.specs.Str.Parse.{ParsesUnsigned}
+use Rattle.std.specs.{Prelude.{◌≡◌, ◌≢◌, [], ◌∷◌, ℕ, Bool, List, Ok, Option, Some, None, true, codes, is_some, map, not, option_map, unwrap_or}, Borrow.{Bor}, List.{list_all}, Option.{option_map_or}, Str.Parse.{ParsesUnsigned}}
 use Rattle.std.specs.declared.num.ParseIntError.{ParseIntError}
-use Rattle.clap.specs.Words.{Row, Text, subcommand_of, all_of, first_of, one_of, fault_of, IsAmong}
-use Rattle.clap.specs.declared.error.kind.ErrorKind.{ErrorKind}
-use Rattle.clap.specs.declared.error.kind.ErrorKind.TheVariants.{DisplayHelp, DisplayVersion}
-use Rattle.study_line.specs.Commands.{whole_app}
-use Rattle.study_line.specs.declared.order.Each.{Each}
+use Rattle.clap.specs.{Words.{Row, Text, subcommand_of, all_of, first_of, one_of, fault_of, IsAmong}, declared.error.kind.ErrorKind.{ErrorKind, TheVariants.{DisplayHelp, DisplayVersion}}}
+use Rattle.study_line.specs.{Commands.{whole_app}, declared.order.{Each.{Each}, GridTexts.{GridTexts}, Order.{Order}, Picture.{Picture}, SourceTexts.{SourceTexts}, StudyTexts.{StudyTexts}, WordsError.{WordsError}}}
 use Rattle.study_line.specs.declared.order.Each.TheVariants as each
-use Rattle.study_line.specs.declared.order.GridTexts.{GridTexts}
-use Rattle.study_line.specs.declared.order.Order.{Order}
 use Rattle.study_line.specs.declared.order.Order.TheVariants as order
-use Rattle.study_line.specs.declared.order.Picture.{Picture}
 use Rattle.study_line.specs.declared.order.Picture.TheVariants as picture
-use Rattle.study_line.specs.declared.order.SourceTexts.{SourceTexts}
-use Rattle.study_line.specs.declared.order.StudyTexts.{StudyTexts}
-use Rattle.study_line.specs.declared.order.WordsError.{WordsError}
 use Rattle.study_line.specs.declared.order.WordsError.TheVariants as refusal
 
 abbrev pub IsTextAt : Text → List Row → Text → Type 0
@@ -135,11 +121,9 @@ pub record StatesNothing (words : List Text) : Type 0 where
   pub taken : fault_of whole_app words ≡ []
   pub nothing : (asked : Order) → States words asked → ⊥
 
--- the words ask for help
 abbrev pub AsksHelp : List Text → Type 0
 AsksHelp words = IsAmong DisplayHelp (fault_of whole_app words)
 
--- they ask for the version
 abbrev pub AsksVersion : List Text → Type 0
 AsksVersion words = IsAmong DisplayVersion (fault_of whole_app words)
 
@@ -157,15 +141,3 @@ Explains words (refusal.NoPicture word) = StatesNothing words
 Explains words (refusal.NoEach word) = StatesNothing words
 Explains words refusal.Form = StatesNothing words
 Explains words refusal.Memory = Unit {0}
-
--- why none was read of what may be stated: there is none, or memory was refused
-abbrev pub Lacks : {X : Type 0} → (X → Type 0) → WordsError → Type 0
-Lacks {X} IsStated (refusal.NoPicture word) = (stated : X) → IsStated stated → ⊥
-Lacks {X} IsStated (refusal.NoEach word) = (stated : X) → IsStated stated → ⊥
-Lacks {X} IsStated refusal.Form = (stated : X) → IsStated stated → ⊥
-Lacks IsStated refusal.Memory = Unit {0}
-Lacks IsStated _ = ⊥
-
--- something was read that may be stated, or the error says why nothing was
-abbrev pub Reads : {X : Type 0} → (X → Type 0) → Result X WordsError → Type 0
-Reads IsStated read = IfOk read IsStated × IfErr read (Lacks IsStated)

@@ -1,7 +1,7 @@
 //! The command line, with its help.
-ghost use Rattle.std.specs.Prelude.{Some};
-ghost use Rattle.clap.specs.Words.{App, Rule, with_rule, with_subcommand};
-ghost use Rattle.study_line.specs.Commands.{HasRule, Makes, repeated_rule, check_app, draw_app, letters_app, option_rule, path_rule, point_rule, run_rule, show_app, study_app, sweep_app, threads_rule, tick_rule, whole_app, with_grid, with_path};
+ghost use Rattle.{std.specs.Prelude.{Some}, clap.specs.Words.{App, Rule, with_rule, with_subcommand}};
+ghost use Rattle.study_line.specs.Inside.Private.{HasRule, Makes};
+ghost use Rattle.study_line.specs.Commands.{repeated_rule, check_app, draw_app, letters_app, option_rule, path_rule, point_rule, run_rule, show_app, study_app, sweep_app, threads_rule, tick_rule, whole_app, with_grid, with_path};
 
 use crate::version::version_line;
 use clap::builder::ValueParser;

@@ -1,9 +1,9 @@
 //! Orders: the tasks that a command line asks for.
-ghost use Rattle.std.specs.Prelude.{◌≡◌, List, IfOk, IfErr, map, codes};
-ghost use Rattle.std.specs.List.{list_all};
+ghost use Rattle.std.specs.{Prelude.{◌≡◌, List, IfOk, IfErr, map, codes}, List.{list_all}};
 ghost use Rattle.clap.specs.Words.{Text, rows_of, found_of, subcommand_rows_of, fault_of, HasKind};
 ghost use Rattle.study_line.specs.Commands.{whole_app};
-ghost use Rattle.study_line.specs.Order.{AreSourcesAt, Explains, IsEachAt, IsGridAt, IsNumberAt, IsPictureAt, IsStudyAt, IsTextAt, Lacks, MayBeNumberAt, MayBeStudyAt, MayBeTextAt, MayBeTickAt, Reads, States, StatesFound, StatesIn, is_missing, study_options, texts_at};
+ghost use Rattle.study_line.specs.Order.{AreSourcesAt, Explains, IsEachAt, IsGridAt, IsNumberAt, IsPictureAt, IsStudyAt, IsTextAt, MayBeNumberAt, MayBeStudyAt, MayBeTextAt, MayBeTickAt, States, StatesFound, StatesIn, is_missing, study_options, texts_at};
+ghost use Rattle.study_line.specs.Inside.Private.{Lacks, Reads};
 
 use crate::command::command;
 use clap::ArgMatches;

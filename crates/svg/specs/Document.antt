@@ -1,17 +1,13 @@
 -- A picture as a document: shapes as elements of SVG, a line each; texts in XML 1.0, a space for a control character.
 use Rattle.std.specs.Prelude.{◌≡◌, ℕ, List, [], ◌∷◌, ◌++◌, flat_map, codes, decimal, nat_lt, ◌==◌, if◌then◌else◌}
-use Rattle.svg.specs.declared.shape.Shape.{Shape}
-use Rattle.svg.specs.declared.class.Class.{Class}
+use Rattle.svg.specs.declared.{shape.{Shape.{Shape}, Anchor.{Anchor}, Point.{Point}}, class.Class.{Class}}
 use Rattle.svg.specs.declared.class.Class.TheVariants as class
-use Rattle.svg.specs.declared.shape.Anchor.{Anchor}
 use Rattle.svg.specs.declared.shape.Anchor.TheVariants as anchor
-use Rattle.svg.specs.declared.shape.Point.{Point}
 use Rattle.svg.specs.declared.shape.Shape.TheVariants as shape
 
 -- what a byte is written as: 38 is `&`, 60 and 62 `<` and `>`, 34 and 39 the quotation mark and the apostrophe
 abbrev pub written : ℕ → List ℕ
-written byte =
-    if byte == 38 then codes "&amp;"
+written byte = if byte == 38 then codes "&amp;"
     else if byte == 60 then codes "&lt;"
     else if byte == 62 then codes "&gt;"
     else if byte == 34 then codes "&quot;"
@@ -62,14 +58,12 @@ element start class numbers = opening start class numbers ++ codes "/>\n"
 
 -- an element from one point to another
 abbrev pub line_text : (start : List ℕ) → Class → (from to : Point) → List ℕ
-line_text start class from to =
-    element start class
+line_text start class from to = element start class
     ((codes "x1", from.x) ∷ (codes "y1", from.y) ∷ (codes "x2", to.x) ∷ (codes "y2", to.y) ∷ [])
 
 -- heads and crosses are drawn once in each document, and are referred to
 abbrev pub shape_text : Shape → List ℕ
-shape_text (shape.Rect class corner width height) =
-    element (codes "<rect") class
+shape_text (shape.Rect class corner width height) = element (codes "<rect") class
     ((codes "x", corner.x) ∷ (codes "y", corner.y) ∷ (codes "width", width) ∷ (codes "height", height) ∷ [])
 shape_text (shape.Line class from to) = line_text (codes "<line") class from to
 shape_text (shape.Arrow class from to) = line_text (codes "<line marker-end=\"url(#head)\"") class from to
@@ -84,13 +78,11 @@ shape_text (shape.Text class at anchor caption) =
 
 -- its size in user units
 abbrev pub view_box_text : (width height : ℕ) → List ℕ
-view_box_text width height =
-    codes " viewBox=\"0 0 " ++ (decimal width ++ (codes " " ++ (decimal height ++ codes "\"")))
+view_box_text width height = codes " viewBox=\"0 0 " ++ (decimal width ++ (codes " " ++ (decimal height ++ codes "\"")))
 
 -- what stands before the shapes: the size, also in pixels unless whoever shows it says another, and a style sheet
 abbrev pub head_text : (style : List ℕ) (width height : ℕ) → List ℕ
-head_text style width height =
-    codes "<svg xmlns=\"http://www.w3.org/2000/svg\" role=\"img\""
+head_text style width height = codes "<svg xmlns=\"http://www.w3.org/2000/svg\" role=\"img\""
     ++ (view_box_text width height
     ++ (flat_map attribute ((codes "width", width) ∷ (codes "height", height) ∷ []) ++ (codes ">\n" ++ style)))
 

@@ -1,9 +1,8 @@
 -- How a sweep comes on: one more run is in, and one more unit's rows went out.
 use Rattle.sweep.proofs.Words.{◌≡◌, ℕ, zero, suc, ◌+◌, ◌-◌, ◌*◌, ◌/◌, ◌%◌, ◌≤◌, ◌<◌, List, [], ◌∷◌, ◌++◌, length, take, get_or, Option, refl, sym, ap, ◌∙◌, subst, arith, append-nil, AllZip, flat_map, range_with_len, take-length, flat_map-append, take_more, length-take, SourcesRecord, Wrote, WrotePart, wrote_both, wrote_then_part, GridRecord, RunRecord, runs, LayoutRecord, runs_each, AreNumbersAt, AreNumbersFrom, Trial, Text, point_at, run_at, unit_point, unit_runs, unit_first, IsTrialOf, AreRowsOf, HasRowsOf, AreAdded, WroteUpTo, WroteFrontUpTo, next_run, AreNumbers, AreUnitSums, AddsRun, Group, Rows, RunNumbers, UnitSums, AreRowsOfSums, AllZip-long}
+use Rattle.sweep.proofs.{Numbered.{run_is, point_is, runs_length}, Zipped.{zip_push, range_more}}
 use Rattle.sweep.specs.declared.layout.Rows.TheVariants as kind
 use Rattle.sweep.specs.declared.progress.Progress.{Progress}
-use Rattle.sweep.proofs.Numbered.{run_is, point_is, runs_length}
-use Rattle.sweep.proofs.Zipped.{zip_push, range_more}
 
 -- one of the runs of a unit, from 0
 abbrev unit_run : Rows → GridRecord → (unit run : ℕ) → RunRecord

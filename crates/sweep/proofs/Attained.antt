@@ -1,13 +1,9 @@
 -- The bound of a row is that of some detection.
 use Rattle.sweep.proofs.Words.{◌≡◌, ◌⊎◌, inl, inr, ℕ, zero, suc, ◌-◌, ◌≤◌, Bool, true, false, cond, not, nat_lt, Option, None, Some, unwrap_or, List, [], ◌∷◌, map, refl, sym, ap, ◌∙◌, subst, arith, true≢false, All, filter, flat_map, list_any, le-ltb, lt-ltb, ltb-false, eqb-true, ◌==◌, numbers_to, others, EntryRecord, PairMeasures, Record, Finished, Group, Trial, LayerSums, greater, greatest, done_on, AreFitting, counts_on, counted_pairs, is_none, All-head, All-tail, both_true, and_true, is_process, is_watched, is_other, is_chosen, crash_tick, is_crashed, is_correct, suspects, least_from, trusts, watch_of, delay_after, is_measured, layer_measures, pair_measures, Na, AreBounds, IsAwaited, SomeAwaited, TellsBound, detection_bound, is_in, bound_after, bounds, is_to_detect, DetectionBounds}
-use Rattle.trace_laws.specs.History.{IsIn}
-use Rattle.trace_laws.proofs.Steps.{in_left, in_right}
-use Rattle.judges.proofs.Members.{in_filter, in_image, of_image}
-use Rattle.detector_bounds.specs.Bounds.{detected_at}
+use Rattle.sweep.proofs.{Bounding.{known, pair_awaited, told_bound}, Greatest.{has_greatest}, Lasted.{each_measure}}
+use Rattle.{trace_laws.specs.History.{IsIn}, trace_laws.proofs.Steps.{in_left, in_right}}
+use Rattle.{judges.proofs.Members.{in_filter, in_image, of_image}, detector_bounds.specs.Bounds.{detected_at}}
 use Rattle.promised.proofs.Elements.{in_chosen, in_each, none_passes, of_chosen, of_each, of_filter, some_passes}
-use Rattle.sweep.proofs.Bounding.{known, pair_awaited, told_bound}
-use Rattle.sweep.proofs.Greatest.{has_greatest}
-use Rattle.sweep.proofs.Lasted.{each_measure}
 
 -- ---- of lists
 

@@ -1,8 +1,7 @@
 -- Words that say blocks of pairs, up to the first that says none.
 use Rattle.sweep.proofs.Words.{◌≡◌, ℕ, ◌+◌, ◌<◌, Result, Ok, Err, List, [], ◌∷◌, ◌++◌, length, map, take, drop, get_or, sym, ap, ◌∙◌, arith, All, drop_more, length-map, map_more, map_push, take-append-drop, get_or-map, IsOk, is_ok, Word, SayBlocks, SayNoBlocks, block_said}
-use Rattle.sweep.specs.declared.error.GroupError.{GroupError}
+use Rattle.sweep.specs.declared.{error.GroupError.{GroupError}, group.PairBlock.{PairBlock}}
 use Rattle.sweep.specs.declared.error.GroupError.TheVariants as error
-use Rattle.sweep.specs.declared.group.PairBlock.{PairBlock}
 
 module _ (words : List Word) (i : ℕ) (blocks : List PairBlock) (lt : i < length words) (said : SayBlocks (take i words) blocks) where
   -- one more word, which says a block

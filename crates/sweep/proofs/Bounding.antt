@@ -1,15 +1,10 @@
 -- The bounds of detections: what is counted of them, and that no detection is later.
 use Rattle.sweep.proofs.Words.{◌≡◌, ◌≢◌, ◌⊎◌, inl, inr, ℕ, zero, suc, ◌+◌, ◌-◌, ◌*◌, ◌%◌, ◌<◌, ◌≤◌, min, Bool, true, false, cond, not, ◌||◌, nat_lt, Option, None, Some, unwrap_or, List, [], ◌∷◌, ◌++◌, length, map, take, get_or, refl, sym, ap, ◌∙◌, subst, arith, true≢false, All, cons_option, count_by, filter, filter_map, flat_map, list_any, map-append, take_more, filter-append, list_any-append, filter_map-append, sum_by-append, le-ltb, ltb-true, ltb-false, le_trans, append-nil, is_some, ◌==◌, All-filter, take-append_seam, mul-le-mul_right, div-add-mod', mod_below, EntryRecord, PairMeasures, Record, IsInRange, Finished, Group, Trial, LayerSums, greater, greatest, done_on, all_pairs, all_detections, AreFitting, IsDistribution, counts_on, counted_of, counted_pairs, detections, detection_time, is_undetected, times_of, is_none, All-cons, All-head, All-nil, All-tail, All-take, both_true, is_watched, crash, link, crash_tick, is_crashed, is_correct, suspects, least_from, detected_by, last_letter, grown, trusts, watch_of, IsBounded, HasGrounds, all_measures, delay_after, is_measured, layer_measures, pair_measures, AreTrusts, most_trusts, trusts_of, Na, NoTick, At, Trusts, one_layer, two_layers, AreBounds, IsAwaited, detection_bound, is_in, bounds_plus, of_bound, IsPair, bound_after, bounds, bounds_of, bounds_on, is_to_detect, DetectionBounds, Distribution}
-use Rattle.process_api.specs.declared.numbers.DetectorNumbers.{DetectorNumbers}
-use Rattle.process_api.specs.declared.numbers.DetectorNumbers.TheVariants.{Timeout, Freshness}
-use Rattle.process_api.specs.declared.numbers.TimeoutNumbers.{TimeoutNumbers}
-use Rattle.scenario_record.specs.Ranges.{AreInRange}
-use Rattle.scenario_record.specs.declared.link.Link.{Link}
+use Rattle.sweep.proofs.{Added.{bounds_added}, Greatest.{greatest_both}, Lasted.{each_measure}}
+use Rattle.process_api.specs.declared.numbers.{DetectorNumbers.{DetectorNumbers, TheVariants.{Timeout, Freshness}}, TimeoutNumbers.{TimeoutNumbers}}
+use Rattle.scenario_record.specs.{Ranges.{AreInRange}, declared.link.Link.{Link}}
 use Rattle.detector_bounds.specs.Detected.{multiple_from}
 use Rattle.reporting.specs.declared.pair_measures.Detection.{Detection}
-use Rattle.sweep.proofs.Added.{bounds_added}
-use Rattle.sweep.proofs.Greatest.{greatest_both}
-use Rattle.sweep.proofs.Lasted.{each_measure}
 
 -- ---- what is counted
 

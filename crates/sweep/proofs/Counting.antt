@@ -1,12 +1,7 @@
 -- Values that a map counts, and their percentiles.
 use Rattle.sweep.proofs.Words.{◌≡◌, ℕ, ◌+◌, ◌*◌, ◌<◌, ◌≤◌, Bool, true, false, cond, Some, None, List, [], ◌∷◌, ◌++◌, length, sym, ap, ◌∙◌, refl, subst, arith, suc, min, ◌-◌, ◌^◌, unwrap_or, nat_le, le-leb, ◌==◌, insert_entry, is_at, count_by, sum_by, AllByRecursion, Contains, keys_of, lookup, nat_cmp, match_ordering, is_eq, lt-leb, leb-true, leb-false, eqb-true, sum_by-cons, sum_by-append, count_by-le-length, passing, most_values, IsRanked, IsPercentile, at_most, eq-eqb}
-use Rattle.std.specs.List.Sorted.{IsStrictlySortedBy}
-use Rattle.std.specs.declared.cmp.Ordering.{Ordering}
-use Rattle.std.specs.declared.cmp.Ordering.TheVariants.{Less, Equal, Greater}
-use Rattle.std.proofs.lemmas.Cmp.{nat_cmp_total, ranked}
-use Rattle.std.proofs.lemmas.Map.{lookup-none}
-use Rattle.std.proofs.lemmas.Map.Entries.{none_below_head}
-use Rattle.std.proofs.lemmas.Map.Keys.{sorted_head, sorted_tail}
+use Rattle.std.specs.{List.Sorted.{IsStrictlySortedBy}, declared.cmp.Ordering.{Ordering, TheVariants.{Less, Equal, Greater}}}
+use Rattle.std.proofs.lemmas.{Cmp.{nat_cmp_total, ranked}, Map.{lookup-none, Entries.{none_below_head}, Keys.{sorted_head, sorted_tail}}}
 
 -- ---- one more of a value
 

@@ -1,10 +1,8 @@
 -- How a sweep ends: what went out, and which run was refused.
 use Rattle.sweep.proofs.Words.{◌≡◌, ℕ, ◌+◌, ◌-◌, ◌*◌, ◌/◌, ◌%◌, ◌<◌, ◌≤◌, ⊎_elim, inl, inr, List, [], ◌++◌, length, take, Option, refl, sym, ap, ◌∙◌, subst, arith, append-nil, Contains, range_with_len, slice_index_or, lt_of_mul-lt-mul_right, mul-le-mul_right, length-range_with_len, get_or-range_with_len, div-add-mod', mod_below, SourcesRecord, Wrote, WrotePart, wrote_both, wrote_then_part, GridRecord, runs, ShardRecord, LayoutRecord, unit_count, IsReadyAt, IsFirstRefusal, WroteUpTo, StopsBelow, HeaderFails, Text, header_of, numbers_of, units_in, units_of, HasRowsOf, IsTextOf, Group, SweepError, StopsInPoints}
+use Rattle.sweep.proofs.{Numbered.{point_is, run_is, number_below}, Zipped.{range_taken}, Units.{unit_range, unit_count-sub}}
 use Rattle.sweep.specs.Outcome.{IsBefore, IsReady, CantRun, IsFirstUnready, AreReady, CantBeRun, WroteStudy, BreaksOff, RefusesRun}
 use Rattle.sweep.specs.declared.error.SweepError.TheVariants as error
-use Rattle.sweep.proofs.Numbered.{point_is, run_is, number_below}
-use Rattle.sweep.proofs.Zipped.{range_taken}
-use Rattle.sweep.proofs.Units.{unit_range, unit_count-sub}
 
 module _ (sources : SourcesRecord) (g : GridRecord) (shard : ShardRecord) (layout : LayoutRecord)
     {O : Type 0} (told : O → Option Text) (failed : O → ℕ) where

@@ -1,7 +1,6 @@
 -- The numbers of the first runs in which something is so.
 use Rattle.sweep.proofs.Words.{◌≡◌, ℕ, ◌+◌, ◌<◌, ◌≤◌, max, Bool, true, false, cond, is_some, Option, None, Some, List, [], ◌∷◌, ◌++◌, length, refl, sym, ap, ◌∙◌, arith, nat_lt, ◌||◌, ◌==◌, true≢false, zero-add, count_by, flat_map, list_any, lt-ltb, ltb-true, ltb-false, list_any-append, sum_by-cons, first_of, first_with, is_above, first_number, done_on, all_detections, does, first_after, AreFirstRuns, AreRunCounts, Finished, detections, has_mistake, do_disagree, run_outcomes, greater, greatest, Trial, Group, FirstRuns, RunCounts}
-use Rattle.sweep.proofs.Greatest.{greatest_both, has, has_greatest, has_none_above}
-use Rattle.sweep.proofs.Layered.{detections_both}
+use Rattle.sweep.proofs.{Greatest.{greatest_both, has, has_greatest, has_none_above}, Layered.{detections_both}}
 
 -- of a list with one more
 pub first_more : {X : Type 0} (p : X → Bool) (n : ℕ) (xs : List X) (x : X)

@@ -1,7 +1,6 @@
 -- Groups of pairs, one after the other: their numbers, their sums and their rows.
 use Rattle.sweep.proofs.Words.{◌≡◌, ℕ, zero, suc, ◌+◌, ◌<◌, ◌≤◌, ⊎_elim, List, [], ◌∷◌, ◌++◌, length, min, set, take, get_or, get_or_default, get_or-set_other, get_or-set_same, length-set, cases_lt, refl, sym, ap, ◌∙◌, subst, arith, append-nil, append_assoc, AllZip, flat_map, take-length, take_more, flat_map-append, GridRecord, LayoutRecord, Trial, Text, lead_of, AddsOneMore, AreGroupNumbers, AreSums, AreRowsOfGroup, most_runs, Group, GroupNumbers, UnitSums, AllZip-long, AddsRowsOfGroup, AddsRowsOfSums, text_of, PointSums}
-use Rattle.sweep.specs.declared.table.Table.{Table}
-use Rattle.sweep.proofs.Zipped.{zip_push}
+use Rattle.{sweep.proofs.Zipped.{zip_push}, sweep.specs.declared.table.Table.{Table}}
 
 -- ---- two lists in step
 

@@ -1,6 +1,5 @@
 -- What a watcher was told: of one more point, or of nothing more.
-use Rattle.sweep.proofs.Words.{ℕ, List, [], ◌∷◌, ◌++◌, ◌≡◌, refl, sym, subst, not, ◌==◌, append-nil, filter-append, HaveJoined, joined_then, SourcesRecord, GridRecord, AreLimited, HeardLimits, HeardSomeLimits, told_of}
-use Rattle.sweep.proofs.Zipped.{zip_push}
+use Rattle.sweep.proofs.{Words.{ℕ, List, [], ◌∷◌, ◌++◌, ◌≡◌, refl, sym, subst, not, ◌==◌, append-nil, filter-append, HaveJoined, joined_then, SourcesRecord, GridRecord, AreLimited, HeardLimits, HeardSomeLimits, told_of}, Zipped.{zip_push}}
 
 module _ {W : Type 0} (heard : W → List (ℕ × ℕ) → W → Type 0) (sources : SourcesRecord) (g : GridRecord) (old now new : W) (points : List ℕ) where
   pub heard_after : HaveJoined heard old now [] → HeardLimits heard now new sources g points → HeardLimits heard old new sources g points

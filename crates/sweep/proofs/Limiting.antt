@@ -1,11 +1,8 @@
 -- How the count of runs that passed their limit comes on.
 use Rattle.sweep.proofs.Words.{◌≡◌, ℕ, ◌+◌, ◌-◌, ◌*◌, ◌<◌, ◌≤◌, cond, Result, Ok, IfOk, List, [], ◌∷◌, ◌++◌, length, map, take, get_or, sym, ap, ◌∙◌, subst, arith, AllZip, count_by, range_with_len, slice_index_or, lt_of_mul-lt-mul_right, take-length, length-map, sum_by-append, HaveJoined, SourcesRecord, GridRecord, RunRecord, runs, is_limited, LayoutRecord, AreUnderWay, next_counted, IsAnswerAt, AreNumbersAt, AreNumbersFrom, Trial, point_at, IsTrialOf, told_of, AreLimited, HeardLimits, HeardSomeLimits, Group, RunNumbers, get_or-map}
-use Rattle.sweep.specs.Inside.Progress.{AreCounted, numbers_in}
+use Rattle.sweep.proofs.{Advancing.{next_trial}, Heard.{heard_same, heard_point}, Zipped.{range_more, range_taken}}
+use Rattle.sweep.specs.{Inside.Progress.{AreCounted, numbers_in}, declared.limits.Limits.{Limits}}
 use Rattle.sweep.specs.declared.layout.Rows.TheVariants as kind
-use Rattle.sweep.specs.declared.limits.Limits.{Limits}
-use Rattle.sweep.proofs.Advancing.{next_trial}
-use Rattle.sweep.proofs.Heard.{heard_same, heard_point}
-use Rattle.sweep.proofs.Zipped.{range_more, range_taken}
 
 -- ---- one run
 

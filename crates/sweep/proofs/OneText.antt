@@ -1,10 +1,8 @@
 -- A study has one text: the runs have one result each, and the rows are told by them.
 use Rattle.sweep.proofs.Words.{◌≡◌, ℕ, ◌<◌, ◌++◌, List, length, refl, sym, ap, ◌∙◌, subst, arith, flat_map, SourcesRecord, Record, Chosen, GridRecord, RunRecord, ShardRecord, RunResult, finished, limited, IsResult, Trial, LayoutRecord, Text, AreRowsFor, point_at, unit_point, unit_runs, unit_first, lead_of, header_of, units_of, IsTrialOf, AreRowsOf, HasRowsOf, HasOneText}
-use Rattle.trace_laws.specs.Setting.{setting_of}
-use Rattle.trace_laws.proofs.Closed.{one_trace}
-use Rattle.study.specs.Placed.{sources_of_run}
+use Rattle.{sweep.proofs.OneRow.{one_list, one_rows_for}, trace_laws.specs.Setting.{setting_of}}
+use Rattle.{trace_laws.proofs.Closed.{one_trace}, study.specs.Placed.{sources_of_run}}
 use Rattle.study.proofs.Texts.{one_scenario}
-use Rattle.sweep.proofs.OneRow.{one_list, one_rows_for}
 
 one_result : (S : Record) (a b : RunResult) → IsResult S a → IsResult S b → a ≡ b
 one_result S (finished t) (finished u) a b = ap finished (one_trace (setting_of S) u t b.is_trace a.is_trace)

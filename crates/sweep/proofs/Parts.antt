@@ -1,12 +1,9 @@
 -- What one run gives, layer by layer.
 use Rattle.sweep.proofs.Words.{◌≡◌, ℕ, zero, suc, ◌+◌, ◌*◌, ◌/◌, ◌^◌, ◌≤◌, Bool, true, false, ◌&&◌, cond, is_some, None, Some, List, [], ◌∷◌, ◌++◌, length, sym, ap, ◌∙◌, refl, subst, arith, append-nil, length-append, map, unwrap_or, true≢false, le_trans, zero-add, nat_lt, All, cons_option, count_by, filter_map, flat_map, list_all, sum_by, mul-le-mul_right, length-map, All-filter, sum_by-le, length-filter, count_by-le-length, end_of, verdicts, Verdicts, EntryRecord, numbers_to, others, AreFindings, RunFindings, Record, IsInRange, PairMeasures, of_verdicts, has_layer, on_layer, finished_of, done_on, all_durations, all_detections, last_decisions, top_rounds, is_limited, AreDoneSums, AreRunCounts, AreVerdictCounts, AreTraceSums, ArePairSums, AreDecisionSums, most_of, most_mistakes, IsLayerWithin, AreTracesWithin, ArePairsWithin, AreDecisionsWithin, Finished, counts_on, counted_of, counted_pairs, pair_ticks, mistakes, has_mistake, durations, detections, detection_time, is_undetected, has_decided, do_disagree, is_to_decide, deciding_of, do_all_decide, is_undecided, last_decision, top_round, run_outcomes, deciding, Trial, done_run, AreFitting, AreLayerFindings, Group, DecisionSums, LayerSums, PairSums, suspects, layer_measures, pair_measures, starts, one_layer, two_layers, HasGrounds, All-cons, All-nil, AreBounds, AreOwnSums, bounds, DetectionBounds}
-use Rattle.std.proofs.lemmas.List.Concat.{length-flat_map}
+use Rattle.{sweep.proofs.{Lasted.{each_measure}, Layered.{few_mapped}}, std.proofs.lemmas.List.Concat.{length-flat_map}}
 use Rattle.judges.specs.Outcomes.{outcome, outcomes}
 use Rattle.process_api.proofs.Numbering.{length-numbers_to, length-filter_to}
-use Rattle.reporting.specs.Measures.{count_below}
-use Rattle.reporting.specs.declared.summary.Summary.{Summary}
-use Rattle.sweep.proofs.Lasted.{each_measure}
-use Rattle.sweep.proofs.Layered.{few_mapped}
+use Rattle.reporting.specs.{Measures.{count_below}, declared.summary.Summary.{Summary}}
 
 module _ (S : Record) (trace : List EntryRecord) where
   -- how many pairs a layer has

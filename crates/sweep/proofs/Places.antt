@@ -1,7 +1,6 @@
 -- Places of names, the nearest name, and fields by their places.
 use Rattle.sweep.proofs.Words.{◌≡◌, ℕ, zero, suc, ◌+◌, ◌<◌, ◌≤◌, Bool, cond, Option, None, Some, is_some, not, List, [], ◌∷◌, ◌++◌, length, map, take, drop, get_or, refl, sym, ap, ◌∙◌, subst, arith, string_bytes, String, Bor, All, position, position_or_len, IsSome, drop_more, get_or_default, length-map, map_more, map_push, take-append-drop, Global, edits, place_of, IsNearest, IsUnknown, TellsOf, IsRefusal, Text, get_or-map, field_at}
-use Rattle.std.proofs.Math.Dec.{ltb}
-use Rattle.sweep.specs.declared.error.LayoutError.{LayoutError}
+use Rattle.{std.proofs.Math.Dec.{ltb}, sweep.specs.declared.error.LayoutError.{LayoutError}}
 use Rattle.sweep.specs.declared.error.LayoutError.TheVariants as error
 
 -- ---- fields

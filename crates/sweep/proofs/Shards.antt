@@ -1,8 +1,6 @@
 -- The texts of shards, one after the other.
 use Rattle.sweep.proofs.Words.{◌≡◌, ℕ, zero, suc, ◌+◌, ◌≤◌, ◌++◌, List, [], ◌∷◌, length, refl, sym, ap, ◌∙◌, subst, arith, append_assoc, append-nil, cond, ne_eqb, AllZip, flat_map, range_with_len, flat_map-append, SourcesRecord, GridRecord, points, ShardRecord, LayoutRecord, Text, header_text, header_of, names_of, numbers_of, units_in, units_of, AreRowsOf, HasRowsOf, IsStudyText, ShardsMakeWhole}
-use Rattle.study.proofs.Blocks.{all_blocks}
-use Rattle.sweep.proofs.Units.{units_joined}
-use Rattle.sweep.proofs.Zipped.{zip_append}
+use Rattle.{sweep.proofs.{Units.{units_joined}, Zipped.{zip_append}}, study.proofs.Blocks.{all_blocks}}
 
 module _ (sources : SourcesRecord) (g : GridRecord) (layout : LayoutRecord) where
   no_rows : HasRowsOf sources g layout [] []

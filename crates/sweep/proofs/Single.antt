@@ -1,8 +1,7 @@
 -- What one element of a list adds.
 use Rattle.sweep.proofs.Words.{◌≡◌, ℕ, suc, ◌+◌, ◌*◌, ◌^◌, ◌<◌, ◌≤◌, Bool, true, false, cond, not, ◌&&◌, ◌==◌, ◌||◌, Option, None, Some, List, [], ◌∷◌, ◌++◌, length, take, drop, get_or, sum, sym, ap, ◌∙◌, refl, subst, arith, true≢false, cons_option, count_by, filter_map, list_all, list_any, eqb-true, ne_eqb, drop_more, take-append-drop, take_more, filter_map-append, list_any_at, list_any_none, sum_by-cons, count_by-le-length, Outcome, decisions_plus, of_outcome, tick_or_zero, differ, AreDecisionSums, AreDecisionsWithin, decision_tick, do_differ, DecisionSums}
+use Rattle.sweep.proofs.{Added.{decisions_added, decisions_within}, Greatest.{greatest_one}}
 use Rattle.std.proofs.lemmas.Bool.Decides.{nat_tests}
-use Rattle.sweep.proofs.Added.{decisions_added, decisions_within}
-use Rattle.sweep.proofs.Greatest.{greatest_one}
 
 -- of the first elements, with one more
 pub gathered_more : {X Y : Type 0} (h : X → Option Y) (xs : List X) (i : ℕ) (x : X) → i < length xs → x ≡ get_or xs i x → filter_map h (take (i + 1) xs) ≡ filter_map h (take i xs) ++ cons_option (h x) []

@@ -59,8 +59,9 @@ pub use Rattle.trace_laws.specs.Taken.{HaveJoined}
 pub use Rattle.sweep.specs.ColumnTable.{Column, column_names, columns_of_detections, columns_of_mistakes, columns_of_outcomes, number_of, reaches}
 unfoldable pub use Rattle.sweep.specs.ColumnTable.{columns_of_runs, standard_error}
 pub use Rattle.sweep.specs.Columns.{AreBounds, AreColumns, AreDecisionSums, AreDoneSums, AreFirstRuns, AreLayerSums, ArePairSums, AreRunCounts, AreTraceSums, AreVerdictCounts, IsAwaited, IsDistribution, SomeAwaited, TellsBound, all_detections, all_durations, all_pairs, detection_bound, does, done_on, finish_of, finished_of, first_after, first_number, has_layer, is_limited, last_decisions, on_layer, over, top_rounds}
-pub use Rattle.sweep.specs.Percentile.{CountsMore, passing, IsPercentile, IsRanked, at_most, greater, greatest}
-pub use Rattle.sweep.specs.StudyText.{AddsRowsOfGroup, AddsRowsOfSums, AreRowsOfSums, IsBetweenLines, text_of, AreRowsOf, HasOneText, HasRowsOf, IsStudyText, IsTextOf, IsTrialOf, ShardsMakeWhole, header_of, lead_names, lead_of, names_of, numbers_of, point_at, run_at, unit_first, unit_point, unit_runs, units_in, units_of, values}
+pub use Rattle.sweep.specs.Inside.Private.{CountsMore, AddsRowsOfGroup, AreRowsOfSums}
+pub use Rattle.sweep.specs.Percentile.{passing, IsPercentile, IsRanked, at_most, greater, greatest}
+pub use Rattle.sweep.specs.StudyText.{AddsRowsOfSums, IsBetweenLines, text_of, AreRowsOf, HasOneText, HasRowsOf, IsStudyText, IsTextOf, IsTrialOf, ShardsMakeWhole, header_of, lead_names, lead_of, names_of, numbers_of, point_at, run_at, unit_first, unit_point, unit_runs, units_in, units_of, values}
 pub use Rattle.sweep.specs.Fitting.{AreDecisionsWithin, ArePairsWithin, AreTracesWithin, IsLayerWithin, most_mistakes, most_of, most_runs, most_values}
 pub use Rattle.sweep.specs.GroupWords.{SayBlocks, SayNoBlocks, block_of, block_said, side_said}
 pub use Rattle.sweep.specs.Groups.{group_names, is_in}
@@ -70,7 +71,8 @@ pub use Rattle.sweep.specs.Layout.{IsNearest, IsRefusal, IsUnknown, LayoutRecord
 pub use Rattle.sweep.specs.OneRun.{Finished, bound_after, bounds, bounds_of, bounds_on, counted_of, counted_pairs, counts_on, decided_value, deciding, deciding_of, decision_tick, detection_time, detections, do_all_decide, do_differ, do_disagree, durations, has_decided, has_mistake, is_to_decide, is_to_detect, is_undecided, is_undetected, last_decision, mistakes, noted_round, pair_ticks, run_outcomes, times_of, top_round}
 pub use Rattle.sweep.specs.Results.{AreAnswers, ArePlaces, IsPlaced, with_answers, with_columns, IsResult, RunResult, Trial, done_run, finished, limited, limited_run}
 unfoldable pub use Rattle.sweep.specs.Layout.{layer_text}
-pub use Rattle.sweep.specs.Sums.{AddsOneMore, AddsRun, AreFitting, AreGroupNumbers, AreLayerFindings, AreLayerNumbers, AreNumbers, AreOfLimited, AreOfNoLayer, AreSums, AreUnitSums}
+pub use Rattle.sweep.specs.Inside.Sums.{AddsOneMore, AreLayerFindings, AreOfLimited, AreOfNoLayer}
+pub use Rattle.sweep.specs.Sums.{AddsRun, AreFitting, AreGroupNumbers, AreLayerNumbers, AreNumbers, AreSums, AreUnitSums}
 pub use Rattle.sweep.specs.Outcome.{AreLimited, HeardLimits, HeardSomeLimits, told_of}
 pub use Rattle.sweep.specs.declared.columns.Columns.{Columns}
 pub use Rattle.sweep.specs.declared.columns.DecisionSums.{DecisionSums}

@@ -1,11 +1,6 @@
 -- The columns of a row from the layer on.
-use Rattle.std.specs.Prelude.{ℕ, ◌+◌, ◌-◌, ◌*◌, ◌==◌, Bool, nat_le, nat_lt, if◌then◌else◌, Option, None, Some, List, [], ◌∷◌, ◌++◌, map, codes}
-use Rattle.std.specs.List.{position, range_with_len}
-use Rattle.sweep.specs.Columns.{detection_bound}
-use Rattle.sweep.specs.declared.column_table.Told.{Told}
-use Rattle.sweep.specs.declared.column_table.Told.TheVariants.{All, Count, Sum, IfAny}
-use Rattle.sweep.specs.declared.columns.Columns.{Columns}
-use Rattle.sweep.specs.declared.columns.LayerSums.{LayerSums}
+use Rattle.std.specs.{Prelude.{ℕ, ◌+◌, ◌-◌, ◌*◌, ◌==◌, Bool, nat_le, nat_lt, if◌then◌else◌, Option, None, Some, List, [], ◌∷◌, ◌++◌, map, codes}, List.{position, range_with_len}}
+use Rattle.sweep.specs.{Columns.{detection_bound}, declared.{column_table.Told.{Told, TheVariants.{All, Count, Sum, IfAny}}, columns.{Columns.{Columns}, LayerSums.{LayerSums}}}}
 
 -- ---- the standard error of a sum of the numbers of so many runs, whose squares add up to this
 
@@ -30,8 +25,7 @@ Column = List ℕ × (Columns → Told)
 
 -- those of the runs on a layer, their traces and letters
 unfoldable pub columns_of_runs : (layer : ℕ) → List Column
-columns_of_runs layer =
-    (codes "layer", λ c. All layer)
+columns_of_runs layer = (codes "layer", λ c. All layer)
     ∷ (codes "runs", λ c. All c.sums.runs)
     ∷ (codes "limited", λ c. All c.sums.limited)
     ∷ (codes "entries", λ c. Sum c.sums.traces.entries)
@@ -41,8 +35,7 @@ columns_of_runs layer =
 
 -- those of the mistakes, and the ticks between them
 unfoldable pub columns_of_mistakes : List Column
-columns_of_mistakes =
-    (codes "pair_ticks", λ c. Sum c.sums.pair_ticks)
+columns_of_mistakes = (codes "pair_ticks", λ c. Sum c.sums.pair_ticks)
     ∷ (codes "mistakes", λ c. Sum c.sums.pairs.mistakes)
     ∷ (codes "mistake_ticks", λ c. Sum c.sums.pairs.mistake_ticks)
     ∷ (codes "mistake_recurrence", λ c. IfAny c.mistake_recurrence)
@@ -60,10 +53,8 @@ columns_of_mistakes =
     ∷ (codes "good_count", λ c. Sum c.sums.pairs.good_count)
     ∷ []
 
--- those of the detections
 unfoldable pub columns_of_detections : List Column
-columns_of_detections =
-    (codes "detections", λ c. Sum c.detections.count)
+columns_of_detections = (codes "detections", λ c. Sum c.detections.count)
     ∷ (codes "undetected", λ c. Sum c.sums.pairs.undetected)
     ∷ (codes "at_once", λ c. Sum c.sums.pairs.at_once)
     ∷ (codes "detection_sum", λ c. Sum c.sums.pairs.detection_sum)
@@ -76,8 +67,7 @@ columns_of_detections =
 
 -- those of the verdicts and the decisions, and which runs to look at
 unfoldable pub columns_of_outcomes : List Column
-columns_of_outcomes =
-    (codes "strong_completeness", λ c. Count c.sums.verdicts.strong_completeness)
+columns_of_outcomes = (codes "strong_completeness", λ c. Count c.sums.verdicts.strong_completeness)
     ∷ (codes "weak_completeness", λ c. Count c.sums.verdicts.weak_completeness)
     ∷ (codes "strong_accuracy", λ c. Count c.sums.verdicts.strong_accuracy)
     ∷ (codes "weak_accuracy", λ c. Count c.sums.verdicts.weak_accuracy)

@@ -1,29 +1,10 @@
 -- What a row tells of a point's runs on a layer: sums, counts, percentiles and maxima over all of them.
-use Rattle.std.specs.Prelude.{◌≡◌, ℕ, ◌+◌, ◌-◌, ◌*◌, ◌/◌, ◌≤◌, ◌==◌, Bool, true, false, if◌then◌else◌, is_none, is_some, Option, None, Some, List, [], ◌∷◌, length}
-use Rattle.std.specs.List.{count_by, filter, filter_map, flat_map, list_any, sum, sum_by}
-use Rattle.detector_bounds.specs.Bounds.{CrashesAt, detected_at}
-use Rattle.detector_bounds.specs.Detected.{Watches}
-use Rattle.judges.specs.Verdicts.{IsCorrect, verdicts}
-use Rattle.judges.specs.declared.outcomes.Outcome.{Outcome}
-use Rattle.judges.specs.declared.verdicts.Verdicts.{Verdicts}
-use Rattle.reporting.specs.Measures.{layers}
-use Rattle.reporting.specs.declared.pair_measures.PairMeasures.{PairMeasures}
-use Rattle.scenario_record.specs.Record.{Record}
-use Rattle.trace_laws.specs.History.{IsIn}
-use Rattle.sweep.specs.Groups.{is_in}
+use Rattle.std.specs.{Prelude.{◌≡◌, ℕ, ◌+◌, ◌-◌, ◌*◌, ◌/◌, ◌≤◌, ◌==◌, Bool, true, false, if◌then◌else◌, is_none, is_some, Option, None, Some, List, [], ◌∷◌, length}, List.{count_by, filter, filter_map, flat_map, list_any, sum, sum_by}}
+use Rattle.{detector_bounds.specs.{Bounds.{CrashesAt, detected_at}, Detected.{Watches}}, judges.specs.{Verdicts.{IsCorrect, verdicts}, declared.{outcomes.Outcome.{Outcome}, verdicts.Verdicts.{Verdicts}}}}
+use Rattle.{reporting.specs.{Measures.{layers}, declared.pair_measures.PairMeasures.{PairMeasures}}, scenario_record.specs.Record.{Record}, trace_laws.specs.History.{IsIn}, sweep.specs.Groups.{is_in}}
 use Rattle.sweep.specs.OneRun.{Finished, detection_ticks, is_undetected, is_at_once, counted_pairs, pair_ticks, mistakes, has_mistake, durations, detections, bounds, has_decided, decision_tick, run_outcomes, deciding, do_disagree, do_all_decide, is_undecided, last_decision, top_round}
-use Rattle.sweep.specs.Percentile.{greatest, IsPercentile}
-use Rattle.sweep.specs.Results.{RunResult, finished, limited, Trial}
-use Rattle.sweep.specs.declared.columns.Columns.{Columns}
-use Rattle.sweep.specs.declared.columns.DecisionSums.{DecisionSums}
-use Rattle.sweep.specs.declared.columns.DetectionBounds.{DetectionBounds}
-use Rattle.sweep.specs.declared.columns.Distribution.{Distribution}
-use Rattle.sweep.specs.declared.columns.FirstRuns.{FirstRuns}
-use Rattle.sweep.specs.declared.columns.LayerSums.{LayerSums}
-use Rattle.sweep.specs.declared.columns.PairSums.{PairSums}
-use Rattle.sweep.specs.declared.columns.RunCounts.{RunCounts}
-use Rattle.sweep.specs.declared.columns.TraceSums.{TraceSums}
-use Rattle.sweep.specs.declared.columns.VerdictCounts.{VerdictCounts}
+use Rattle.sweep.specs.{Percentile.{greatest, IsPercentile}, Results.{RunResult, finished, limited, Trial}}
+use Rattle.sweep.specs.declared.columns.{Columns.{Columns}, DecisionSums.{DecisionSums}, DetectionBounds.{DetectionBounds}, Distribution.{Distribution}, FirstRuns.{FirstRuns}, LayerSums.{LayerSums}, PairSums.{PairSums}, RunCounts.{RunCounts}, TraceSums.{TraceSums}, VerdictCounts.{VerdictCounts}}
 use Rattle.sweep.specs.declared.group.Group.{Group}
 
 -- whether the runs of a scenario have a layer: each has layer 1, those with a reduction have layer 2 as well

@@ -1,9 +1,6 @@
 -- Sums that fit their types: each is at most some number.
 use Rattle.std.specs.Prelude.{ℕ, ◌*◌, ◌^◌, ◌≤◌}
-use Rattle.sweep.specs.declared.columns.DecisionSums.{DecisionSums}
-use Rattle.sweep.specs.declared.columns.LayerSums.{LayerSums}
-use Rattle.sweep.specs.declared.columns.PairSums.{PairSums}
-use Rattle.sweep.specs.declared.columns.TraceSums.{TraceSums}
+use Rattle.sweep.specs.declared.columns.{DecisionSums.{DecisionSums}, LayerSums.{LayerSums}, PairSums.{PairSums}, TraceSums.{TraceSums}}
 
 -- how many runs may be added up
 abbrev pub most_runs : ℕ

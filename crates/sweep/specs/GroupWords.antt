@@ -1,19 +1,11 @@
 -- Which words say which groups of pairs.
-use Rattle.std.specs.Prelude.{◌≡◌, ℕ, nat_le, nat_lt, not, ◌&&◌, Bool, true, List, ◌++◌, ◌∷◌, map, string_bytes, Option, Some, None, Result, Ok, Err, if◌then◌else◌}
-use Rattle.std.specs.List.{All}
-use Rattle.std.specs.Option.{option_and_then}
-use Rattle.std.specs.Result.{IsOk}
-use Rattle.study.specs.Words.{Word, has, before, after, between, is_natural, natural, bounds}
-use Rattle.sweep.specs.declared.error.GroupError.{GroupError}
+use Rattle.std.specs.{Prelude.{◌≡◌, ℕ, nat_le, nat_lt, not, ◌&&◌, Bool, List, ◌++◌, ◌∷◌, map, string_bytes, Option, Some, None, Result, Ok, Err, if◌then◌else◌}, List.{All}, Option.{option_and_then}, Result.{IsOk}}
+use Rattle.{study.specs.Words.{Word, has, before, after, between, is_natural, natural, bounds}, sweep.specs.declared.{error.GroupError.{GroupError}, group.{PairBlock.{PairBlock}, PairGroup.{PairGroup}, Processes.{Processes}}}}
 use Rattle.sweep.specs.declared.error.GroupError.TheVariants as error
-use Rattle.sweep.specs.declared.group.PairBlock.{PairBlock}
-use Rattle.sweep.specs.declared.group.PairGroup.{PairGroup}
-use Rattle.sweep.specs.declared.group.Processes.{Processes}
 
 -- the numbers that a side of a block says: A and B of A..=B, or both A
 abbrev pub ends_between : Word × Word → Option (ℕ × ℕ)
-ends_between ends =
-    if is_natural ends.0 && is_natural ends.1 then Some (natural ends.0, natural ends.1) else None
+ends_between ends = if is_natural ends.0 && is_natural ends.1 then Some (natural ends.0, natural ends.1) else None
 
 abbrev pub ends_said : Word → Option (ℕ × ℕ)
 ends_said w = if is_natural w then Some (natural w, natural w) else option_and_then ends_between (bounds w)
@@ -25,8 +17,7 @@ is_process p = nat_le 1 p && nat_le p 256
 -- the processes from one number to another, or why these are none
 abbrev pub processes_between : Option (ℕ × ℕ) → Result Processes GroupError
 processes_between None = Err error.NoGroup
-processes_between (Some (first, last)) =
-    if not (is_process first && is_process last) then Err error.NoProcess
+processes_between (Some (first, last)) = if not (is_process first && is_process last) then Err error.NoProcess
     else if nat_lt last first then Err error.EmptyRange
     else Ok (record { first = first; last = last })
 
@@ -42,12 +33,6 @@ block_of (Ok observers) (Ok subjects) = Ok (record { observers = observers; subj
 -- the block that OBSERVERS:SUBJECTS says
 abbrev pub block_said : Word → Result PairBlock GroupError
 block_said w = if has 58 w then block_of (side_said (before 58 w)) (side_said (after 58 w)) else Err error.NoGroup
-
--- the words are the two ends
-pub record AreEnds (w first last : Word) : Type 0 where
-  pub first_natural : is_natural first ≡ true
-  pub last_natural : is_natural last ≡ true
-  pub said : ends_said w ≡ Some (natural first, natural last)
 
 -- the words say these blocks
 abbrev pub SayBlocks : (words : List Word) → List PairBlock → Type 0

@@ -1,11 +1,6 @@
 -- Groups of pairs of processes: which pairs a row counts.
-use Rattle.std.specs.Prelude.{ℕ, ◌&&◌, ◌||◌, Bool, true, false, nat_le, nat_lt, if◌then◌else◌, Option, List, [], ◌∷◌, map, codes, string_bytes}
-use Rattle.std.specs.List.{list_any, position}
-use Rattle.sweep.specs.declared.group.Group.{Group}
-use Rattle.sweep.specs.declared.group.Group.TheVariants.{All, Said}
-use Rattle.sweep.specs.declared.group.PairBlock.{PairBlock}
-use Rattle.sweep.specs.declared.group.PairGroup.{PairGroup}
-use Rattle.sweep.specs.declared.group.Processes.{Processes}
+use Rattle.std.specs.{Prelude.{ℕ, ◌&&◌, ◌||◌, Bool, true, false, nat_le, nat_lt, if◌then◌else◌, Option, List, [], ◌∷◌, map, codes, string_bytes}, List.{list_any, position}}
+use Rattle.sweep.specs.declared.group.{Group.{Group, TheVariants.{All, Said}}, PairBlock.{PairBlock}, PairGroup.{PairGroup}, Processes.{Processes}}
 
 -- a process is among those from a first to a last
 abbrev pub is_among : Processes → ℕ → Bool

@@ -1,18 +1,8 @@
 -- What the rows of a study's text tell of, its columns, and the text: a line that names the columns, and rows.
 use Rattle.std.specs.Prelude.{◌≡◌, ℕ, ◌≤◌, ◌==◌, List, ◌∷◌, ◌++◌, map, length, Option, None, Some, IsSome, string_bytes, if◌then◌else◌, is_some, [], get_or, decimal}
-use Rattle.std.specs.List.{All, Contains, position, range_with_len, slice_split, AllZip, flat_map, list_any}
-use Rattle.csv.specs.Writing.{default_writer, row_text}
-use Rattle.diagnosis.specs.Diagnosis.{edits}
-use Rattle.scenario.specs.Table.{same_text}
-use Rattle.sweep.specs.ColumnTable.{numbers_of}
-use Rattle.sweep.specs.Columns.{AreColumns}
-use Rattle.sweep.specs.Groups.{group_word}
-use Rattle.sweep.specs.Results.{Trial}
-use Rattle.sweep.specs.declared.error.LayoutError.{LayoutError}
+use Rattle.{std.specs.List.{All, Contains, position, range_with_len, slice_split, AllZip, flat_map, list_any}, csv.specs.Writing.{default_writer, row_text}, diagnosis.specs.Diagnosis.{edits}, scenario.specs.Table.{same_text}}
+use Rattle.sweep.specs.{ColumnTable.{numbers_of}, Columns.{AreColumns}, Groups.{group_word}, Results.{Trial}, declared.{error.LayoutError.{LayoutError}, group.Group.{Group}, layout.Rows.{Rows}, columns.Columns.{Columns}}}
 use Rattle.sweep.specs.declared.error.LayoutError.TheVariants as error
-use Rattle.sweep.specs.declared.group.Group.{Group}
-use Rattle.sweep.specs.declared.layout.Rows.{Rows}
-use Rattle.sweep.specs.declared.columns.Columns.{Columns}
 
 abbrev pub Text : Type 0
 Text = List ℕ

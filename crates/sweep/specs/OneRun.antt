@@ -1,23 +1,9 @@
 -- What one run that is done tells on a layer.
-use Rattle.std.specs.Prelude.{ℕ, ◌-◌, ◌==◌, ◌&&◌, Bool, true, false, not, if◌then◌else◌, nat_lt, is_some, Option, None, Some, List, [], length, map}
-use Rattle.std.specs.List.{filter, filter_map, flat_map, list_all, list_any, sum_by}
-use Rattle.detector_bounds.specs.Detected.{detected_by, trusts, watch_of}
-use Rattle.judges.specs.Out.{crash_tick, is_correct, end_of}
-use Rattle.judges.specs.Outcomes.{outcomes}
-use Rattle.judges.specs.declared.outcomes.Answer.{Answer}
+use Rattle.std.specs.{Prelude.{ℕ, ◌-◌, ◌==◌, ◌&&◌, Bool, true, false, not, if◌then◌else◌, nat_lt, is_some, Option, None, Some, List, [], length, map}, List.{filter, filter_map, flat_map, list_all, list_any, sum_by}}
+use Rattle.{detector_bounds.specs.Detected.{detected_by, trusts, watch_of}, judges.specs.{Out.{crash_tick, is_correct, end_of}, Outcomes.{outcomes}, declared.outcomes.{Answer.{Answer}, Outcome.{Outcome}}}}
 use Rattle.judges.specs.declared.outcomes.Answer.TheVariants as answer
-use Rattle.judges.specs.declared.outcomes.Outcome.{Outcome}
-use Rattle.process_api.specs.Order.{EntryRecord}
-use Rattle.process_api.specs.Place.{is_watched}
-use Rattle.reporting.specs.Measures.{layer_measures, pair_durations}
-use Rattle.reporting.specs.declared.pair_measures.Detection.{Detection}
-use Rattle.reporting.specs.declared.pair_measures.Detection.TheVariants.{Na, NoTick, At}
-use Rattle.reporting.specs.declared.pair_measures.PairMeasures.{PairMeasures}
-use Rattle.scenario_record.specs.Ranges.{is_idle}
-use Rattle.scenario_record.specs.Record.{Record, link}
-use Rattle.sweep.specs.Groups.{is_in}
-use Rattle.sweep.specs.Percentile.{greatest}
-use Rattle.sweep.specs.declared.group.Group.{Group}
+use Rattle.{process_api.specs.{Order.{EntryRecord}, Place.{is_watched}}, reporting.specs.{Measures.{layer_measures, pair_durations}, declared.pair_measures.{Detection.{Detection, TheVariants.{Na, NoTick, At}}, PairMeasures.{PairMeasures}}}}
+use Rattle.{scenario_record.specs.{Ranges.{is_idle}, Record.{Record, link}}, sweep.specs.{Groups.{is_in}, Percentile.{greatest}, declared.group.Group.{Group}}}
 
 -- a run that is done
 pub record Finished : Type 0 where
@@ -68,15 +54,13 @@ is_to_detect (At ticks) = true
 -- how many ticks after the crash of p, at most, q suspects it to the end on layer 1, where it trusted it again so
 -- often: from this tick on it does, in whatever run. None where the tick isn't before the horizon
 abbrev pub bound_after : Record → (trusts q p : ℕ) → Option ℕ
-bound_after S trusts q p =
-    if nat_lt (detected_by S.detector (link S p q) trusts (crash_tick S p)) S.horizon
+bound_after S trusts q p = if nat_lt (detected_by S.detector (link S p q) trusts (crash_tick S p)) S.horizon
     then Some (detected_by S.detector (link S p q) trusts (crash_tick S p) - crash_tick S p)
     else None
 
 -- of each crash that was to be detected
 abbrev pub bounds_of : Record → (trusts : (q p : ℕ) → ℕ) → List PairMeasures → List (Option ℕ)
-bounds_of S trusts pairs =
-    map (λ m. bound_after S (trusts m.observer m.subject) m.observer m.subject)
+bounds_of S trusts pairs = map (λ m. bound_after S (trusts m.observer m.subject) m.observer m.subject)
     (filter (λ m. is_to_detect m.detection) pairs)
 
 -- of those on a layer: the bounds are known on layer 1 alone
@@ -158,7 +142,6 @@ abbrev pub last_decision : List Outcome → Option ℕ
 last_decision deciding = if list_all has_decided deciding then greatest (filter_map decision_tick deciding) else None
 
 module _ (r : Finished) where
-  -- the outcomes of all processes
   abbrev pub run_outcomes : List Outcome
   run_outcomes = outcomes r.trace r.scenario.processes
 

@@ -1,22 +1,10 @@
 -- What a sweep leaves of an outlet.
-use Rattle.std.specs.Prelude.{◌≡◌, ◌⊎◌, ◌<◌, ℕ, false, take, length, List, Option, None, Some, Contains, ◌==◌, not}
-use Rattle.std.specs.List.{AllZip, count_by, filter}
-use Rattle.study.specs.Sources.{SourcesRecord}
-use Rattle.reporting.specs.Outlet.{Wrote, WrotePart, WroteNothing}
-use Rattle.scenario_record.specs.Record.{Record}
-use Rattle.study.specs.Grid.{GridRecord, runs, ShardRecord}
-use Rattle.study.specs.Placed.{sources_of_run}
-use Rattle.study.specs.Laid.{IsScenarioOf, IsRefusedFor, is_memory}
-use Rattle.study.specs.declared.error.ReadError.{ReadError}
-use Rattle.trace_laws.specs.Taken.{HaveJoined}
-use Rattle.sweep.specs.Groups.{first_above}
-use Rattle.sweep.specs.Layout.{LayoutRecord, Text}
-use Rattle.sweep.specs.StudyText.{point_at, run_at, numbers_of, units_of, IsTextOf, IsStudyText, IsTrialOf}
-use Rattle.sweep.specs.Columns.{is_limited}
-use Rattle.sweep.specs.Results.{Trial}
-use Rattle.sweep.specs.declared.error.SweepError.{SweepError}
+use Rattle.std.specs.{Prelude.{◌≡◌, ◌⊎◌, ◌<◌, ℕ, false, take, length, List, Option, None, Some, Contains, ◌==◌, not}, List.{AllZip, count_by, filter}}
+use Rattle.study.specs.{Sources.{SourcesRecord}, Grid.{GridRecord, runs, ShardRecord}, Placed.{sources_of_run}, Laid.{IsScenarioOf, IsRefusedFor, is_memory}, declared.error.ReadError.{ReadError}}
+use Rattle.{reporting.specs.Outlet.{Wrote, WrotePart, WroteNothing}, scenario_record.specs.Record.{Record}, trace_laws.specs.Taken.{HaveJoined}}
+use Rattle.sweep.specs.{Groups.{first_above}, Layout.{LayoutRecord, Text}, StudyText.{point_at, run_at, numbers_of, units_of, IsTextOf, IsStudyText, IsTrialOf}, Columns.{is_limited}, Results.{Trial}}
+use Rattle.sweep.specs.declared.{error.SweepError.{SweepError}, group.Group.{Group}}
 use Rattle.sweep.specs.declared.error.SweepError.TheVariants as error
-use Rattle.sweep.specs.declared.group.Group.{Group}
 
 -- runs stand in the order of their points, and those of a point in their own
 abbrev pub IsBefore : (p r point run : ℕ) → Type 0

@@ -1,7 +1,5 @@
 -- Of some values the greatest, and the nearest-rank percentile, by counting.
-use Rattle.std.specs.Prelude.{ℕ, ◌+◌, ◌*◌, ◌≤◌, max, nat_le, Option, None, Some, List, [], ◌∷◌, length, ◌≡◌, Bool, if◌then◌else◌, ◌++◌}
-use Rattle.std.specs.List.{count_by, Contains, sum_by}
-use Rattle.sweep.specs.Fitting.{most_values}
+use Rattle.std.specs.{Prelude.{ℕ, ◌+◌, ◌*◌, ◌≤◌, max, nat_le, Option, None, Some, List, [], ◌∷◌, length, ◌≡◌, Bool, if◌then◌else◌}, List.{count_by, Contains, sum_by}}
 use Rattle.sweep.specs.declared.value_counts.ValueCounts.{ValueCounts}
 
 -- the greater of two, if there is one
@@ -45,8 +43,3 @@ pub record AreCounted (values : List ℕ) (c : ValueCounts) : Type 0 where
   pub counts : (test : ℕ → Bool) → count_by test values ≡ passing test c.counts.entries
   pub total : c.total ≡ length values
   pub highest : c.greatest ≡ greatest values
-
--- the old counts of any values, as long as they aren't too many, give the new counts of these values and of more
-abbrev pub CountsMore : (more : List ℕ) → (old new : ValueCounts) → Type 0
-CountsMore more old new = (values : List ℕ) → length values + length more ≤ most_values → AreCounted values old
-    → AreCounted (values ++ more) new

@@ -1,14 +1,8 @@
 -- What becomes of runs.
 use denote.Param.Members.{Shared}
-use Rattle.std.specs.Prelude.{List, ◌≡◌, ℕ, ◌+◌, ◌<◌, Option, Some, None, fold, length, set, slice_index_or}
-use Rattle.std.specs.Fn.{FnReturns}
-use Rattle.std.specs.Global.{Vec}
-use Rattle.process_api.specs.Order.{EntryRecord}
-use Rattle.scenario_record.specs.Record.{Record}
-use Rattle.reporting.specs.declared.durations.RunDurations.{RunDurations}
-use Rattle.reporting.specs.declared.findings.RunFindings.{RunFindings}
-use Rattle.runs.specs.Finishing.{IsTraceWithin, IsLonger, MeasuresRun}
-use Rattle.runs.specs.declared.trusts.Trusts.{Trusts}
+use Rattle.std.specs.{Prelude.{List, ◌≡◌, ℕ, ◌+◌, ◌<◌, Option, Some, None, fold, length, set, slice_index_or}, Fn.{FnReturns}, Global.{Vec}}
+use Rattle.{process_api.specs.Order.{EntryRecord}, scenario_record.specs.Record.{Record}, reporting.specs.declared.{durations.RunDurations.{RunDurations}, findings.RunFindings.{RunFindings}}}
+use Rattle.runs.specs.{Finishing.{IsTraceWithin, IsLonger, MeasuresRun}, declared.trusts.Trusts.{Trusts}}
 
 -- a run is done, and this is its trace; or it passed its limit
 pub data RunResult : Type 0 where

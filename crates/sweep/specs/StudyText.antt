@@ -1,23 +1,10 @@
 -- The text of a study: rows that tell what became of all runs, of those of a point together or of each alone.
-use Rattle.std.specs.Prelude.{◌≡◌, ◌==◌, ℕ, ◌+◌, ◌*◌, ◌/◌, ◌%◌, if◌then◌else◌, List, [], ◌∷◌, ◌++◌, length, map, get_or, codes, decimal, false}
-use Rattle.std.specs.List.{AllZip, flat_map, range_with_len}
+use Rattle.std.specs.{Prelude.{◌≡◌, ◌==◌, ℕ, ◌+◌, ◌*◌, ◌/◌, ◌%◌, if◌then◌else◌, List, [], ◌∷◌, ◌++◌, length, map, get_or, codes, decimal, false}, List.{AllZip, flat_map, range_with_len}}
 use Rattle.csv.specs.Writing.{default_writer, writer_setup, fields_written, has_written, writer_under, writer_pending}
-use Rattle.study.specs.Sources.{SourcesRecord}
-use Rattle.study.specs.Settings.{Path, Chosen, key_text, given_text}
-use Rattle.study.specs.Grid.{GridRecord, RunRecord, points, keys, runs, ShardRecord, block}
-use Rattle.study.specs.Placed.{sources_of_run}
-use Rattle.study.specs.Laid.{IsScenarioOf}
-use Rattle.sweep.specs.ColumnTable.{column_names}
-use Rattle.sweep.specs.Groups.{group_names}
-use Rattle.sweep.specs.Layout.{LayoutRecord, Text, header_text, AreRowsFor, AreRowsOfGroup}
-use Rattle.sweep.specs.Results.{Trial, IsResult}
-use Rattle.sweep.specs.Sums.{AreSums, AreUnitSums}
-use Rattle.sweep.specs.declared.group.Group.{Group}
-use Rattle.sweep.specs.declared.layout.Rows.{Rows}
+use Rattle.study.specs.{Sources.{SourcesRecord}, Settings.{Path, Chosen, key_text, given_text}, Grid.{GridRecord, RunRecord, points, keys, runs, ShardRecord, block}, Placed.{sources_of_run}, Laid.{IsScenarioOf}}
+use Rattle.sweep.specs.{ColumnTable.{column_names}, Groups.{group_names}, Layout.{LayoutRecord, Text, header_text, AreRowsFor}, Results.{Trial, IsResult}, Sums.{AreUnitSums}}
+use Rattle.sweep.specs.declared.{group.Group.{Group}, layout.Rows.{Rows}, table.Table.{Table}, unit_sums.UnitSums.{UnitSums}}
 use Rattle.sweep.specs.declared.layout.Rows.TheVariants as kind
-use Rattle.sweep.specs.declared.point_sums.PointSums.{PointSums}
-use Rattle.sweep.specs.declared.table.Table.{Table}
-use Rattle.sweep.specs.declared.unit_sums.UnitSums.{UnitSums}
 
 -- what became of a run of a point: its scenario is that of the files with the settings of both
 pub record IsTrialOf (sources : SourcesRecord) (settings : List Chosen) (run : RunRecord) (t : Trial) : Type 0 where
@@ -66,8 +53,7 @@ abbrev pub values : List Chosen → List Text
 values settings = map (λ s. given_text s.value) settings
 
 abbrev pub run_lead : (point : List Chosen) → RunRecord → (number : ℕ) → List Text
-run_lead point run number =
-    values point ++ values run.settings ++ decimal run.seed ∷ decimal number ∷ []
+run_lead point run number = values point ++ values run.settings ++ decimal run.seed ∷ decimal number ∷ []
 
 abbrev pub lead_of : Rows → GridRecord → (unit : ℕ) → List Text
 lead_of kind.Points g point = values (point_at g point)
@@ -139,18 +125,6 @@ pub record IsBetweenLines (t : Table) : Type 0 where
 -- what was written so far
 abbrev pub text_of : Table → List ℕ
 text_of t = (writer_under t.writer).items ++ writer_pending t.writer
-
--- the rows of a unit, if any runs were added up to these sums
-abbrev pub AreRowsOfSums : LayoutRecord → GridRecord → (unit : ℕ) → UnitSums → Text → Type 0
-AreRowsOfSums layout g unit sums rows = (first : ℕ) (trials : List Trial)
-    → AreUnitSums layout.groups first trials sums
-    → AreRowsFor layout.picks (lead_of layout.rows g unit) layout.groups first trials rows
-
--- they are added to a text: those of one group, and those of these groups
-abbrev pub AddsRowsOfGroup : LayoutRecord → GridRecord → (unit : ℕ) → Group → PointSums → (old new : Table) → Type 0
-AddsRowsOfGroup layout g unit group sums old new = (first : ℕ) (trials : List Trial) → AreSums group first trials sums
-    → (rows : Text) × AreRowsOfGroup layout.picks (lead_of layout.rows g unit) first trials group rows
-    × (text_of new ≡ text_of old ++ rows)
 
 abbrev pub AddsRowsOfSums : LayoutRecord → GridRecord → (unit : ℕ) → List Group → UnitSums → (old new : Table) → Type 0
 AddsRowsOfSums layout g unit groups sums old new = (first : ℕ) (trials : List Trial)

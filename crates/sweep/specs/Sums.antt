@@ -1,45 +1,9 @@
 -- What it is that runs were added up.
-use Rattle.std.specs.Prelude.{◌≡◌, ℕ, ◌+◌, ◌*◌, ◌^◌, ◌<◌, ◌≤◌, List, [], ◌∷◌, ◌++◌, length, false, true}
-use Rattle.std.specs.List.{All, AllZip, cons_option}
-use Rattle.judges.specs.Verdicts.{verdicts}
-use Rattle.judges.specs.declared.verdicts.Verdicts.{Verdicts}
-use Rattle.process_api.specs.Order.{EntryRecord}
-use Rattle.reporting.specs.Durations.{AreDurations}
+use Rattle.std.specs.{Prelude.{◌≡◌, ℕ, ◌+◌, ◌*◌, ◌^◌, ◌<◌, ◌≤◌, List, [], ◌∷◌, ◌++◌, length}, List.{All, AllZip, cons_option}}
 use Rattle.runs.specs.Grounds.{HasGrounds}
-use Rattle.reporting.specs.Measures.{layer_measures}
-use Rattle.reporting.specs.Running.{IsSummary}
-use Rattle.runs.specs.Finishing.{AreTrusts}
-use Rattle.reporting.specs.declared.pair_measures.PairMeasures.{PairMeasures}
-use Rattle.reporting.specs.declared.summary.Summary.{Summary}
-use Rattle.scenario_record.specs.Ranges.{IsInRange}
-use Rattle.scenario_record.specs.Record.{Record}
-use Rattle.sweep.specs.Columns.{done_on, has_layer, AreColumns, AreLayerSums, AreFirstRuns, all_durations, all_detections, is_limited, last_decisions, top_rounds}
-use Rattle.sweep.specs.Percentile.{AreCounted}
-use Rattle.sweep.specs.Fitting.{IsLayerWithin, most_runs, most_of, most_pairs, most_mistakes}
-use Rattle.sweep.specs.Results.{Trial, done_run, limited_run}
-use Rattle.sweep.specs.declared.columns.Columns.{Columns}
-use Rattle.sweep.specs.declared.columns.LayerSums.{LayerSums}
-use Rattle.sweep.specs.declared.group.Group.{Group}
-use Rattle.sweep.specs.declared.point_sums.LayerTotals.{LayerTotals}
-use Rattle.sweep.specs.declared.point_sums.LayerValues.{LayerValues}
-use Rattle.sweep.specs.declared.point_sums.PointSums.{PointSums}
-use Rattle.sweep.specs.declared.run_numbers.GroupNumbers.{GroupNumbers}
-use Rattle.sweep.specs.declared.run_numbers.LayerFindings.{LayerFindings}
-use Rattle.sweep.specs.declared.run_numbers.LayerNumbers.{LayerNumbers}
-use Rattle.sweep.specs.declared.run_numbers.RunNumbers.{RunNumbers}
-use Rattle.sweep.specs.declared.unit_sums.UnitSums.{UnitSums}
-
--- of a run that is done: its summary, and its verdicts and measures on a layer, each in its range
-pub record AreLayerFindings (layer : ℕ) (S : Record) (trace : List EntryRecord)
-    (summary : Summary) (found : Verdicts) (pairs : List PairMeasures) : Type 0 where
-  pub ranges : IsInRange S
-  pub within : length trace ≤ S.limit
-  pub summed : IsSummary S trace summary
-  pub sent_high : summary.sent ≤ length trace * 2 ^ 32
-  pub lost_high : summary.lost ≤ length trace * 2 ^ 32
-  pub judged : found ≡ verdicts S trace layer
-  pub measured : pairs ≡ layer_measures S trace layer
-  pub grounds : HasGrounds S trace
+use Rattle.sweep.specs.{Columns.{done_on, AreLayerSums, AreFirstRuns, all_durations, all_detections, is_limited, last_decisions, top_rounds}, Percentile.{AreCounted}, Fitting.{IsLayerWithin, most_runs, most_of, most_pairs, most_mistakes}}
+use Rattle.{sweep.specs.Results.{Trial}, sweep.specs.declared.{columns.LayerSums.{LayerSums}, group.Group.{Group}, point_sums.{LayerTotals.{LayerTotals}, LayerValues.{LayerValues}, PointSums.{PointSums}}}}
+use Rattle.sweep.specs.declared.{run_numbers.{GroupNumbers.{GroupNumbers}, LayerNumbers.{LayerNumbers}, RunNumbers.{RunNumbers}}, unit_sums.UnitSums.{UnitSums}}
 
 module _ (group : Group) (layer : ℕ) (trials : List Trial) where
   pub record AreFitting (s : LayerSums) : Type 0 where
@@ -93,47 +57,6 @@ pub record AreSums (group : Group) (first : ℕ) (trials : List Trial) (s : Poin
 -- and so are those of each group
 abbrev pub AreUnitSums : List Group → (first : ℕ) → List Trial → UnitSums → Type 0
 AreUnitSums groups first trials s = AllZip (λ group sums. AreSums group first trials sums) groups s.groups.items
-
--- of a run that is done these are the numbers on a layer, if the rest was found of its trace
-abbrev pub AreOfFindings : Group → (layer : ℕ) → Record → LayerFindings → LayerNumbers → Type 0
-AreOfFindings group layer S f n = (trace : List EntryRecord) → has_layer layer S ≡ true
-    → AreLayerFindings layer S trace f.summary.now f.verdicts.now f.pairs.now
-    → AreDurations S layer trace f.durations.now → AreTrusts S.processes trace f.trusts.now
-    → AreLayerNumbers group layer (done_run S trace ∷ []) n
-
--- these are the numbers of a run that passed its limit, on each layer that it has
-abbrev pub AreOfLimited : LayerNumbers → Type 0
-AreOfLimited n = (group : Group) (layer : ℕ) (S : Record) → has_layer layer S ≡ true
-    → AreLayerNumbers group layer (limited_run S ∷ []) n
-
--- and of any run on a layer that it hasn't
-abbrev pub AreOfNoLayer : LayerNumbers → Type 0
-AreOfNoLayer n = (group : Group) (layer : ℕ) (trial : Trial) → has_layer layer trial.scenario ≡ false
-    → AreLayerNumbers group layer (trial ∷ []) n
-
--- the old counts of any runs, as long as they aren't too many, give the new counts of these runs and of one more
-abbrev pub CountsOneMore : LayerNumbers → (old new : LayerValues) → Type 0
-CountsOneMore run old new = (group : Group) (layer : ℕ) (trials : List Trial) (trial : Trial)
-    → length trials < most_runs → length (all_detections group layer trials) ≤ most_pairs (length trials)
-    → AreLayerValues group layer trials old → AreLayerNumbers group layer (trial ∷ []) run
-    → AreLayerValues group layer (trials ++ trial ∷ []) new
-
--- the same of the sums on a layer, where the one more has this number
-abbrev pub TotalsOneMore : (number : ℕ) → LayerNumbers → (old new : LayerTotals) → Type 0
-TotalsOneMore number run old new = (group : Group) (layer first : ℕ) (trials : List Trial) (trial : Trial)
-    → length trials < most_runs → number ≡ first + length trials → AreLayerTotals group layer trials first old
-    → AreLayerNumbers group layer (trial ∷ []) run → AreLayerTotals group layer (trials ++ trial ∷ []) first new
-
--- and these columns tell of any runs that were added up to them
-abbrev pub AreColumnsOf : LayerTotals → Columns → Type 0
-AreColumnsOf totals c = (group : Group) (layer first : ℕ) (trials : List Trial)
-    → AreLayerTotals group layer trials first totals → AreColumns group layer first trials c
-
--- one more run is added to the sums of both layers
-abbrev pub AddsOneMore : GroupNumbers → (old new : PointSums) → Type 0
-AddsOneMore numbers old new = (group : Group) (first : ℕ) (trials : List Trial) (trial : Trial)
-    → length trials < most_runs → AreSums group first trials old → AreGroupNumbers group trial numbers
-    → AreSums group first (trials ++ trial ∷ []) new
 
 -- and of all groups
 abbrev pub AddsRun : RunNumbers → (old new : UnitSums) → Type 0

@@ -1,7 +1,6 @@
 //! Sums of sums. They stay at the greatest number of their types, should they reach it.
 ghost use Rattle.std.specs.Prelude.{◌≡◌};
-ghost use Rattle.sweep.specs.Inside.Adding.{bounds_plus, traces_plus, pairs_plus, verdicts_plus, decisions_plus};
-ghost use Rattle.sweep.specs.Inside.Adding.{counts_plus, layer_plus, first_with};
+ghost use Rattle.sweep.specs.Inside.Adding.{bounds_plus, traces_plus, pairs_plus, verdicts_plus, decisions_plus, counts_plus, layer_plus, first_with};
 
 use crate::columns::{
     DecisionSums, DetectionBounds, FirstRuns, LayerSums, PairSums, RunCounts, TraceSums,

@@ -1,10 +1,7 @@
 //! The bounds of a run's detections, on layer 1.
-ghost use Rattle.std.specs.Prelude.{◌≡◌, ◌≢◌, ◌≤◌, true, false};
-ghost use Rattle.std.specs.List.{All};
+ghost use Rattle.std.specs.{Prelude.{◌≡◌, ◌≢◌, ◌≤◌, true, false}, List.{All}};
 ghost use Rattle.runs.specs.Finishing.{trusts_of};
-ghost use Rattle.sweep.specs.Columns.{AreBounds, detection_bound};
-ghost use Rattle.sweep.specs.Inside.Adding.{of_bound, IsPair};
-ghost use Rattle.sweep.specs.OneRun.{bound_after, bounds_of, bounds_on, is_to_detect};
+ghost use Rattle.sweep.specs.{Columns.{AreBounds, detection_bound}, Inside.Adding.{of_bound, IsPair}, OneRun.{bound_after, bounds_of, bounds_on, is_to_detect}};
 
 use crate::columns::DetectionBounds;
 use process_api::Pid;

@@ -1,13 +1,8 @@
 //! Reads every run's scenario, before the first run starts.
-ghost use Rattle.std.specs.Prelude.{◌≡◌, ℕ, ◌*◌, ◌^◌, ◌<◌, ◌≤◌, [], true, false, length, slice_index_or};
-ghost use Rattle.std.specs.Prelude.{OnOk, IfErr, IfNone, IfSome};
+ghost use Rattle.std.specs.Prelude.{◌≡◌, ℕ, ◌*◌, ◌^◌, ◌<◌, ◌≤◌, [], true, false, length, slice_index_or, OnOk, IfErr, IfNone, IfSome};
 ghost use Rattle.trace_laws.specs.Taken.{HaveJoined};
-ghost use Rattle.study.specs.Sources.{sources_of};
-ghost use Rattle.study.specs.Grid.{points, runs};
-ghost use Rattle.study.specs.Laid.{is_memory};
-ghost use Rattle.sweep.specs.Inside.Progress.{point_of, ArePointsReady, IsLack, IsReadyAt, IsRefusalAt, IsFirstRefusal};
-ghost use Rattle.sweep.specs.Groups.{first_above};
-ghost use Rattle.sweep.specs.Outcome.{AreReady, CantBeRun};
+ghost use Rattle.study.specs.{Sources.{sources_of}, Grid.{points, runs}, Laid.{is_memory}};
+ghost use Rattle.sweep.specs.{Inside.Progress.{point_of, ArePointsReady, IsLack, IsReadyAt, IsRefusalAt, IsFirstRefusal}, Groups.{first_above}, Outcome.{AreReady, CantBeRun}};
 
 use crate::batches::Batches;
 use crate::error::SweepError;

@@ -1,7 +1,6 @@
 //! The columns of a row from the layer on, a line for each, in order.
 ghost use Rattle.std.specs.Prelude.{◌≡◌, map};
-ghost use Rattle.sweep.specs.ColumnTable.{columns_of_runs, columns_of_mistakes, columns_of_detections};
-ghost use Rattle.sweep.specs.ColumnTable.{columns_of_outcomes, number_of};
+ghost use Rattle.sweep.specs.ColumnTable.{columns_of_runs, columns_of_mistakes, columns_of_detections, columns_of_outcomes, number_of};
 
 use crate::columns::Columns;
 use crate::standard_error::mistakes_error;

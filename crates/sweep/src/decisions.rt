@@ -1,11 +1,7 @@
 //! The decisions of a run's processes.
-ghost use Rattle.std.specs.Prelude.{◌≡◌, ◌*◌, ◌^◌, List, length, IfOk};
-ghost use Rattle.std.specs.List.{list_all, list_any};
-ghost use Rattle.sweep.specs.Inside.Adding.{of_outcome, differ};
-ghost use Rattle.sweep.specs.Columns.{AreDecisionSums};
-ghost use Rattle.sweep.specs.Fitting.{AreDecisionsWithin};
-ghost use Rattle.sweep.specs.OneRun.{decided_value, deciding_of, decision_tick, do_disagree, has_decided};
-ghost use Rattle.sweep.specs.OneRun.{is_to_decide, last_decision, noted_round, top_round};
+ghost use Rattle.std.specs.{Prelude.{◌≡◌, ◌*◌, ◌^◌, List, length, IfOk}, List.{list_all, list_any}};
+ghost use Rattle.sweep.specs.{Inside.Adding.{of_outcome, differ}, Columns.{AreDecisionSums}, Fitting.{AreDecisionsWithin}};
+ghost use Rattle.sweep.specs.OneRun.{decided_value, deciding_of, decision_tick, do_disagree, has_decided, is_to_decide, last_decision, noted_round, top_round};
 ghost use Rattle.judges.specs.declared.outcomes.Outcome.{Outcome as OutcomeRecord};
 
 use crate::columns::DecisionSums;

@@ -1,9 +1,7 @@
 //! The fields of a row, as they are formed.
 ghost use Rattle.std.specs.Prelude.{◌≡◌, ◌++◌, map, string_bytes, OnOk};
-ghost use Rattle.csv.specs.Records.{fields_of};
-ghost use Rattle.study.specs.Settings.{chosen};
-ghost use Rattle.sweep.specs.Layout.{number_text};
-ghost use Rattle.sweep.specs.StudyText.{values};
+ghost use Rattle.{csv.specs.Records.{fields_of}, study.specs.Settings.{chosen}};
+ghost use Rattle.sweep.specs.{Layout.{number_text}, StudyText.{values}};
 
 use csv::StringRecord;
 use itoa::Buffer;

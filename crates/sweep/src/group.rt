@@ -1,8 +1,6 @@
 //! Groups of pairs of processes: which pairs a row counts.
-ghost use Rattle.std.specs.Prelude.{◌≡◌, IfOk};
-ghost use Rattle.std.specs.List.{list_any};
-ghost use Rattle.sweep.specs.Groups.{groups_of, has_pair, is_above, is_among, is_block_above, is_in, is_of_block};
-ghost use Rattle.sweep.specs.Groups.{is_said, names_above};
+ghost use Rattle.std.specs.{Prelude.{◌≡◌, IfOk}, List.{list_any}};
+ghost use Rattle.sweep.specs.Groups.{groups_of, has_pair, is_above, is_among, is_block_above, is_in, is_of_block, is_said, names_above};
 
 use process_api::Pid;
 use std::alloc::{AllocError, Global};

@@ -1,8 +1,7 @@
 //! Groups of pairs, as arguments of a command line.
 ghost use Rattle.std.specs.Prelude.{◌≡◌, ◌≢◌, true, false, map, option_map, IfOk, IfErr, MatchOption};
 ghost use Rattle.study.specs.Words.{bounds, is_natural, natural};
-ghost use Rattle.sweep.specs.GroupWords.{AreEnds, SayBlocks, SayNoBlocks, SaysGroup, SaysNoGroup};
-ghost use Rattle.sweep.specs.GroupWords.{block_said, ends_said, is_process, side_said};
+ghost use Rattle.sweep.specs.{Inside.Private.{AreEnds}, GroupWords.{SayBlocks, SayNoBlocks, SaysGroup, SaysNoGroup, block_said, ends_said, is_process, side_said}};
 ghost use Rattle.sweep.specs.declared.error.GroupError.TheVariants as reason;
 
 use crate::error::GroupError;

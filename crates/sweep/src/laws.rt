@@ -1,7 +1,6 @@
 //! Laws of the texts of studies.
 ghost use Rattle.std.specs.Prelude.{◌≤◌};
-ghost use Rattle.study.specs.Sources.{sources_of};
-ghost use Rattle.sweep.specs.StudyText.{HasOneText, ShardsMakeWhole};
+ghost use Rattle.{study.specs.Sources.{sources_of}, sweep.specs.StudyText.{HasOneText, ShardsMakeWhole}};
 
 use crate::layout::Layout;
 use study::{Grid, Shard, Sources};

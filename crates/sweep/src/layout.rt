@@ -1,11 +1,7 @@
 //! Layouts: the subjects of a text's rows, and their columns.
-ghost use Rattle.std.specs.Prelude.{◌≡◌, ◌*◌, ◌<◌, ◌≤◌, ◌^◌, length, map, string_bytes, option_map, Some, IfOk, IfErr};
-ghost use Rattle.std.specs.List.{range_with_len};
+ghost use Rattle.std.specs.{Prelude.{◌≡◌, ◌*◌, ◌<◌, ◌≤◌, ◌^◌, length, map, string_bytes, option_map, Some, IfOk, IfErr}, List.{range_with_len}};
 ghost use Rattle.study.specs.Grid.{runs};
-ghost use Rattle.sweep.specs.Groups.{groups_of as groups_in};
-ghost use Rattle.sweep.specs.Layout.{place_of as place_in};
-ghost use Rattle.sweep.specs.Layout.{ArePicks, IsNearest, TellsOf, IsRefusal, IsNoLayout};
-ghost use Rattle.sweep.specs.Inside.Progress.{runs_each as runs_of_unit, unit_count};
+ghost use Rattle.sweep.specs.{Groups.{groups_of as groups_in}, Layout.{place_of as place_in, ArePicks, IsNearest, TellsOf, IsRefusal, IsNoLayout}, Inside.Progress.{runs_each as runs_of_unit, unit_count}};
 ghost use Rattle.sweep.specs.StudyText.{names_of as names_in, unit_first};
 
 use crate::error::LayoutError;

@@ -1,8 +1,7 @@
 //! How many runs of each point passed their limit, which the watcher is told.
 ghost use Rattle.std.specs.Prelude.{◌≡◌, ◌+◌, ◌*◌, ◌^◌, ◌<◌, ◌≤◌, [], ◌∷◌, length};
 ghost use Rattle.trace_laws.specs.Taken.{HaveJoined};
-ghost use Rattle.study.specs.Sources.{SourcesRecord};
-ghost use Rattle.study.specs.Grid.{GridRecord, points, runs};
+ghost use Rattle.study.specs.{Sources.{SourcesRecord}, Grid.{GridRecord, points, runs}};
 ghost use Rattle.sweep.specs.Outcome.{told_of};
 
 use crate::run_numbers::RunNumbers;

@@ -1,10 +1,7 @@
 //! Runs scenarios and measures them.
 ghost use Rattle.std.specs.Prelude.{◌+◌, ◌*◌, ◌^◌, ◌<◌, ◌≤◌, length, IfOk};
-ghost use Rattle.study.specs.Sources.{sources_of};
-ghost use Rattle.study.specs.Grid.{points, runs};
-ghost use Rattle.sweep.specs.Inside.Progress.{point_of, IsAnswerAt, AreNumbersFrom};
-ghost use Rattle.sweep.specs.Results.{RunResult, IsResult};
-ghost use Rattle.sweep.specs.Sums.{AreNumbers};
+ghost use Rattle.study.specs.{Sources.{sources_of}, Grid.{points, runs}};
+ghost use Rattle.sweep.specs.{Inside.Progress.{point_of, IsAnswerAt, AreNumbersFrom}, Results.{RunResult, IsResult}, Sums.{AreNumbers}};
 
 use crate::batches::Batches;
 use crate::group::Group;

@@ -1,10 +1,7 @@
 //! The names of the columns that rows may have.
 ghost use Rattle.std.specs.Prelude.{◌≡◌, ◌++◌, ◌≤◌, map, length, string_bytes, IfOk, OnOk};
-ghost use Rattle.study.specs.Grid.{paths_of};
-ghost use Rattle.study.specs.Settings.{chosen, path_of, key_text};
-ghost use Rattle.sweep.specs.ColumnTable.{column_names};
-ghost use Rattle.sweep.specs.Groups.{group_names};
-ghost use Rattle.sweep.specs.StudyText.{lead_names, names_of as names_in};
+ghost use Rattle.study.specs.{Grid.{paths_of}, Settings.{chosen, path_of, key_text}};
+ghost use Rattle.sweep.specs.{ColumnTable.{column_names}, Groups.{group_names}, StudyText.{lead_names, names_of as names_in}};
 
 use crate::column_table::{
     Column, detection_columns, mistake_columns, outcome_columns, run_columns,

@@ -1,11 +1,7 @@
 //! Runs by numbers: those of all points, one point after the other.
-ghost use Rattle.std.specs.Prelude.{◌≡◌, ◌-◌, ◌<◌, ◌≤◌, false, true, length, IfOk, IfErr};
-ghost use Rattle.std.specs.List.{range_with_len};
-ghost use Rattle.study.specs.Sources.{sources_of};
-ghost use Rattle.study.specs.Grid.{points, runs};
-ghost use Rattle.study.specs.Laid.{IsScenarioOf, IsRefusedFor, is_memory};
-ghost use Rattle.sweep.specs.Inside.Progress.{point_of, table_at};
-ghost use Rattle.sweep.specs.StudyText.{numbers_of};
+ghost use Rattle.std.specs.{Prelude.{◌≡◌, ◌-◌, ◌<◌, ◌≤◌, false, true, length, IfOk, IfErr}, List.{range_with_len}};
+ghost use Rattle.study.specs.{Sources.{sources_of}, Grid.{points, runs}, Laid.{IsScenarioOf, IsRefusedFor, is_memory}};
+ghost use Rattle.sweep.specs.{Inside.Progress.{point_of, table_at}, StudyText.{numbers_of}};
 
 use scenario::Scenario;
 use std::alloc::{AllocError, Global};

@@ -1,14 +1,8 @@
 //! The pairs of a run that count, and what they add up to.
-ghost use Rattle.std.specs.Prelude.{◌≡◌, ◌≤◌, ◌*◌, ◌^◌, length, IfOk};
-ghost use Rattle.std.specs.List.{flat_map, sum_by};
-ghost use Rattle.detector_bounds.specs.Detected.{watch_of};
-ghost use Rattle.judges.specs.Out.{end_of};
+ghost use Rattle.std.specs.{Prelude.{◌≡◌, ◌≤◌, ◌*◌, ◌^◌, length, IfOk}, List.{flat_map, sum_by}};
+ghost use Rattle.{detector_bounds.specs.Detected.{watch_of}, judges.specs.Out.{end_of}};
 ghost use Rattle.reporting.specs.Durations.{lengths_of};
-ghost use Rattle.sweep.specs.Inside.Adding.{of_pair};
-ghost use Rattle.sweep.specs.Columns.{ArePairSums};
-ghost use Rattle.sweep.specs.Fitting.{ArePairsWithin};
-ghost use Rattle.sweep.specs.OneRun.{counted_of, counts_on, detection_ticks, detection_time, is_at_once};
-ghost use Rattle.sweep.specs.OneRun.{times_of};
+ghost use Rattle.sweep.specs.{Inside.Adding.{of_pair}, Columns.{ArePairSums}, Fitting.{ArePairsWithin}, OneRun.{counted_of, counts_on, detection_ticks, detection_time, is_at_once, times_of}};
 
 use crate::columns::PairSums;
 use crate::group::Group;

@@ -1,7 +1,6 @@
 //! Fields of a row that are put into another.
 ghost use Rattle.std.specs.Prelude.{◌≡◌, ◌++◌, [], get_or, OnOk};
-ghost use Rattle.csv.specs.Records.{fields_of};
-ghost use Rattle.sweep.specs.Layout.{picked};
+ghost use Rattle.{csv.specs.Records.{fields_of}, sweep.specs.Layout.{picked}};
 
 use csv::StringRecord;
 use std::alloc::AllocError;

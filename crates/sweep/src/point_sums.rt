@@ -1,9 +1,6 @@
 //! The sums of a point, of a group of pairs.
-ghost use Rattle.std.specs.Prelude.{◌≡◌, [], ℕ, List, is_some, OnOk};
-ghost use Rattle.std.specs.List.{list_any};
-ghost use Rattle.sweep.specs.Columns.{AreColumns, over};
-ghost use Rattle.sweep.specs.Results.{Trial};
-ghost use Rattle.sweep.specs.declared.group.Group.{Group};
+ghost use Rattle.std.specs.{Prelude.{◌≡◌, [], ℕ, List, is_some, OnOk}, List.{list_any}};
+ghost use Rattle.sweep.specs.{Columns.{AreColumns, over}, Results.{Trial}, declared.group.Group.{Group}};
 
 use crate::columns::{Columns, FirstRuns, LayerSums};
 use crate::run_numbers::{GroupNumbers, LayerNumbers};
@@ -31,7 +28,7 @@ pub(crate) struct LayerValues {
 }
 
 impl LayerValues {
-    ghost use Rattle.sweep.specs.Sums.{AreLayerValues, CountsOneMore};
+    ghost use Rattle.sweep.specs.{Sums.{AreLayerValues}, Inside.Sums.{CountsOneMore}};
 
     /// No run is counted.
     fn new(alloc: Global) -> LayerValues
@@ -65,7 +62,7 @@ pub(crate) struct LayerTotals {
 }
 
 impl LayerTotals {
-    ghost use Rattle.sweep.specs.Sums.{AreColumnsOf, AreLayerTotals, TotalsOneMore};
+    ghost use Rattle.sweep.specs.{Inside.Sums.{AreColumnsOf, TotalsOneMore}, Sums.{AreLayerTotals}};
 
     /// No run is added up.
     fn new(alloc: Global) -> LayerTotals
@@ -122,7 +119,7 @@ pub struct PointSums {
 }
 
 impl PointSums {
-    ghost use Rattle.sweep.specs.Sums.{AreSums, AddsOneMore};
+    ghost use Rattle.sweep.specs.{Sums.{AreSums}, Inside.Sums.{AddsOneMore}};
 
     /// No run was added. The first run that is has this number.
     pub fn new(alloc: Global, first: u64) -> PointSums

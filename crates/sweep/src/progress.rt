@@ -1,8 +1,6 @@
 //! How far a sweep has come: the unit whose runs are added up, and which of them are in.
 ghost use Rattle.std.specs.Prelude.{◌≡◌, ◌+◌, ◌-◌, ◌*◌, ◌^◌, ◌<◌, ◌≤◌, [], ◌∷◌, length, IfOk, OnOk, IfErr};
-ghost use Rattle.study.specs.Sources.{SourcesRecord};
-ghost use Rattle.study.specs.Grid.{points, runs};
-ghost use Rattle.sweep.specs.Inside.Progress.{runs_each};
+ghost use Rattle.{study.specs.{Sources.{SourcesRecord}, Grid.{points, runs}}, sweep.specs.Inside.Progress.{runs_each}};
 
 use crate::error::SweepError;
 use crate::layout::Layout;

@@ -2,10 +2,7 @@
 ghost use Rattle.std.specs.Prelude.{◌≡◌, List, IfOk, is_some};
 ghost use Rattle.judges.specs.declared.outcomes.Outcome.{Outcome as OutcomeRecord};
 ghost use Rattle.scenario_record.specs.Ranges.{IsInRange};
-ghost use Rattle.sweep.specs.Inside.Adding.{of_verdicts, AreOwnSums};
-ghost use Rattle.sweep.specs.Columns.{AreDecisionSums};
-ghost use Rattle.sweep.specs.declared.group.Group.{Group as GroupRecord};
-ghost use Rattle.sweep.specs.Results.{ForMeasured, limited_run};
+ghost use Rattle.sweep.specs.{Inside.Adding.{of_verdicts, AreOwnSums}, Columns.{AreDecisionSums}, declared.group.Group.{Group as GroupRecord}, Results.{ForMeasured, limited_run}};
 
 use crate::bounds::bounds_on;
 use crate::columns::{
@@ -100,7 +97,7 @@ pub(crate) struct LayerNumbers {
 }
 
 impl LayerNumbers {
-    ghost use Rattle.sweep.specs.Sums.{AreOfFindings, AreOfLimited, AreOfNoLayer};
+    ghost use Rattle.sweep.specs.Inside.Sums.{AreOfFindings, AreOfLimited, AreOfNoLayer};
 
     /// Of a run that adds nothing: it passed its limit, which is counted, or it hasn't this layer.
     fn of_nothing(alloc: Global, limited: u64) -> LayerNumbers

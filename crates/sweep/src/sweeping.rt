@@ -1,10 +1,7 @@
 //! Sweeps: all runs of a study's points, and the rows that tell of them.
 ghost use Rattle.std.specs.Prelude.{◌≡◌, ◌^◌, ◌-◌, ◌*◌, ◌<◌, ◌≤◌, false, length, [], OnOk, IfErr};
-ghost use Rattle.study.specs.Sources.{sources_of};
-ghost use Rattle.study.specs.Grid.{points, runs};
-ghost use Rattle.sweep.specs.Outcome.{WroteStudy, BreaksOff, RefusesRun, HeardLimits, HeardSomeLimits};
-ghost use Rattle.sweep.specs.Inside.Progress.{WrotePoints, StopsInPoints, numbers_in};
-ghost use Rattle.sweep.specs.StudyText.{numbers_of};
+ghost use Rattle.study.specs.{Sources.{sources_of}, Grid.{points, runs}};
+ghost use Rattle.sweep.specs.{Outcome.{WroteStudy, BreaksOff, RefusesRun, HeardLimits, HeardSomeLimits}, Inside.Progress.{WrotePoints, StopsInPoints, numbers_in}, StudyText.{numbers_of}};
 ghost use Rattle.trace_laws.specs.Taken.{HaveJoined};
 
 use crate::batches::Batches;

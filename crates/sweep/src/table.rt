@@ -1,11 +1,7 @@
 //! The text of a study, as its rows are formed.
 ghost use Rattle.std.specs.Prelude.{◌≡◌, ◌<◌, ◌++◌, [], length, map, IfOk, OnOk};
-ghost use Rattle.study.specs.Grid.{points};
-ghost use Rattle.csv.specs.Records.{fields_of};
-ghost use Rattle.sweep.specs.ColumnTable.{number_of, numbers_of};
-ghost use Rattle.sweep.specs.Groups.{group_word};
-ghost use Rattle.sweep.specs.Layout.{number_text, header_text, layer_fields, line_text, picked};
-ghost use Rattle.sweep.specs.StudyText.{names_of as names_in, unit_point, lead_of};
+ghost use Rattle.{study.specs.Grid.{points}, csv.specs.Records.{fields_of}};
+ghost use Rattle.sweep.specs.{ColumnTable.{number_of, numbers_of}, Groups.{group_word}, Layout.{number_text, header_text, layer_fields, line_text, picked}, StudyText.{names_of as names_in, unit_point, lead_of}};
 
 use crate::column_table::{
     Column, detection_columns, mistake_columns, outcome_columns, run_columns,
@@ -117,7 +113,7 @@ pub struct Table {
 }
 
 impl Table {
-    ghost use Rattle.sweep.specs.StudyText.{AddsRowsOfGroup, AddsRowsOfSums, IsBetweenLines, text_of};
+    ghost use Rattle.sweep.specs.{Inside.Private.{AddsRowsOfGroup}, StudyText.{AddsRowsOfSums, IsBetweenLines, text_of}};
 
     /// No line yet.
     pub fn new(alloc: Global) -> Table

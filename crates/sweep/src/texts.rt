@@ -1,10 +1,7 @@
 //! The texts that go out.
 ghost use Rattle.std.specs.Prelude.{◌≡◌, ◌^◌, ◌-◌, ◌<◌, length, IfOk, IfErr, OnOk};
-ghost use Rattle.reporting.specs.Outlet.{Wrote, WrotePart};
-ghost use Rattle.study.specs.Grid.{points};
-ghost use Rattle.sweep.specs.StudyText.{AreRowsOfSums, names_of, unit_point, header_of as shard_header};
-ghost use Rattle.sweep.specs.Layout.{header_text};
-ghost use Rattle.sweep.specs.Inside.Progress.{HeaderFails};
+ghost use Rattle.{reporting.specs.Outlet.{Wrote, WrotePart}, study.specs.Grid.{points}};
+ghost use Rattle.sweep.specs.{Inside.{Private.{AreRowsOfSums}, Progress.{HeaderFails}}, StudyText.{names_of, unit_point, header_of as shard_header}, Layout.{header_text}};
 
 use crate::error::SweepError;
 use crate::layout::Layout;

@@ -1,10 +1,6 @@
 //! Values, each with how often it came.
-ghost use Rattle.std.specs.Prelude.{◌≡◌, ◌<◌, ◌≤◌, ◌^◌, ◌∷◌, [], ℕ, List, length, OnOk};
-ghost use Rattle.std.specs.List.{cons_option};
-ghost use Rattle.sweep.specs.Inside.Adding.{is_above};
-ghost use Rattle.sweep.specs.Columns.{IsDistribution};
-ghost use Rattle.sweep.specs.Fitting.{most_values};
-ghost use Rattle.sweep.specs.Percentile.{IsPercentile, greater};
+ghost use Rattle.std.specs.{Prelude.{◌≡◌, ◌<◌, ◌≤◌, ◌^◌, ◌∷◌, [], ℕ, List, length, OnOk}, List.{cons_option}};
+ghost use Rattle.sweep.specs.{Inside.Adding.{is_above}, Columns.{IsDistribution}, Fitting.{most_values}, Percentile.{IsPercentile, greater}};
 
 use crate::columns::Distribution;
 use std::alloc::{AllocError, Global};
@@ -39,7 +35,7 @@ pub(crate) struct ValueCounts {
 }
 
 impl ValueCounts {
-    ghost use Rattle.sweep.specs.Percentile.{AreCounted, CountsMore};
+    ghost use Rattle.sweep.specs.{Percentile.{AreCounted}, Inside.Private.{CountsMore}};
 
     /// No value came.
     pub(crate) fn new(alloc: Global) -> ValueCounts

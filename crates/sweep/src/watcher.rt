@@ -1,7 +1,6 @@
 //! Who is told how far a sweep has come.
 ghost use Rattle.std.specs.Prelude.{◌≡◌, ◌<◌, ◌∷◌, [], ℕ, false, Bool, List, length};
-ghost use Rattle.trace_laws.specs.Taken.{HaveJoined};
-ghost use Rattle.study.specs.Grid.{points};
+ghost use Rattle.{trace_laws.specs.Taken.{HaveJoined}, study.specs.Grid.{points}};
 
 use study::{Grid, Sources};
 

@@ -1,8 +1,7 @@
 //! The detector of one process.
 ghost use Rattle.std.specs.Prelude.{◌≡◌, ◌≢◌, ◌≤◌, ◌+◌, ◌++◌, false, true, IsTrue, IfOk, OnOk, vec_len};
 ghost use Rattle.std.specs.FinSet as set;
-ghost use Rattle.process_api.specs.Detector.{is_timeout};
-ghost use Rattle.process_api.specs.declared.numbers.DetectorNumbers.TheVariants.{Timeout};
+ghost use Rattle.process_api.specs.{Detector.{is_timeout}, declared.numbers.DetectorNumbers.TheVariants.{Timeout}};
 ghost use Rattle.scenario_record.specs.Opening.{base_of};
 
 use crate::bound::grown;

@@ -1,7 +1,6 @@
 -- Minds of two kinds that act alike make the same plain program.
 use Rattle.trace_laws.proofs.Words.{◌≡◌, ℕ, zero, suc, ◌+◌, ◌++◌, refl, ap, ◌∙◌, Bool, true, false, cond, List, [], ◌∷◌, nat_eq, Answer, change, Action, Key, StepInput, Setting, has_crashed, Event, Process, Made, dead, kind_of, counted, counts_after, sent, noted, lost_by, lost, joining, added, made_by, step, puts, plain_steps, plain_left}
-use Rattle.process_api.specs.declared.action.Action.TheVariants.{Send, Wake, Note}
-use Rattle.trace_laws.specs.World.{Pair}
+use Rattle.{process_api.specs.declared.action.Action.TheVariants.{Send, Wake, Note}, trace_laws.specs.World.{Pair}}
 
 -- the same setting with minds of another kind
 abbrev pub with_minds : {A B : Type 0} → Setting A → (ℕ → B) → (B → ℕ → StepInput → Answer B) → Setting B

@@ -1,8 +1,7 @@
 -- Each event has one cause, and is taken once.
 use Rattle.trace_laws.proofs.Words.{◌≡◌, ℕ, inl, inr, refl, sym, ap, ◌∙◌, subst, List, [], ◌∷◌, arith, IsTrue, Less, key_cmp, Key, StepInput, Setting, IsSound, IsProcess, Process, step, opening_process, before_by_tick, not_before_itself}
+use Rattle.trace_laws.proofs.{Pairs.{IsCause, Own, added_by, adder, adds_is, in_pairs, mind_after, sent_at}, Rising.{IsRising, rising_pairs}}
 use Rattle.trace_laws.specs.History.{IsIn, Pair, pairs_of, IsClosed, IsStart, Adds, IsCauseOf, IsOnly}
-use Rattle.trace_laws.proofs.Pairs.{IsCause, Own, added_by, adder, adds_is, in_pairs, mind_after, sent_at}
-use Rattle.trace_laws.proofs.Rising.{IsRising, rising_pairs}
 
 module _ {Mind : Type 0} (S : Setting Mind) (sound : IsSound S) where
   -- an event is added by one step alone: later steps give greater numbers

@@ -1,13 +1,10 @@
 -- Runs and closed histories are the same.
 use Rattle.trace_laws.proofs.Words.{◌≡◌, ◌≢◌, ◌⊎◌, ◌↔◌, ℕ, zero, suc, ◌<◌, ◌≤◌, inl, inr, refl, sym, ap, ◌∙◌, subst, List, [], ◌∷◌, arith, Less, cases_lt, key_cmp, is_rising, Key, StepInput, Start, Setting, IsSound, EntryRecord, World, Has, IsLeast, NoneBelow, IsWorld, made, taken, Run, opening, opening_process, starts, start_of, entries, IsTrace, keys_total, before_by_tick, before_or_not, ticks_rise, not_before_itself, not_both, same_or_not}
+use Rattle.trace_laws.proofs.{Sets.{one_input, not_None, insert_at, insert_other, inserted}, Worlds.{taken_cases, taken_old, taken_new, taken_world, made_sent}, Runs.{run_exists, one_run}, Rising.{IsRising, rising_pairs, rising_entries}}
+use Rattle.trace_laws.proofs.Pairs.{cause, in_pairs, added_split, added_first, added_after, steps_split, steps_join}
 use Rattle.std.specs.FinMap as finmap
 use Rattle.std.specs.Prelude.{IsTrue}
 use Rattle.trace_laws.specs.History.{IsIn, Pair, pairs_of, IsAddedBySome, IsTaken, IsClosedFrom, IsClosedBetween, IsClosed, IsStart, IsOnly}
-use Rattle.trace_laws.proofs.Sets.{one_input, not_None, insert_at, insert_other, inserted}
-use Rattle.trace_laws.proofs.Worlds.{taken_cases, taken_old, taken_new, taken_world, made_sent}
-use Rattle.trace_laws.proofs.Runs.{run_exists, one_run}
-use Rattle.trace_laws.proofs.Rising.{IsRising, rising_pairs, rising_entries}
-use Rattle.trace_laws.proofs.Pairs.{cause, in_pairs, added_split, added_first, added_after, steps_split, steps_join}
 
 -- the front of a rising history is not after any of it
 front_first : (s : Pair) (rest : List Pair) → IsRising (s ∷ rest) → (c : Pair) → IsIn c (s ∷ rest) → s.0.key.tick ≤ c.0.key.tick

@@ -1,10 +1,7 @@
 -- In a trace each entry but the starts has one cause, and each event that is added is taken once.
-use Rattle.trace_laws.proofs.Words.{◌≡◌, sym, ap, subst, List, Less, EntryRecord, key_cmp, Key, StepInput, Setting, IsSound, IsIn, IsOnly, IsClosed}
-use Rattle.trace_laws.specs.World.{Pair, entries, IsTrace}
-use Rattle.trace_laws.specs.History.{IsHistoryOf, IsEffect, Causes, IsStartKey, HasCauses, TakesOnce}
-use Rattle.trace_laws.proofs.Causes.{has_one_cause, one_cause, is_taken_once}
-use Rattle.trace_laws.proofs.Steps.{in_images, of_images}
+use Rattle.trace_laws.proofs.{Words.{◌≡◌, sym, ap, subst, List, Less, EntryRecord, key_cmp, Key, StepInput, Setting, IsSound, IsIn, IsOnly, IsClosed}, Causes.{has_one_cause, one_cause, is_taken_once}, Steps.{in_images, of_images}}
 use Rattle.trace_laws.proofs.Closed.{one_history, trace_is_closed}
+use Rattle.trace_laws.specs.{World.{Pair, entries, IsTrace}, History.{IsHistoryOf, IsEffect, Causes, IsStartKey, HasCauses, TakesOnce}}
 
 -- an entry is that of a pair
 pair_of : (e : EntryRecord) (h : List Pair) → IsIn e (entries h) → (input : StepInput) × IsIn (e, input) h

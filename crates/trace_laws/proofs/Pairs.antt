@@ -1,8 +1,7 @@
 -- The pairs of one process in a history, and what their steps add.
 use Rattle.trace_laws.proofs.Words.{◌≡◌, ◌≢◌, ◌⊎◌, ℕ, ◌+◌, ◌<◌, ◌≤◌, inl, inr, refl, sym, ap, ◌∙◌, subst, List, [], ◌∷◌, IsTrue, cond, ◌==◌, arith, cases_eq, cond_both, eq-eqb, ne_eqb, eqb-true, Key, StepInput, Setting, IsSound, IsProcess, Event, Process, step, World, made, taken}
+use Rattle.trace_laws.proofs.{Steps.{IsSent, step_counts, step_mind, step_sent}, Worlds.{process_at, process_other}}
 use Rattle.trace_laws.specs.History.{IsIn, Pair, pairs_of, Adds, AreSteps, IsAdded}
-use Rattle.trace_laws.proofs.Steps.{IsSent, step_counts, step_mind, step_sent}
-use Rattle.trace_laws.proofs.Worlds.{process_at, process_other}
 
 pub pairs_here : (s : Pair) (rest : List Pair) (p : ℕ) → s.0.key.receiver ≡ p → pairs_of p (s ∷ rest) ≡ s ∷ pairs_of p rest
 pairs_here s rest p e = ap (λ b. cond b (s ∷ pairs_of p rest) (pairs_of p rest)) (eq-eqb _ _ e)

@@ -1,10 +1,7 @@
 -- Worlds that the list comes by.
 use Rattle.trace_laws.proofs.Words.{◌≡◌, ◌<◌, refl, sym, ap, ◌∙◌, subst, List, [], ◌∷◌, ◌++◌, length, append_assoc, append-nil, length-append, arith, map-append, length-map, Key, StepInput, EntryRecord, Setting, World, IsLeast, NoneBelow, Run, opening, made, taken, entries, IsTrace}
-use Rattle.std.specs.Prelude.{take}
-use Rattle.std.proofs.Math.Seq.{take-append_seam}
-use Rattle.trace_laws.specs.History.{Pair}
-use Rattle.trace_laws.specs.World.{IsReached}
-use Rattle.trace_laws.proofs.Runs.{again, next}
+use Rattle.{trace_laws.proofs.Runs.{again, next}, std.specs.Prelude.{take}, std.proofs.Math.Seq.{take-append_seam}}
+use Rattle.trace_laws.specs.{History.{Pair}, World.{IsReached}}
 
 module _ {Mind : Type 0} (S : Setting Mind) where
   pub opening_reached : IsReached S (opening S) []

@@ -1,7 +1,6 @@
 -- Keys that rise strictly, pair by pair.
 use Rattle.trace_laws.proofs.Words.{◌≡◌, inl, inr, refl, sym, subst, List, [], ◌∷◌, true, Ordering, Less, ap, arith, list_all, key_cmp, is_less, is_before, is_rising, Key, both_true, and_true, entries}
-use Rattle.std.specs.Prelude.{IsTrue}
-use Rattle.trace_laws.specs.History.{IsIn, Pair}
+use Rattle.{std.specs.Prelude.{IsTrue}, trace_laws.specs.History.{IsIn, Pair}}
 
 -- each is before all that follow
 abbrev pub IsRising : List Pair → Type 0

@@ -1,11 +1,8 @@
 -- A run of the list exists, and there is one alone.
 use Rattle.trace_laws.proofs.Words.{◌++◌, ◌≡◌, ◌≢◌, ◌⊎◌, ℕ, zero, suc, ◌+◌, ◌<◌, inl, inr, refl, sym, ap, ◌∙◌, subst, List, [], ◌∷◌, length, arith, T, Bool, true, false, cond, ◌&&◌, Ordering, Less, Some, is_lt, map, cases_lt, eq_by_cmp, below_all, key_cmp, Key, StepInput, Setting, IsSound, Event, Events, World, Has, IsLeast, NoneBelow, IsWorld, made, taken, Run, exact_keys, not_before_itself, not_both, same_or_not}
+use Rattle.trace_laws.proofs.{Sets.{apart, least_first, least_is_one, not_None, one_input, removed, removed_back, same_events, tie, tied}, Steps.{step_key}, Worlds.{taken_cases, taken_world, made_sent}}
 use Rattle.std.specs.FinMap as finmap
-use Rattle.std.specs.FinMap.{find, is_sorted}
-use Rattle.trace_laws.specs.History.{IsIn, Pair}
-use Rattle.trace_laws.proofs.Sets.{apart, least_first, least_is_one, not_None, one_input, removed, removed_back, same_events, tie, tied}
-use Rattle.trace_laws.proofs.Steps.{step_key}
-use Rattle.trace_laws.proofs.Worlds.{taken_cases, taken_world, made_sent}
+use Rattle.{std.specs.FinMap.{find, is_sorted}, trace_laws.specs.History.{IsIn, Pair}}
 
 -- ---- the least event of a set
 

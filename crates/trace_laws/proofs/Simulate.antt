@@ -1,10 +1,7 @@
 -- The plain program makes the trace.
 use Rattle.trace_laws.proofs.Words.{◌≡◌, ℕ, zero, suc, refl, sym, ap, ◌∙◌, List, [], ◌∷◌, put, key_cmp, Start, Setting, IsSound, Event, Events, World, IsWorld, made, taken, Run, joined, opening, opening_process, starts, start_of, entries, IsTrace, puts, plain_starts, plain_steps, plain_left, keys_total}
+use Rattle.trace_laws.proofs.{Sets.{not_None, same_events}, Worlds.{taken_world}, Runs.{again, front_least, front_removed, nothing_there}, Closed.{opening_world}}
 use Rattle.std.specs.FinMap as finmap
-use Rattle.trace_laws.proofs.Sets.{not_None, same_events}
-use Rattle.trace_laws.proofs.Worlds.{taken_world}
-use Rattle.trace_laws.proofs.Runs.{again, front_least, front_removed, nothing_there}
-use Rattle.trace_laws.proofs.Closed.{opening_world}
 
 entries-joined : (more : List Event) (m : Events) (es : List Event) → finmap.entries m ≡ es → finmap.entries (joined m more) ≡ puts es more
 entries-joined [] m es is = is

@@ -3,9 +3,7 @@ use Rattle.trace_laws.proofs.Words.{◌≡◌, ℕ, ◌≤◌, ◌+◌, ◌%◌,
 use Rattle.std.specs.Prelude.{IsTrue}
 use Rattle.std.specs.FinSet as set
 use Rattle.process_api.specs.Reduction.{opening_reduction}
-use Rattle.process_api.proofs.Allowed.{react_allowed}
-use Rattle.process_api.proofs.DetectorLaws.{detector_opens}
-use Rattle.process_api.proofs.Keeping.{react_keeps}
+use Rattle.process_api.proofs.{Allowed.{react_allowed}, DetectorLaws.{detector_opens}, Keeping.{react_keeps}}
 use Rattle.scenario_record.specs.declared.algorithm.AlgorithmKind.TheVariants as kind
 use Rattle.scenario_record.proofs.DetectorFacts.{opens_paced}
 

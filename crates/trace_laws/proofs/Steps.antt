@@ -1,11 +1,9 @@
 -- What is true of the events that one step adds.
 use Rattle.trace_laws.proofs.Words.{◌≡◌, ◌≢◌, ◌⊎◌, ℕ, ◌+◌, ◌<◌, ◌≤◌, inl, inr, refl, sym, ap, subst, cond, List, [], ◌∷◌, ◌++◌, map, arith, nat_lt, ◌==◌, IsTrue, AllByRecursion, cond_both, eq-eqb, ne_eqb, eqb-true, eqb-false, ltb-true, Key, StepInput, Action, change, Setting, IsSound, IsProcess, IsSlow, has_crashed, Event, Process, Made, raised, in_time, by_fate, counted, joining, counts_after, added, step, made_by, dead, IsIn}
-use Rattle.std.proofs.lemmas.List.Elements.{recursion_from_All}
-use Rattle.process_api.specs.declared.action.Action.TheVariants.{Send, Wake, Note}
-use Rattle.process_api.specs.Answer.{IsAllowed}
+use Rattle.{trace_laws.proofs.Sets.{AreApart}, std.proofs.lemmas.List.Elements.{recursion_from_All}}
+use Rattle.process_api.specs.{declared.action.Action.TheVariants.{Send, Wake, Note}, Answer.{IsAllowed}}
 use Rattle.streams.specs.declared.fate.Fate.{Fate}
 use Rattle.streams.specs.declared.fate.Fate.TheVariants as fate
-use Rattle.trace_laws.proofs.Sets.{AreApart}
 
 pub change_at : {X : Type 0} (f : ℕ → X) (p : ℕ) (v : X) → change f p v p ≡ v
 change_at f p v = ap (λ b. cond b v (f p)) (eq-eqb p p refl)

@@ -1,17 +1,14 @@
 -- A process that runs the time-out detector alone, with its suspects as a test, which computes: it acts as its mind does.
 use Rattle.trace_laws.proofs.Words.{◌≡◌, ℕ, ◌+◌, ◌-◌, refl, sym, ap, ◌∙◌, subst, Bool, true, false, cond, not, ◌&&◌, ◌||◌, if◌then◌else◌, min, max, nat_le, nat_cmp, List, [], ◌∷◌, ◌++◌, map, filter, None, eq_by_cmp, Answer, Idle, Mind, numbers_to, change, Place, StepInput, TimeoutNumbers}
+use Rattle.trace_laws.proofs.Alike.{ActAlike}
 use Rattle.std.specs.FinSet as set
 use Rattle.std.specs.Cmp.{nat_cmp_total}
-use Rattle.process_api.specs.React.{react, react_lower, react_algorithm}
-use Rattle.process_api.specs.Sets.{Processes, insert_all}
-use Rattle.process_api.specs.Detector.{ByTimeout, step_detector}
-use Rattle.process_api.specs.Timeout.{TimeoutState, watches, alive_to_others, next_beat, next_check, overdue, step_timeout}
+use Rattle.process_api.specs.{React.{react, react_lower, react_algorithm}, Sets.{Processes, insert_all}, Detector.{ByTimeout, step_detector}, Timeout.{TimeoutState, watches, alive_to_others, next_beat, next_check, overdue, step_timeout}}
 use Rattle.process_api.specs.declared.action.Action.TheVariants as action
 use Rattle.process_api.specs.declared.action.Note.TheVariants as note
 use Rattle.process_api.specs.declared.message.Payload.TheVariants as payload
 use Rattle.process_api.specs.declared.message.StepInput.TheVariants as input
 use Rattle.process_api.specs.declared.message.Tag.TheVariants as tag
-use Rattle.trace_laws.proofs.Alike.{ActAlike}
 
 pub record Watcher : Type 0 where
   pub place : Place

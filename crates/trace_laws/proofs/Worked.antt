@@ -1,22 +1,14 @@
 -- Worked traces: what the definitions give for small scenarios of the time-out detector alone whose links lose nothing
 -- and all take the same delay. There the plain program computes the trace.
 use Rattle.trace_laws.proofs.Words.{◌≡◌, ℕ, zero, suc, ◌+◌, ◌-◌, ◌*◌, ◌%◌, ◌≤◌, refl, sym, ap, ◌∙◌, subst, false, cond, nat_lt, nat_cmp, List, [], ◌∷◌, replicate, get_or, length, Option, None, Some, arith, lit≤, Bool, true, map, filter, inl, inr, AllByRecursion, ForSome, get_or-replicate, get_or_past, length-replicate, EntryRecord, Mind, TimeoutNumbers, IsInRange, IsLink, Record, no_link, link, place_in, Link, fate_of, fate_by, word, Lost, Delay, plain_starts, plain_steps, plain_left, setting_of, Setting, IsSound, opening_process, entries, IsTrace, IsIn}
+use Rattle.trace_laws.proofs.{Alike.{with_minds, same_plain}, Sets.{not_None, same_Some}, Simulate.{plain_trace}, Sound.{setting_sound}, Watching.{Watcher, watch, IsMindOf, watchers_alike}}
 use Rattle.std.specs.FinSet as set
 use Rattle.std.proofs.lemmas.Nat.{mul-add-lt}
-use Rattle.process_api.specs.Place.{most_processes}
+use Rattle.process_api.specs.{Place.{most_processes}, declared.{action.Note.{Note, TheVariants.{Suspect, Trust}}, entry.Kind.{Kind}, numbers.Watch.TheVariants.{All}}}
 use Rattle.process_api.specs.declared.numbers.DetectorNumbers.TheVariants as kinds
 use Rattle.scenario_record.specs.Ranges.{AreTimeoutInRange}
 use Rattle.scenario_record.specs.declared.algorithm.AlgorithmKind.TheVariants as algorithms
-use Rattle.trace_laws.proofs.Alike.{with_minds, same_plain}
-use Rattle.trace_laws.proofs.Sets.{not_None, same_Some}
-use Rattle.trace_laws.proofs.Simulate.{plain_trace}
-use Rattle.trace_laws.proofs.Sound.{setting_sound}
-use Rattle.trace_laws.proofs.Watching.{Watcher, watch, IsMindOf, watchers_alike}
-use Rattle.process_api.specs.declared.action.Note.{Note}
-use Rattle.process_api.specs.declared.action.Note.TheVariants.{Suspect, Trust}
-use Rattle.process_api.specs.declared.entry.Kind.{Kind}
 use Rattle.process_api.specs.declared.entry.Kind.TheVariants as kind
-use Rattle.process_api.specs.declared.numbers.Watch.TheVariants.{All}
 
 abbrev steady_link : ℕ → Link
 steady_link delay = record { min = delay; max = delay; loss = 0 }

@@ -1,8 +1,7 @@
 -- What a taken event does to a world.
 use Rattle.trace_laws.proofs.Words.{◌≡◌, ◌≢◌, ◌⊎◌, ℕ, ◌≤◌, inl, inr, sym, subst, arith, IsTrue, ◌==◌, cond_both, eqb-false, eqb-true, Key, StepInput, Setting, IsSound, IsProcess, Event, Process, World, Has, IsWorld, made, taken, IsIn}
+use Rattle.trace_laws.proofs.{Sets.{AreApart, AreNew, removed, removed_back, joined_cases, joined_old, joined_new}, Steps.{IsSent, change_at, change_other, step_sent, step_apart, step_counts, step_mind}}
 use Rattle.std.specs.FinMap as map
-use Rattle.trace_laws.proofs.Sets.{AreApart, AreNew, removed, removed_back, joined_cases, joined_old, joined_new}
-use Rattle.trace_laws.proofs.Steps.{IsSent, change_at, change_other, step_sent, step_apart, step_counts, step_mind}
 
 module _ {Mind : Type 0} (S : Setting Mind) (w : World Mind) (k : Key) (x : StepInput) where
   pub process_at : (taken S w k x).process k.receiver ≡ (made S w k x).process

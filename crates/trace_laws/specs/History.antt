@@ -1,13 +1,7 @@
 -- Closed histories: what a run leaves behind, said without an event list.
-use Rattle.std.specs.Prelude.{◌≡◌, ◌⊎◌, ◌↔◌, ℕ, ◌<◌, List, [], ◌∷◌, filter, nat_eq, IsTrue}
-use Rattle.std.specs.declared.cmp.Ordering.TheVariants.{Less}
-use Rattle.process_api.specs.Order.{EntryRecord, is_rising, key_cmp}
-use Rattle.process_api.specs.declared.key.Key.{Key}
-use Rattle.process_api.specs.declared.message.StepInput.{StepInput}
-use Rattle.process_api.specs.declared.message.StepInput.TheVariants.{Start}
-use Rattle.trace_laws.specs.Setting.{Setting, IsProcess}
-use Rattle.trace_laws.specs.Step.{Process, step}
-use Rattle.trace_laws.specs.World.{World, Has, entries, start_of, opening_process}
+use Rattle.std.specs.{Prelude.{◌≡◌, ◌⊎◌, ◌↔◌, ℕ, ◌<◌, List, [], ◌∷◌, filter, nat_eq, IsTrue}, declared.cmp.Ordering.TheVariants.{Less}}
+use Rattle.process_api.specs.{Order.{EntryRecord, is_rising, key_cmp}, declared.{key.Key.{Key}, message.StepInput.{StepInput, TheVariants.{Start}}}}
+use Rattle.trace_laws.specs.{Setting.{Setting, IsProcess}, Step.{Process, step}, World.{World, Has, entries, start_of, opening_process}}
 pub use Rattle.trace_laws.specs.World.{Pair}
 
 -- x is one of xs
@@ -69,14 +63,12 @@ module _ {Mind : Type 0} (S : Setting Mind) where
   -- the step of pair c is the one that adds an event
   abbrev pub Adds : Process Mind → (c : Pair) → Key → StepInput → List Pair → Type 0
   Adds before c key input [] = ⊥
-  Adds before c key input (s ∷ rest) =
-      ((c ≡ s) × IsIn (key, input) (step S before s.0.key s.1).added)
+  Adds before c key input (s ∷ rest) = ((c ≡ s) × IsIn (key, input) (step S before s.0.key s.1).added)
       ⊎ Adds (step S before s.0.key s.1).process c key input rest
 
   -- c is the cause of an event in a history from the opening: its step adds it
   abbrev pub IsCauseOf : List Pair → (c : Pair) → Key → StepInput → Type 0
-  IsCauseOf history c key input =
-      IsProcess S c.0.key.receiver
+  IsCauseOf history c key input = IsProcess S c.0.key.receiver
       × Adds (opening_process S c.0.key.receiver) c key input (pairs_of c.0.key.receiver history)
 
 -- cause and effect in a trace
@@ -99,14 +91,12 @@ module _ {Mind : Type 0} (S : Setting Mind) where
 
   -- every entry whose key is no start's has just one cause, an earlier entry
   abbrev pub HasCauses : List EntryRecord → Type 0
-  HasCauses trace =
-      (history : List Pair) × IsHistoryOf trace history
+  HasCauses trace = (history : List Pair) × IsHistoryOf trace history
       × ((e : EntryRecord) → IsIn e trace → ¬ (IsStartKey e.key)
       → (c : EntryRecord) × IsIn c trace × (key_cmp c.key e.key ≡ Less) × IsOnly (λ d. Causes history d e.key) c)
 
   -- every event that a step adds below the horizon is the key of just one entry, which takes the event's input
   abbrev pub TakesOnce : List EntryRecord → Type 0
-  TakesOnce trace =
-      (history : List Pair) × IsHistoryOf trace history
+  TakesOnce trace = (history : List Pair) × IsHistoryOf trace history
       × ((c : EntryRecord) (key : Key) (input : StepInput) → IsEffect history c key input
       → (e : EntryRecord) × IsIn (e, input) history × IsOnly (λ f. IsIn f trace × (f.key ≡ key)) e)

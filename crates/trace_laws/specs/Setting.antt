@@ -1,13 +1,7 @@
 -- What a scenario and its machines are to the event list. Only the last section knows algorithms and letters' fates.
-use Rattle.std.specs.Prelude.{◌≢◌, ℕ, ◌≤◌, Bool, false, nat_le, IsTrue, Option, None, Some}
-use Rattle.std.specs.List.{All}
-use Rattle.process_api.specs.Answer.{IsAllowed, Answer}
-use Rattle.process_api.specs.Mind.{Mind, is_mind_at}
-use Rattle.process_api.specs.React.{react}
-use Rattle.process_api.specs.declared.message.StepInput.{StepInput}
-use Rattle.scenario_record.specs.Record.{Record, crash, place_in, opening_mind}
-use Rattle.streams.specs.Fate.{fate_of}
-use Rattle.streams.specs.declared.fate.Fate.{Fate}
+use Rattle.std.specs.{Prelude.{◌≢◌, ℕ, ◌≤◌, Bool, false, nat_le, IsTrue, Option, None, Some}, List.{All}}
+use Rattle.{process_api.specs.{Answer.{IsAllowed, Answer}, Mind.{Mind, is_mind_at}, React.{react}, declared.message.StepInput.{StepInput}}, scenario_record.specs.Record.{Record, crash, place_in, opening_mind}}
+use Rattle.streams.specs.{Fate.{fate_of}, declared.fate.Fate.{Fate}}
 use Rattle.streams.specs.declared.fate.Fate.TheVariants as fate
 
 pub record Setting (Mind : Type 0) : Type 0 where

@@ -1,20 +1,10 @@
 -- One step of one process: what an event does to the process that receives it.
-use Rattle.std.specs.Prelude.{ℕ, ◌+◌, Bool, true, false, if◌then◌else◌, List, [], ◌∷◌, ◌++◌, nat_lt, nat_eq}
-use Rattle.std.specs.FinMap.{FinMap}
-use Rattle.process_api.specs.Answer.{Answer}
-use Rattle.process_api.specs.Order.{EntryRecord, key_cmp}
-use Rattle.process_api.specs.Place.{change}
-use Rattle.process_api.specs.declared.action.Action.{Action}
+use Rattle.std.specs.{Prelude.{ℕ, ◌+◌, Bool, true, false, if◌then◌else◌, List, [], ◌∷◌, ◌++◌, nat_lt, nat_eq}, FinMap.{FinMap}}
+use Rattle.process_api.specs.{Answer.{Answer}, Order.{EntryRecord, key_cmp}, Place.{change}, declared.{action.{Action.{Action}, Note.{Note}}, entry.Kind.{Kind}, key.Key.{Key}, message.{Payload.{Payload}, StepInput.{StepInput}, Tag.{Tag}}}}
 use Rattle.process_api.specs.declared.action.Action.TheVariants as action
-use Rattle.process_api.specs.declared.action.Note.{Note}
-use Rattle.process_api.specs.declared.entry.Kind.{Kind}
 use Rattle.process_api.specs.declared.entry.Kind.TheVariants as kind
-use Rattle.process_api.specs.declared.key.Key.{Key}
-use Rattle.process_api.specs.declared.message.Payload.{Payload}
 use Rattle.process_api.specs.declared.message.Payload.TheVariants as payload
-use Rattle.process_api.specs.declared.message.StepInput.{StepInput}
 use Rattle.process_api.specs.declared.message.StepInput.TheVariants as input
-use Rattle.process_api.specs.declared.message.Tag.{Tag}
 use Rattle.process_api.specs.declared.message.Tag.TheVariants as tag
 use Rattle.streams.specs.declared.fate.Fate.{Fate}
 use Rattle.streams.specs.declared.fate.Fate.TheVariants as fate
@@ -114,8 +104,7 @@ module _ {Mind : Type 0} (S : Setting Mind) where
     -- the event that joins by one action, if one does: its number is the count of its link with it. A letter to
     -- oneself takes one tick and is never lost
     abbrev pub joining : (ℕ → ℕ) → Action → List Event
-    joining counts (action.Send to what) =
-        if nat_eq to p
+    joining counts (action.Send to what) = if nat_eq to p
         then in_time S.horizon (record { tick = now + 1; receiver = p; sender = p; number = counts p + 1 })
         (input.Letter p what)
         else by_fate S.horizon (S.fate p to (counts to + 1) now)
@@ -162,7 +151,6 @@ module _ {Mind : Type 0} (S : Setting Mind) where
 
   -- a crashed receiver does nothing
   abbrev pub step : Process Mind → Key → StepInput → Made
-  step before key x =
-      if has_crashed (S.crash key.receiver) key.tick
+  step before key x = if has_crashed (S.crash key.receiver) key.tick
       then record { process = before; entry = dead key; added = [] }
       else made_by before key x (S.react before.mind key.tick x)

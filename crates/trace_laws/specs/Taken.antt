@@ -1,13 +1,8 @@
 -- What the code's events and letters are.
-use Rattle.process_api.specs.Rows.{IsSomeKnown, Vector}
-use Rattle.process_api.specs.Sets.{HasAbove, of_word}
-use Rattle.process_api.specs.declared.message.Letter.{Letter}
-use Rattle.process_api.specs.declared.message.Payload.{Payload}
+use Rattle.process_api.specs.{Rows.{IsSomeKnown, Vector}, Sets.{HasAbove, of_word}, declared.message.{Letter.{Letter}, Payload.{Payload}, StepInput.{StepInput}}}
 use Rattle.process_api.specs.declared.message.Payload.TheVariants as payload
-use Rattle.process_api.specs.declared.message.StepInput.{StepInput}
 use Rattle.process_api.specs.declared.message.StepInput.TheVariants as input
-use Rattle.trace_laws.specs.Step.{Event}
-use Rattle.trace_laws.specs.declared.event.Taken.{Taken}
+use Rattle.trace_laws.specs.{Step.{Event}, declared.event.Taken.{Taken}}
 use Rattle.trace_laws.specs.declared.event.Taken.TheVariants as taken
 use Rattle.std.specs.Prelude.{ℕ, ◌≤◌, ◌^◌, ◌⊎◌, ⊤, length, replicate, None, List, ◌++◌}
 

@@ -1,18 +1,12 @@
 -- What the laws of the event list say of a setting.
-use Rattle.std.specs.Prelude.{◌≡◌, ℕ, List, []}
-use Rattle.std.specs.declared.cmp.Ordering.TheVariants.{Less}
-use Rattle.process_api.specs.Order.{EntryRecord, key_cmp}
-use Rattle.process_api.specs.declared.key.Key.{Key}
-use Rattle.process_api.specs.declared.message.StepInput.{StepInput}
-use Rattle.trace_laws.specs.Setting.{Setting}
-use Rattle.trace_laws.specs.World.{World, Pair, Run, IsLeast, IsWorld, opening, opening_process, taken, entries, IsTrace, plain_starts, plain_steps, plain_left}
-use Rattle.trace_laws.specs.History.{IsIn, IsOnly, IsClosed, IsStart, IsCauseOf}
+use Rattle.std.specs.{Prelude.{◌≡◌, ℕ, List, []}, declared.cmp.Ordering.TheVariants.{Less}}
+use Rattle.process_api.specs.{Order.{EntryRecord, key_cmp}, declared.{key.Key.{Key}, message.StepInput.{StepInput}}}
+use Rattle.trace_laws.specs.{Setting.{Setting}, World.{World, Pair, Run, IsLeast, IsWorld, opening, opening_process, taken, entries, IsTrace, plain_starts, plain_steps, plain_left}, History.{IsIn, IsOnly, IsClosed, IsStart, IsCauseOf}}
 
 module _ {Mind : Type 0} (S : Setting Mind) where
   -- the opening is a world, and each step of the list keeps it one
   abbrev pub StaysAWorld : Type 0
-  StaysAWorld =
-      IsWorld S (opening S)
+  StaysAWorld = IsWorld S (opening S)
       × ((w : World Mind) (key : Key) (input : StepInput)
       → IsWorld S w → IsLeast w.pending key input → IsWorld S (taken S w key input))
 

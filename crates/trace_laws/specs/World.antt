@@ -1,16 +1,8 @@
 -- The single event list.
-use Rattle.std.specs.Prelude.{◌≡◌, ◌≢◌, ℕ, ◌≤◌, ◌<◌, zero, suc, List, [], ◌∷◌, map, IsTrue, Some, ◌++◌, refl}
-use Rattle.std.specs.declared.cmp.Ordering.TheVariants.{Less}
+use Rattle.std.specs.{Prelude.{◌≡◌, ◌≢◌, ℕ, ◌≤◌, ◌<◌, zero, suc, List, [], ◌∷◌, map, IsTrue, Some, ◌++◌, refl}, declared.cmp.Ordering.TheVariants.{Less}, Coded.{Coded, code_by, coded×, coded_ℕ}, FinMap.Entries.{put}}
 use Rattle.std.specs.FinMap as events
-use Rattle.std.specs.Coded.{Coded, code_by, coded×, coded_ℕ}
-use Rattle.std.specs.FinMap.Entries.{put}
-use Rattle.process_api.specs.Order.{EntryRecord, key_cmp}
-use Rattle.process_api.specs.Place.{change}
-use Rattle.process_api.specs.declared.key.Key.{Key}
-use Rattle.process_api.specs.declared.message.StepInput.{StepInput}
-use Rattle.process_api.specs.declared.message.StepInput.TheVariants.{Start}
-use Rattle.trace_laws.specs.Setting.{Setting, IsProcess}
-use Rattle.trace_laws.specs.Step.{Event, Events, Process, step, Made}
+use Rattle.process_api.specs.{Order.{EntryRecord, key_cmp}, Place.{change}, declared.{key.Key.{Key}, message.StepInput.{StepInput, TheVariants.{Start}}}}
+use Rattle.trace_laws.specs.{Setting.{Setting, IsProcess}, Step.{Event, Events, Process, step, Made}}
 
 -- the processes, and the events that are pending
 pub record World (Mind : Type 0) : Type 0 where
@@ -108,8 +100,7 @@ module _ {M : Type 0} (S : Setting M) where
 
 -- a key is stored as its fields
 abbrev pub key_code : Coded Key
-key_code =
-    code_by (ℕ × (ℕ × (ℕ × ℕ))) (coded× coded_ℕ (coded× coded_ℕ (coded× coded_ℕ coded_ℕ)))
+key_code = code_by (ℕ × (ℕ × (ℕ × ℕ))) (coded× coded_ℕ (coded× coded_ℕ (coded× coded_ℕ coded_ℕ)))
     (λ k. (k.tick, (k.receiver, (k.sender, k.number))))
     (λ p. record { tick = p.0; receiver = p.1.0; sender = p.1.1.0; number = p.1.1.1 }) (λ _. refl)
 
@@ -130,8 +121,7 @@ module _ {Mind : Type 0} (S : Setting Mind) where
   abbrev pub plain_steps : ℕ → (ℕ → Process Mind) → List Event → List Pair
   plain_steps zero process es = []
   plain_steps (suc n) process [] = []
-  plain_steps (suc n) process (e ∷ es) =
-      ((step S (process e.0.receiver) e.0 e.1).entry, e.1)
+  plain_steps (suc n) process (e ∷ es) = ((step S (process e.0.receiver) e.0 e.1).entry, e.1)
       ∷ plain_steps n (change process e.0.receiver (step S (process e.0.receiver) e.0 e.1).process)
       (puts es (step S (process e.0.receiver) e.0 e.1).added)
 

@@ -1,7 +1,6 @@
 //! Events, which wait for a process.
 ghost use Rattle.std.specs.Prelude.{◌≡◌, ℕ, IfErr, IfOk, MatchOption, None, OnErr, replicate};
-ghost use Rattle.trace_laws.specs.World.{start_of};
-ghost use Rattle.trace_laws.specs.Taken.{AreFilled, AreLong, LiesAside, event_of, input_of};
+ghost use Rattle.trace_laws.specs.{World.{start_of}, Taken.{AreFilled, AreLong, LiesAside, event_of, input_of}};
 
 use process_api::{Cells, Key, Payload, Pid, ProcSet, StepInput, Tag};
 use std::alloc::{AllocError, Global};
@@ -147,8 +146,7 @@ pub struct Event {
 impl Model for Event {
     ghost use Rattle.std.specs.Coded.{coded×};
     ghost use Rattle.process_api.specs.contracts.message.StepInput as step_input;
-    ghost use Rattle.trace_laws.specs.World.{key_code};
-    ghost use Rattle.trace_laws.specs.Step.{Event as Pair};
+    ghost use Rattle.trace_laws.specs.{World.{key_code}, Step.{Event as Pair}};
 
     ghost Value = { Pair };
 

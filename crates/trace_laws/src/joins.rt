@@ -1,7 +1,6 @@
 //! Those who take the events of a step.
 ghost use Rattle.std.specs.Prelude.{◌≢◌, ◌≤◌, ◌∷◌, [], ℕ, List, OnOk};
-ghost use Rattle.trace_laws.specs.Taken.{HaveJoined, Serves, StillServes, event_of};
-ghost use Rattle.trace_laws.specs.Step.{Event as Pair};
+ghost use Rattle.trace_laws.specs.{Taken.{HaveJoined, Serves, StillServes, event_of}, Step.{Event as Pair}};
 
 use crate::event::Event;
 use process_api::{Key, Payload};

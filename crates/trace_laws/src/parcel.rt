@@ -16,8 +16,7 @@ pub struct Parcel {
 impl Model for Parcel {
     ghost use Rattle.std.specs.Prelude.{◌≡◌};
     ghost use Rattle.process_api.specs.contracts.message.Letter as letter;
-    ghost use Rattle.process_api.specs.declared.message.Letter.{Letter};
-    ghost use Rattle.trace_laws.specs.Taken.{event_of, letter_of};
+    ghost use Rattle.{process_api.specs.declared.message.Letter.{Letter}, trace_laws.specs.Taken.{event_of, letter_of}};
 
     ghost Value = { Letter };
 

@@ -1,10 +1,7 @@
 -- Parts that rise and share no key can be merged: each entry is put into its place.
 use Rattle.trace_merge.proofs.Words.{◌≡◌, refl, ap, ◌∙◌, sym, subst, true, false, IsTrue, List, [], ◌∷◌, is_eq, Less, Ordering, IsPermutation, arith, All, All-cons, All-from_recursion, All-head, All-permutation, All-tail, All-weaker, IsPermutation-cons, IsPermutation-middle, IsPermutation-refl, IsPermutation-sym, IsPermutation-trans, AllPass-from_list_all, is_less, is_before, is_rising, EntryRecord, IsDistinct, inl, inr, key_cmp, keys_total, both_true, all_of, AllDiffer, IsMergeOf, same}
-use Rattle.std.proofs.Common.{true≢false}
-use Rattle.std.specs.Ordering.{eq_by_cmp}
-use Rattle.std.proofs.lemmas.Cmp.{tied_itself}
-use Rattle.process_api.proofs.KeyOrder.{before_or_not}
-use Rattle.trace_merge.proofs.Distinct.{rising_more}
+use Rattle.{trace_merge.proofs.Distinct.{rising_more}, std.proofs.{Common.{true≢false}, lemmas.Cmp.{tied_itself}}}
+use Rattle.{std.specs.Ordering.{eq_by_cmp}, process_api.proofs.KeyOrder.{before_or_not}}
 
 abbrev Before : EntryRecord → EntryRecord → Type 0
 Before a b = is_before a.key b.key ≡ true

@@ -1,11 +1,7 @@
 -- Parts of a trace, and what they hold together.
-use Rattle.std.specs.Prelude.{◌≢◌, Bool, List, [], ◌∷◌, ◌++◌, IsTrue}
-use Rattle.std.specs.List.{AllByRecursion, IsDistinct}
-use Rattle.std.specs.List.Sorted.{IsPermutation, IsSortedByKey}
-use Rattle.std.specs.Ordering.{eq_by_cmp}
+use Rattle.std.specs.{Prelude.{◌≢◌, Bool, List, [], ◌∷◌, ◌++◌, IsTrue}, List.{AllByRecursion, IsDistinct, Sorted.{IsPermutation, IsSortedByKey}}, Ordering.{eq_by_cmp}}
 use Rattle.process_api.specs.Order.{EntryRecord, is_rising, key_cmp}
 
--- the entries of all parts
 abbrev pub all_of : List (List EntryRecord) → List EntryRecord
 all_of [] = []
 all_of (part ∷ parts) = part ++ all_of parts

@@ -1,8 +1,6 @@
 //! The entries of all parts, tick by tick.
 ghost use Rattle.std.specs.Prelude.{◌≡◌, ◌≤◌, ◌^◌, ◌<◌, ◌++◌, [], map, All, IsTrue, OnOk, IfOk, IfErr, MatchOption, IsPermutation};
-ghost use Rattle.process_api.specs.Order.{is_rising};
-ghost use Rattle.trace_merge.specs.Inside.Moving.{HaveMoved};
-ghost use Rattle.trace_merge.specs.Parts.{all_of};
+ghost use Rattle.{process_api.specs.Order.{is_rising}, trace_merge.specs.{Inside.Moving.{HaveMoved}, Parts.{all_of}}};
 
 use crate::joined::Joined;
 use process_api::{Entry, RunError};

@@ -24,8 +24,7 @@ pub struct Merging {
 }
 
 impl Model for Merging {
-    ghost use Rattle.std.specs.Prelude.{List, map};
-    ghost use Rattle.process_api.specs.Order.{EntryRecord};
+    ghost use Rattle.{std.specs.Prelude.{List, map}, process_api.specs.Order.{EntryRecord}};
     ghost use Rattle.trace_merge.specs.Parts.{all_of, AllDiffer};
 
     ghost Value = { List (List EntryRecord) };

@@ -1,8 +1,8 @@
 -- A run of a berth, event by event.
 use Rattle.window_laws.proofs.Words.{◌≡◌, ℕ, ◌<◌, arith, length, refl, sym, ap, ◌∙◌, subst, List, [], ◌∷◌, ◌++◌, append_assoc, append-nil, nat_eq, ⊎_elim, eqb-true, length-map, map-append, EntryRecord, Key, StepInput, Setting, Event, Events, Process, step, step_key, joined_cases, removed, least_is_one, one_input, for_self, for_others, BerthRun}
+use Rattle.window_laws.proofs.Unions.{in_filter}
 use Rattle.std.specs.FinMap as events
 use Rattle.trace_laws.specs.World.{Pair, Has, IsLeast, NoneBelow, joined, entries}
-use Rattle.window_laws.proofs.Unions.{in_filter}
 
 module _ {Mind : Type 0} (S : Setting Mind) (p end : ℕ) where
   -- a run of a berth that may not be over yet

@@ -1,11 +1,9 @@
 -- A window can be run in the order of the list: each process has a worker of its own, and the turns come as the list's steps do.
 use Rattle.window_laws.proofs.Words.{◌≡◌, ◌≢◌, ◌⊎◌, ℕ, zero, suc, ◌+◌, ◌<◌, ◌≤◌, inl, inr, refl, sym, ap, ◌∙◌, subst, List, [], ◌∷◌, ◌++◌, arith, Bool, true, false, cond, map, append_assoc, append-nil, cases_eq, cases_lt, Key, StepInput, change, Setting, IsSound, IsProcess, Event, Events, World, Has, IsLeast, NoneBelow, IsWorld, taken, Run, IsEmpty, AreApart, removed, removed_back, change_at, change_other, StageRecord, Status, Waiting, Held, Done, Act, Take, Turn, Post, Return, Close, HoldsNoWork, with_status, posted, turned, has_below, closed, Moves, IsRun, StandsFor, turns_of}
+use Rattle.window_laws.proofs.{Unions.{entries_apart, has_entry, entry_has, not_held_at_first}, Family.{IsFamily, at_receiver, by_place, runs_apart}, Reached.{held_is, Reached, take_reached, turn_reached, post_reached, return_reached}}
+use Rattle.window_laws.proofs.Order.{end, reach, alone, first, first_family, from_own, from_mailbox}
 use Rattle.std.specs.FinMap as finmap
 use Rattle.trace_laws.specs.History.{IsIn, Pair, pairs_of}
-use Rattle.window_laws.proofs.Unions.{entries_apart, has_entry, entry_has, not_held_at_first}
-use Rattle.window_laws.proofs.Family.{IsFamily, at_receiver, by_place, runs_apart}
-use Rattle.window_laws.proofs.Reached.{held_is, Reached, take_reached, turn_reached, post_reached, return_reached}
-use Rattle.window_laws.proofs.Order.{end, reach, alone, first, first_family, from_own, from_mailbox}
 
 -- ---- statuses that change one after the other, from process 0 on
 

@@ -1,11 +1,9 @@
 -- Every run of a window comes to the world to which the list comes.
 use Rattle.window_laws.proofs.Words.{◌≡◌, ◌⊎◌, ℕ, ◌+◌, ◌<◌, ◌≤◌, inl, inr, refl, sym, ap, ◌∙◌, subst, List, [], ◌∷◌, arith, cases_eq, key_cmp, Key, StepInput, EntryRecord, Setting, IsSound, IsProcess, Event, World, Has, NoneBelow, IsWorld, Run, entries, IsEmpty, one_input, joined_cases, same_events, not_None, run_exists, one_run, so_far_over, cause, in_pairs, pairs_in, closed_of_run, IsMerge, StageRecord, Done, Act, Take, Turn, Post, Return, Close, end_of, gathered, closed, Moves, IsRun, StandsFor, IsListRun, AreAlike}
+use Rattle.window_laws.proofs.{Unions.{in_map, map_in, joined_back, has_entry, entry_has, done_at_first}, Family.{IsFamily, runs_apart}, Solo.{IsAlone}}
+use Rattle.window_laws.proofs.Reached.{clash, IsSomewhere, Reached, take_reached, turn_reached, post_reached, return_reached}
 use Rattle.std.specs.FinMap as finmap
 use Rattle.trace_laws.specs.History.{IsIn, Pair, pairs_of, IsAddedBySome, IsClosedBetween}
-use Rattle.window_laws.proofs.Unions.{in_map, map_in, joined_back, has_entry, entry_has, done_at_first}
-use Rattle.window_laws.proofs.Family.{IsFamily, runs_apart}
-use Rattle.window_laws.proofs.Solo.{IsAlone}
-use Rattle.window_laws.proofs.Reached.{clash, IsSomewhere, Reached, take_reached, turn_reached, post_reached, return_reached}
 
 module _ {Mind : Type 0} (S : Setting Mind) (sound : IsSound S) (window : ℕ) (short : window ≤ S.lookahead)
     (w : World Mind) (is_world : IsWorld S w) (g : StageRecord Mind) (stands : StandsFor S window g w) where

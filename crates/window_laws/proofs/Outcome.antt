@@ -1,9 +1,7 @@
 -- What the processes of a window come to together, each by its own run.
 use Rattle.window_laws.proofs.Words.{◌≡◌, ◌≢◌, ◌⊎◌, ℕ, ◌+◌, ◌≤◌, inl, inr, refl, sym, ◌∙◌, subst, List, [], ◌∷◌, cases_eq, Key, StepInput, Setting, IsSound, IsProcess, Event, Events, Process, World, Has, IsWorld, Run, IsEmpty, run_exists, one_run, StageRecord, StandsFor, BerthRun, IsPosted}
+use Rattle.window_laws.proofs.{Family.{IsFamily, is_or_not, runs_apart}, Solo.{IsSolo, solo, berth_exists}, Order.{end, reach, alone, first_family, first_alone}}
 use Rattle.trace_laws.specs.History.{IsIn, Pair, pairs_of}
-use Rattle.window_laws.proofs.Family.{IsFamily, is_or_not, runs_apart}
-use Rattle.window_laws.proofs.Solo.{IsSolo, solo, berth_exists}
-use Rattle.window_laws.proofs.Order.{end, reach, alone, first_family, first_alone}
 
 -- from nothing nothing comes
 run_of_empty : {Mind : Type 0} (S : Setting Mind) (tick : ℕ) (h : List Pair) (u v : World Mind) → Run S tick u h v → IsEmpty u.pending → v ≡ u

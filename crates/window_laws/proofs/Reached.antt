@@ -1,10 +1,8 @@
 -- What is true of every stage inside a window: it is a view of one world for each process, each on its own way through its own run.
 use Rattle.window_laws.proofs.Words.{◌≡◌, ◌≢◌, ◌⊎◌, ℕ, ◌+◌, ◌<◌, ◌≤◌, inl, inr, sym, ap, ◌∙◌, subst, List, [], ◌∷◌, ◌++◌, cond, map-append, Key, StepInput, change, same_or_not, Setting, IsSound, IsProcess, Event, Events, Made, step, World, Has, IsLeast, NoneBelow, made, taken, joined, entries, IsEmpty, one_input, removed, removed_back, inserted, insert_at, insert_other, joined_cases, change_at, change_other, RunSoFar, so_far_more, StageRecord, Status, Waiting, Held, Done, with_status, posted, turned, for_self, for_others}
+use Rattle.window_laws.proofs.{Unions.{joined_back}, Family.{by_place, change_all, change_both, IsFamily, stepped, stepped_family, at_own, kept}, Solo.{IsAlone, least_alone, same_step, new_there, other_in, next_alone, next_letters}}
 use Rattle.std.specs.FinMap as finmap
 use Rattle.trace_laws.specs.History.{IsIn, Pair}
-use Rattle.window_laws.proofs.Unions.{joined_back}
-use Rattle.window_laws.proofs.Family.{by_place, change_all, change_both, IsFamily, stepped, stepped_family, at_own, kept}
-use Rattle.window_laws.proofs.Solo.{IsAlone, least_alone, same_step, new_there, other_in, next_alone, next_letters}
 
 pub held_is : (a b : ℕ) → Held a ≡ Held b → a ≡ b
 held_is a b e = cc

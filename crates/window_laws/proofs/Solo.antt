@@ -1,9 +1,8 @@
 -- The run of one berth is the run of its process alone.
 use Rattle.window_laws.proofs.Words.{◌++◌, ◌≡◌, ◌≢◌, ◌⊎◌, ◌↔◌, ℕ, ◌+◌, ◌<◌, ◌≤◌, inl, inr, refl, sym, ap, ◌∙◌, subst, List, [], ◌∷◌, arith, Less, not, nat_eq, eq-eqb, eqb-true, eqb-false, ne_eqb, not-true, key_cmp, Key, StepInput, ticks_rise, Setting, IsSound, IsProcess, Event, Events, Process, Made, step, World, Has, IsLeast, made, taken, Run, joined, run_exists, one_input, removed, removed_back, joined_cases, in_append, in_left, in_right, process_at, taken_cases, taken_old, taken_new, for_self, for_others, BerthRun}
+use Rattle.window_laws.proofs.{Unions.{in_filter, filter_in, iff_join, joined_back}, Family.{IsOwn, own_taken}}
 use Rattle.std.specs.FinMap as finmap
 use Rattle.trace_laws.specs.History.{IsIn, Pair}
-use Rattle.window_laws.proofs.Unions.{in_filter, filter_in, iff_join, joined_back}
-use Rattle.window_laws.proofs.Family.{IsOwn, own_taken}
 
 module _ {Mind : Type 0} (S : Setting Mind) (start end p : ℕ) where
   -- a world of process p alone, beside its berth

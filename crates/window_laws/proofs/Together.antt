@@ -1,10 +1,7 @@
 -- What berths make of a window, some run of the window machine makes.
 use Rattle.window_laws.proofs.Words.{◌≡◌, ◌⊎◌, ℕ, ◌≤◌, inl, inr, sym, ap, ◌∙◌, subst, List, Key, StepInput, Setting, IsSound, IsProcess, Event, Events, World, Has, IsWorld, entries, same_events, one_run, StageRecord, Act, end_of, first_status, IsRun, StandsFor, IsMerge, IsPosted, AreBerths, IsSameStage}
+use Rattle.window_laws.proofs.{Family.{is_or_not}, Order.{any_order}, Exists.{any_run}, Outcome.{IsWhole, whole, pairs_are, now_is, rest_in, letter_in, whole_place}}
 use Rattle.trace_laws.specs.History.{Pair, pairs_of}
-use Rattle.window_laws.proofs.Family.{is_or_not}
-use Rattle.window_laws.proofs.Order.{any_order}
-use Rattle.window_laws.proofs.Exists.{any_run}
-use Rattle.window_laws.proofs.Outcome.{IsWhole, whole, pairs_are, now_is, rest_in, letter_in, whole_place}
 
 -- two stages that stand for one world from one tick on are the same
 same_stage : {Mind : Type 0} (S : Setting Mind) (window : ℕ) (g h : StageRecord Mind) (w : World Mind) → StandsFor S window g w → StandsFor S window h w → g.start ≡ h.start → IsSameStage S g h

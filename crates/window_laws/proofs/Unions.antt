@@ -1,10 +1,8 @@
 -- Sets that are joined, the entries of a set, and lists that are filtered or mapped.
 use Rattle.window_laws.proofs.Words.{◌≡◌, ◌≢◌, ◌⊎◌, ◌↔◌, ℕ, ◌≤◌, inl, inr, refl, sym, ap, ◌∙◌, subst, Bool, true, false, cond, ◌&&◌, arith, List, [], ◌∷◌, Some, T, Ordering, Less, Equal, Greater, is_eq, is_lt, true≢false, nat_lt, filter, map, ltb-false, or_parts, list_any, key_cmp, Key, StepInput, keys_total, exact_keys, same_or_not, not_before_itself, Event, Events, Has, NoneBelow, joined, IsIn, not_None, same_Some, insert_at, insert_other, AreApart, apart, tie, Waiting, Held, Done, has_below, first_status}
 use Rattle.std.proofs.lemmas.Cmp.{tied_itself}
-use Rattle.std.specs.Ordering.{eq_by_cmp}
+use Rattle.std.specs.{Ordering.{eq_by_cmp}, FinMap.{find, is_sorted, Entries.{below_all}}}
 use Rattle.std.specs.FinMap as finmap
-use Rattle.std.specs.FinMap.{find, is_sorted}
-use Rattle.std.specs.FinMap.Entries.{below_all}
 
 module _ {A B C D P Q : Type 0} where
   pub iff_join : A ↔ (P ⊎ Q) → P ↔ (B ⊎ C) → (C → D) → (Q → D) → (D → C ⊎ Q) → A ↔ (B ⊎ D)

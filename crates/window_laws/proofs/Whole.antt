@@ -1,9 +1,7 @@
 -- Windows one after the other make the trace.
 use Rattle.window_laws.proofs.Words.{◌≡◌, ℕ, ◌≤◌, inl, inr, refl, sym, ◌∙◌, subst, List, [], ◌∷◌, ◌++◌, append_assoc, arith, true, true≢false, Ordering, Less, Equal, Greater, map-append, list_all, key_cmp, is_less, is_before, is_rising, Key, EntryRecord, not_before_itself, not_both, Setting, IsSound, World, IsWorld, Run, entries, opening, IsTrace, taken, opening_world, RunSoFar, so_far_then, run_exists, IsMerge, Windows, end_to_end, StageRecord, StandsFor, end_of}
-use Rattle.std.specs.Prelude.{IsTrue}
-use Rattle.process_api.proofs.Minds.{both_true}
+use Rattle.{window_laws.proofs.Order.{any_order}, std.specs.Prelude.{IsTrue}, process_api.proofs.Minds.{both_true}}
 use Rattle.trace_laws.specs.History.{IsIn, Pair}
-use Rattle.window_laws.proofs.Order.{any_order}
 
 -- ---- two rising lists with the same entries are one
 

@@ -1,16 +1,8 @@
 -- The window machine: workers share the processes for one window, each step the atomic act of one of them.
-use Rattle.std.specs.Prelude.{◌≡◌, ◌↔◌, ℕ, ◌+◌, ◌≤◌, ◌<◌, min, Bool, not, if◌then◌else◌, List, [], ◌∷◌, ◌++◌, filter, nat_lt, nat_eq, ◌⊎◌}
-use Rattle.std.specs.List.{list_any}
+use Rattle.std.specs.{Prelude.{◌≡◌, ◌↔◌, ℕ, ◌+◌, ◌≤◌, ◌<◌, min, Bool, not, if◌then◌else◌, List, [], ◌∷◌, ◌++◌, filter, nat_lt, nat_eq, ◌⊎◌}, List.{list_any}}
 use Rattle.std.specs.FinMap as events
-use Rattle.process_api.specs.Order.{EntryRecord}
-use Rattle.process_api.specs.Place.{change}
-use Rattle.process_api.specs.declared.key.Key.{Key}
-use Rattle.process_api.specs.declared.message.StepInput.{StepInput}
-use Rattle.pending_events.specs.Pending.{IsEmpty}
-use Rattle.trace_laws.specs.Setting.{Setting, IsProcess}
-use Rattle.trace_laws.specs.Step.{Event, Events, Process, Made, step}
-use Rattle.trace_laws.specs.World.{World, Has, IsLeast, NoneBelow, joined, Pair, IsWorld, entries}
-use Rattle.trace_laws.specs.History.{IsIn}
+use Rattle.{process_api.specs.{Order.{EntryRecord}, Place.{change}, declared.{key.Key.{Key}, message.StepInput.{StepInput}}}, pending_events.specs.Pending.{IsEmpty}}
+use Rattle.trace_laws.specs.{Setting.{Setting, IsProcess}, Step.{Event, Events, Process, Made, step}, World.{World, Has, IsLeast, NoneBelow, joined, Pair, IsWorld, entries}, History.{IsIn}}
 
 -- a process waits for a worker, is held by one, or is done for this window
 pub data Status : Type 0 where
@@ -109,14 +101,12 @@ module _ {Mind : Type 0} (S : Setting Mind) where
   abbrev pub Moves : (window end : ℕ) → StageRecord Mind → Act → StageRecord Mind → Type 0
   Moves window end g (Take a p) h =
       (g.status p ≡ Waiting) × IsEmpty (g.tray a) × HoldsNoWork end g a × (h ≡ with_status g p (Held a))
-  Moves window end g (Turn a) h =
-      (p : ℕ) × (key : Key) × (input : StepInput) × (g.status p ≡ Held a)
+  Moves window end g (Turn a) h = (p : ℕ) × (key : Key) × (input : StepInput) × (g.status p ≡ Held a)
       × IsLeast (g.own p) key input × (key.tick < end) × (h ≡ turned g a p key input)
   Moves window end g (Post a key input) h = Has (g.tray a) key input × (h ≡ posted g a key input)
   Moves window end g (Return a p) h =
       (g.status p ≡ Held a) × NoneBelow end (g.own p) × IsEmpty (g.tray a) × (h ≡ with_status g p Done)
-  Moves window end g (Close next) h =
-      ((p : ℕ) → IsProcess S p → g.status p ≡ Done) × (end ≤ next) × (next ≤ S.horizon)
+  Moves window end g (Close next) h = ((p : ℕ) → IsProcess S p → g.status p ≡ Done) × (end ≤ next) × (next ≤ S.horizon)
       × ((p : ℕ) → NoneBelow next (g.own p) × NoneBelow next (g.mailbox p)) × (h ≡ closed window next g)
 
   -- A run of a window: allowed acts, whose one Close is the last; the Close finds one stage, and leaves the other

@@ -1,9 +1,6 @@
 -- What the law of the window machine says of a setting and a length of windows.
 use Rattle.std.specs.Prelude.{◌≡◌, ◌↔◌, ℕ, ◌≤◌, List, [], ◌∷◌, ◌++◌, map, IsTrue}
-use Rattle.process_api.specs.Order.{EntryRecord, is_rising}
-use Rattle.trace_laws.specs.History.{IsIn, pairs_of}
-use Rattle.trace_laws.specs.Setting.{Setting, IsProcess}
-use Rattle.trace_laws.specs.World.{World, Pair, IsWorld, NoneBelow, Run, entries, opening, IsTrace}
+use Rattle.{process_api.specs.Order.{EntryRecord, is_rising}, trace_laws.specs.{History.{IsIn, pairs_of}, Setting.{Setting, IsProcess}, World.{World, Pair, IsWorld, NoneBelow, Run, entries, opening, IsTrace}}}
 use Rattle.window_laws.specs.Machine.{StageRecord, Act, Take, Turn, Post, Return, Close, StandsFor, IsRun, end_of}
 
 -- the merged list strictly rises, and has just the entries of the parts of processes 1 to n
@@ -67,8 +64,7 @@ module _ {Mind : Type 0} (S : Setting Mind) (window : ℕ) where
   -- windows lead from stage g to stage h, and these are the merged parts of each
   abbrev pub Windows : StageRecord Mind → List (List EntryRecord) → StageRecord Mind → Type 0
   Windows g [] h = h ≡ g
-  Windows g (merged ∷ more) h =
-      (acts : List Act) × (found : StageRecord Mind) × (left : StageRecord Mind)
+  Windows g (merged ∷ more) h = (acts : List Act) × (found : StageRecord Mind) × (left : StageRecord Mind)
       × IsRun S window (end_of S window g.start) g acts found left
       × IsMerge S.processes found.part merged × Windows left more h
 

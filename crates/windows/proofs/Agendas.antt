@@ -1,13 +1,10 @@
 -- Events in a row and events that wait, as one set.
 use Rattle.windows.proofs.Words.{◌≡◌, ◌≢◌, ◌⊎◌, ◌≤◌, ◌<◌, ℕ, ◌+◌, inl, inr, refl, sym, ap, ◌∙◌, subst, List, [], ◌∷◌, ◌++◌, map, append_assoc, min, arith, false, Less, Option, Some, None, MatchOption, AllByRecursion, IsPermutation, cases_lt, Contains-permutation, IsPermutation-sym, key_cmp, Key, Letter, StepInput, keys_total, exact_keys, same_or_not, ticks_rise, weaker, IsIn, IsEmpty, IsLeastTick, Event, Events, Has, IsLeast, NoneBelow, joined, joined_one, least_below, insert_at, insert_other, joined_cases, one_input, remove_at, remove_other, removed, same_events, event_of, earlier_of, soonest_in, in_map, joined_back, map_in, AreFrom, AreLists, AreOne, all_ahead, in_box, All, All-push, before_or_not, not_None, in_left, in_right, IsNextStart, first_tick, is_some, option_or}
+use Rattle.windows.proofs.{Letters.{joined_both}, Ranked.{contains_in, in_contains}, Places.{all_at, all_place}}
 use Rattle.std.specs.FinMap as events
 use Rattle.pending_events.specs.Inside.Calendar.{latest}
-use Rattle.pending_events.proofs.Falling.{none_latest}
-use Rattle.pending_events.proofs.Rows.{get_joined}
-use Rattle.windows.proofs.Letters.{joined_both}
+use Rattle.pending_events.proofs.{Falling.{none_latest}, Rows.{get_joined}}
 use Rattle.windows.specs.declared.agenda.Inner.{Inner}
-use Rattle.windows.proofs.Ranked.{contains_in, in_contains}
-use Rattle.windows.proofs.Places.{all_at, all_place}
 
 -- ---- the tick at which the next window opens
 

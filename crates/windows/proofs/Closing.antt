@@ -1,13 +1,11 @@
 -- What the processes of a window make of a stage, and what the closing of the window leaves.
 use Rattle.windows.proofs.Words.{◌≡◌, ◌⊎◌, ◌↔◌, ℕ, zero, suc, ◌+◌, ◌-◌, ◌*◌, ◌<◌, ◌≤◌, inl, inr, refl, sym, ap, ◌∙◌, subst, List, [], ◌∷◌, ◌++◌, Some, length, map, slice_get, arith, append_assoc, append-nil, length-append, true, false, cond, not, nat_eq, IsTrue, All, slice_get_within, get_or_from_slice_get, length-map, length-filter_both, All-append, All-weaker, length_permutation, IsPermutation-sym, most_step_actions, EntryRecord, Mind, is_rising, Key, Letter, StepInput, IsInRange, Record, IsIn, Pair, pairs_of, setting_of, process_of, own_of, IsSeated, Setting, IsSound, IsProcess, Event, Events, Process, World, IsWorld, Has, NoneBelow, Run, taken, joined, entries, opening_process, IsTrace, closed_of_run, reached_next, reached_end, reached_front, length-take, joined_cases, one_input, same_Some, setting_sound, posted_to, SlipView, Vec, kept_in, IsPermutation, AreParts, IsMerged, all_of, AreDisjoint, event_of, StageRecord, Act, StandsFor, IsRun, end_of, first_status, IsMerge, of_process, stage_of, AreHome, IsStageAfter, IsClosed, IsNextStart, IsWindowRun, IsCountOfWorkers, IsStage, IsNextWindow, BerthRun, IsPosted, AreBerths, IsSameStage, AreOne, Stay, IsReady, IsStay, HasLong, IsOutcome, RiseBy, Berth, Stage, in_map, map_in, slice_get-get_or, joined_back, one_merge, h_stands, berths_run, in_pairs, PlanRecord, IsPlanFor}
+use Rattle.windows.proofs.Places.{there, there_map, from_map, place_in, at_map, list_at, by_place, each_process, no_event, at_nobody, at_delivered, length-delivered, all_at, all_place, disjoint_from, no_more, in_all, all_in, part_few, in_place}
+use Rattle.windows.proofs.{Cut.{run_before}, Ranked.{contains_in, in_permutation}}
 use Rattle.std.specs.FinMap as finmap
-use Rattle.trace_laws.specs.World.{IsReached}
-use Rattle.trace_laws.proofs.Rising.{IsRising, rising_pairs, rising_entries}
+use Rattle.{trace_laws.specs.World.{IsReached}, trace_laws.proofs.Rising.{IsRising, rising_pairs, rising_entries}}
 use Rattle.window_laws.proofs.Outcome.{IsWhole, whole, own_run, pairs_are, rest_in, letter_in}
 use Rattle.steps.specs.declared.seat.Seat.{Seat}
-use Rattle.windows.proofs.Places.{there, there_map, from_map, place_in, at_map, list_at, by_place, each_process, no_event, at_nobody, at_delivered, length-delivered, all_at, all_place, disjoint_from, no_more, in_all, all_in, part_few, in_place}
-use Rattle.windows.proofs.Cut.{run_before}
-use Rattle.windows.proofs.Ranked.{contains_in, in_permutation}
 
 pairs_rise : (p : ℕ) (l : List Pair) → IsRising l → IsRising (pairs_of p l)
 pairs_rise p [] r = tt

@@ -1,9 +1,7 @@
 -- What is brought together after a window.
 use Rattle.windows.proofs.Words.{◌≡◌, ◌⊎◌, ◌↔◌, ℕ, zero, suc, ◌-◌, ◌<◌, inl, inr, List, [], ◌∷◌, ◌++◌, length, map, replicate, set, get_or, refl, sym, ap, ◌∙◌, subst, append_assoc, append-nil, arith, cond, filter, ⊎_elim, All, swap, IsPermutation, IsNonDecreasingBy, apply_swaps, SwapsInRange, cases_eq, eq-eqb, ne_eqb, eqb-true, map-append, map-set, length-map, length-set, length-replicate, get_or-set_other, get_or-map, get_or-replicate, flat_map-append, All-nil, All-push, All-append, All-map, All-take, All-drop, Contains-append_left, filter-append, IsPermutation-refl, IsPermutation-trans, IsPermutation-sym, IsPermutation-middle, IsPermutation-append, IsPermutation-append_left, IsPermutation-push_more, IsPermutation-map, All-permutation, Contains-permutation, Mind, Letter, Record, MailboxId, SlipView, IsSlipOf, unused, filed, list_of, posted_to, IsIn, own_of, NoneBelow, in_filter, filter_in, in_append, in_left, in_right, all_filed, with_letters, DequeId, RestView, all_put, Stay, stay, taken_in, is_to, sent_in, IsSent, IsStay, IsReady, IsFresh, AreRunBy, AreRun, IsRest, HasLong, IsOutcome, RiseBy, Start, Berth, slip_of, HandView, TookOne, IsWork}
-use Rattle.std.proofs.Math.Seq.{take-append_seam, drop-append_seam}
-use Rattle.std.proofs.lemmas.Grind.{get_or-set_at}
-use Rattle.windows.proofs.Ranked.{in_permutation, same_order, sorted_is}
-use Rattle.windows.proofs.Letters.{filed_more}
+use Rattle.windows.proofs.{Ranked.{in_permutation, same_order, sorted_is}, Letters.{filed_more}}
+use Rattle.std.proofs.{Math.Seq.{take-append_seam, drop-append_seam}, lemmas.Grind.{get_or-set_at}}
 
 -- ---- who waits
 

@@ -1,7 +1,6 @@
 -- What workers answer together, one worker more.
 use Rattle.windows.proofs.Words.{◌≡◌, ◌⊎◌, inl, inr, sym, ap, ◌∙◌, subst, List, [], ◌∷◌, ◌++◌, length, length-append, arith, Option, Some, option_to_list, Result, Ok, Err, IfOk, IfErr, IsErrOf, Vec, All, All-pop, All-push, Berth, IfOk-at_ok, All-same, Mind, RunError, Limit, Memory, map_push, AreThere, IsFirstRefusal, IsRefusal, IsWorkIn, IsAnswerTo, IsOneTooLong, AreAnswers, Start, Work}
-use Rattle.windows.specs.declared.shared.Shared.{Shared}
-use Rattle.windows.proofs.Refused.{not_err, one_refused}
+use Rattle.{windows.proofs.Refused.{not_err, one_refused}, windows.specs.declared.shared.Shared.{Shared}}
 
 pub popped : {X : Type 0} (xs ys : List X) (o : Option X) (x : X) → xs ≡ ys ++ option_to_list o → o ≡ Some x → xs ≡ ys ++ x ∷ []
 popped xs ys o x e is = e ∙ ap (λ r. ys ++ option_to_list r) is

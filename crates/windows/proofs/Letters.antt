@@ -2,8 +2,7 @@
 use Rattle.windows.proofs.Words.{◌≡◌, ◌≢◌, ℕ, refl, ap, sym, ◌∙◌, cond, not, List, [], ◌∷◌, ◌++◌, length, eq-eqb, ne_eqb, filter-append, append-nil, Letter, Event, Events, joined, filed, all_filed, for_self, for_others, ◌+◌, ◌<◌, map, subst, length-append, arith, map-append, EntryRecord, Key, StepInput, Setting, Process, step, IsLeast, event_of, BerthStands, berth_next}
 use Rattle.std.specs.FinMap as events
 use Rattle.trace_laws.specs.Taken.{HaveJoined, Serves, StillServes}
-use Rattle.windows.specs.Inside.Outbox.{HandedOn, IsFor}
-use Rattle.windows.specs.declared.outbox.Outbox.{Outbox}
+use Rattle.windows.specs.{Inside.Outbox.{HandedOn, IsFor}, declared.outbox.Outbox.{Outbox}}
 
 -- events after events
 pub joined_both : (m : Events) (xs ys : List Event) → joined (joined m xs) ys ≡ joined m (xs ++ ys)

@@ -1,10 +1,9 @@
 -- The stage at the opening of a run.
 use Rattle.windows.proofs.Words.{◌≡◌, ◌≢◌, ℕ, zero, suc, ◌-◌, ◌<◌, ◌≤◌, inl, inr, refl, sym, ap, ◌∙◌, subst, [], Some, length, map, slice_get, slice_get_within, same_Some, arith, All, length-map, All-nil, Mind, numbers_to, Key, StepInput, same_or_not, IsInRange, Record, opening_mind, place_in, setting_of, process_of, own_of, IsSeated, Setting, IsSound, IsProcess, Process, Has, starts, start_of, opened, opening, opening_process, opening_world, number_at, length-numbers_to, opening_reached, inserted, insert_at, insert_other, setting_sound, opens_with_mind, StageRecord, StandsFor, stage_of, start_event, IsOpened, AreHome, IsStageAfter, Berth, Stage, is_or_not, starts_are}
-use Rattle.std.specs.FinMap as finmap
-use Rattle.process_api.specs.declared.message.StepInput.TheVariants.{Start}
-use Rattle.std.proofs.lemmas.Simd.{map-map}
-use Rattle.process_api.proofs.Minds.{mind_place, same_own}
 use Rattle.windows.proofs.Places.{there, there_map, at_map, at_nobody, all_place, by_place, each_process, no_event}
+use Rattle.std.specs.FinMap as finmap
+use Rattle.{process_api.specs.declared.message.StepInput.TheVariants.{Start}, std.proofs.lemmas.Simd.{map-map}}
+use Rattle.process_api.proofs.Minds.{mind_place, same_own}
 
 starts_there : (n p : ℕ) → 1 ≤ p → p ≤ n → Has (starts n) (start_of p) Start
 starts_there zero p low high = absurd (omega arith)

@@ -1,7 +1,6 @@
 -- Letters that wait in a tray, and are posted.
 use Rattle.windows.proofs.Words.{◌≡◌, ℕ, zero, suc, ◌-◌, ap, sym, ◌∙◌, subst, refl, List, [], ◌∷◌, ◌++◌, length, replicate, set, get_or, append_assoc, append-nil, arith, length-replicate, length-set, Letter, MailboxId, SlipView, IsSlipOf, filed, slip_of, with_lists, all_filed, with_letters, ArePosting}
-use Rattle.ledger.specs.Ledger.{each_with}
-use Rattle.ledger.proofs.Lists.{with-length}
+use Rattle.{ledger.specs.Ledger.{each_with}, ledger.proofs.Lists.{with-length}}
 
 -- a letter is filed, and what was filed is posted, in one order or the other
 set_with : (rows lists : List (List Letter)) (k : ℕ) (x : Letter) → length lists ≡ length rows

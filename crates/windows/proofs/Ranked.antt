@@ -1,8 +1,6 @@
 -- A list that rises by its keys is the only sorted order of its elements.
 use Rattle.windows.proofs.Words.{◌≡◌, ◌≢◌, ℕ, suc, ◌<◌, List, [], ◌∷◌, map, length, get_or, refl, sym, ap, ◌∙◌, subst, arith, inl, inr, nat_eq, All, IsPermutation, IsNonDecreasingBy, get_or-map, length-map, Contains-permutation, IsPermutation-map, IsPermutation-sym, IsIn, RiseBy, zero, Contains, Contains-append_right, AllPairs}
-use Rattle.std.proofs.lemmas.Bool.Decides.{Decides-eqb, nat_tests}
-use Rattle.std.proofs.lemmas.Map.Keys.{IsDistinct-IsPermutation}
-use Rattle.std.proofs.lemmas.Map.Made.{AllPairs-from_IsDistinct, IsDistinct-from_AllPairs}
+use Rattle.std.proofs.lemmas.{Bool.Decides.{Decides-eqb, nat_tests}, Map.{Keys.{IsDistinct-IsPermutation}, Made.{AllPairs-from_IsDistinct, IsDistinct-from_AllPairs}}}
 
 -- ---- `IsIn`, by cases on the list, and std's `Contains`, by index, say the same
 

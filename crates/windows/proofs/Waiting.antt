@@ -1,8 +1,6 @@
 -- Parts of a window that wait to be merged and handed on.
 use Rattle.windows.proofs.Words.{IsMergeOf, ◌≡◌, ◌≤◌, ◌⊎◌, inl, inr, refl, sym, ap, ◌∙◌, subst, List, [], ◌∷◌, ◌++◌, append_assoc, append-nil, length, map, IsTrue, Result, Ok, Err, IfOk, IfErr, arith, Vec, All, IsPermutation, nil_from_length, All-nil, length_permutation, EntryRecord, Mind, is_rising, RunError, IsInRange, Record, setting_of, IsTrace, one_trace, all_of, end_to_end, IsRefusal, TookAll, IsStageAfter, Stage, AreParts, IsMerged, TookAllBut, TookFrontOf, TookTrace, TookFront, TookClosed, writes_of, has_merge, nothing_merges, HasNextWindow, IsNextWindow, PlanRecord, IsPlanFor}
-use Rattle.trace_merge.proofs.Distinct.{all_differ}
-use Rattle.windows.proofs.Closing.{stage_trace}
-use Rattle.windows.proofs.Cut.{stage_cut}
+use Rattle.{windows.proofs.{Closing.{stage_trace}, Cut.{stage_cut}}, trace_merge.proofs.Distinct.{all_differ}}
 
 -- what parts make
 pub merged_of : (parts : List (Vec EntryRecord)) → AreParts parts → (merged : List EntryRecord) × IsMerged parts merged

@@ -1,20 +1,8 @@
 -- A machine in its berth, and what it does in one window.
 use Rattle.std.specs.Prelude.{◌≡◌, ℕ, ◌<◌, ◌+◌, ◌*◌, ◌++◌, List, [], ◌∷◌, length, map}
-use Rattle.process_api.specs.Place.{most_step_actions}
-use Rattle.process_api.specs.Mind.{Mind}
-use Rattle.process_api.specs.declared.key.Key.{Key}
-use Rattle.process_api.specs.declared.message.Letter.{Letter}
-use Rattle.process_api.specs.declared.message.StepInput.{StepInput}
-use Rattle.scenario_record.specs.Record.{Record}
-use Rattle.trace_laws.specs.Setting.{setting_of}
-use Rattle.steps.specs.Seat.{process_of, own_of, IsSeated}
-use Rattle.trace_laws.specs.Step.{Event, Events, Process}
-use Rattle.trace_laws.specs.World.{Pair, Has, entries}
-use Rattle.mailboxes.specs.Mailboxes.{SlipView, filed, slip_of}
-use Rattle.trace_laws.specs.Taken.{event_of}
-use Rattle.window_laws.specs.Machine.{for_others, BerthRun}
-use Rattle.windows.specs.declared.berth.Berth.{Berth}
-use Rattle.windows.specs.declared.berth.TheConstants.{MOST_IN_PART}
+use Rattle.{process_api.specs.{Place.{most_step_actions}, Mind.{Mind}, declared.{key.Key.{Key}, message.{Letter.{Letter}, StepInput.{StepInput}}}}, scenario_record.specs.Record.{Record}}
+use Rattle.{trace_laws.specs.{Setting.{setting_of}, Step.{Event, Events, Process}, World.{Pair, Has, entries}, Taken.{event_of}}, steps.specs.Seat.{process_of, own_of, IsSeated}, mailboxes.specs.Mailboxes.{SlipView, filed, slip_of}}
+use Rattle.{window_laws.specs.Machine.{for_others, BerthRun}, windows.specs.declared.berth.{Berth.{Berth}, TheConstants.{MOST_IN_PART}}}
 
 -- how many entries a berth's part of a window can have
 abbrev pub most_in_part : ℕ

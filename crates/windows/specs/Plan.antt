@@ -1,9 +1,7 @@
 -- Plans: how many workers share a window, and how long windows are.
 use Rattle.std.specs.Prelude.{◌≡◌, ℕ, ◌≤◌, ◌<◌}
-use Rattle.scenario_record.specs.Record.{Record}
-use Rattle.windows.specs.declared.error.PlanError.{PlanError}
+use Rattle.{scenario_record.specs.Record.{Record}, windows.specs.declared.{error.PlanError.{PlanError}, plan.TheConstants.{MOST_WORKERS}}}
 use Rattle.windows.specs.declared.error.PlanError.TheVariants as error
-use Rattle.windows.specs.declared.plan.TheConstants.{MOST_WORKERS}
 
 -- how many workers can share a window
 abbrev pub most_workers : ℕ

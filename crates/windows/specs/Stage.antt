@@ -1,27 +1,10 @@
 -- What a stage of the program stands for.
-use Rattle.std.specs.Prelude.{◌≡◌, ◌⊎◌, ℕ, zero, suc, ◌+◌, ◌++◌, ◌*◌, ◌<◌, ◌≤◌, List, [], length, map, min, slice_get, slice_index_or, Some, vec_len, Result, Ok, IsErrOf, ◌∷◌, Err}
+use Rattle.std.specs.{Prelude.{◌≡◌, ◌⊎◌, ℕ, zero, suc, ◌+◌, ◌++◌, ◌*◌, ◌<◌, ◌≤◌, List, [], length, map, min, slice_get, slice_index_or, Some, vec_len, Result, Ok, IsErrOf, ◌∷◌, Err}, List.{All, Sorted.{IsPermutation}}}
 use Rattle.std.specs.FinMap as events
-use Rattle.std.specs.List.{All}
-use Rattle.std.specs.List.Sorted.{IsPermutation}
-use Rattle.process_api.specs.Place.{most_step_actions}
-use Rattle.process_api.specs.Order.{EntryRecord}
-use Rattle.process_api.specs.Mind.{Mind}
-use Rattle.process_api.specs.declared.message.StepInput.TheVariants.{Start}
-use Rattle.process_api.specs.declared.run_error.RunError.{RunError}
-use Rattle.process_api.specs.declared.run_error.RunError.TheVariants.{Limit, Memory, Spawn, Write}
-use Rattle.scenario_record.specs.Record.{Record}
-use Rattle.trace_laws.specs.History.{IsIn}
-use Rattle.pending_events.specs.Pending.{IsLeastTick}
-use Rattle.trace_laws.specs.Setting.{setting_of, Setting}
-use Rattle.steps.specs.Seat.{process_of, own_of, IsSeated}
-use Rattle.trace_laws.specs.World.{IsReached, World, IsWorld, NoneBelow, start_of, opening_process, IsTrace}
-use Rattle.trace_laws.specs.Step.{Events}
-use Rattle.windows.specs.Berth.{IsBerth}
-use Rattle.windows.specs.Plan.{PlanRecord}
-use Rattle.window_laws.specs.Machine.{StageRecord, Act, StandsFor, IsRun, end_of, first_status, IsSameStage}
-use Rattle.window_laws.specs.Theorems.{IsMerge, end_to_end}
-use Rattle.windows.specs.declared.berth.Berth.{Berth}
-use Rattle.windows.specs.declared.stage.Stage.{Stage}
+use Rattle.process_api.specs.{Place.{most_step_actions}, Order.{EntryRecord}, Mind.{Mind}, declared.{message.StepInput.TheVariants.{Start}, run_error.RunError.{RunError, TheVariants.{Limit, Memory, Spawn, Write}}}}
+use Rattle.{scenario_record.specs.Record.{Record}, trace_laws.specs.{History.{IsIn}, Setting.{setting_of, Setting}, World.{IsReached, World, IsWorld, NoneBelow, start_of, opening_process, IsTrace}, Step.{Events}}}
+use Rattle.{pending_events.specs.Pending.{IsLeastTick}, steps.specs.Seat.{process_of, own_of, IsSeated}, windows.specs.{Berth.{IsBerth}, Plan.{PlanRecord}, declared.{berth.Berth.{Berth}, stage.Stage.{Stage}}}}
+use Rattle.window_laws.specs.{Machine.{StageRecord, Act, StandsFor, IsRun, end_of, first_status, IsSameStage}, Theorems.{IsMerge, end_to_end}}
 
 -- of a list for processes 1 to n, what process p has; another number has what is given
 abbrev pub of_process : {X : Type 0} → (p : ℕ) → List X → X → X
@@ -45,8 +28,7 @@ module _ {M : Type 0} (mind : M → Mind) where
 
   -- the stage at the opening of a window of this length: nobody holds a process, and no letter is on its way
   abbrev pub stage_of : (window : ℕ) → Stage M → StageRecord Mind
-  stage_of window stage =
-      let S = setting_of stage.scenario.now in
+  stage_of window stage = let S = setting_of stage.scenario.now in
       let own : ℕ → Events = λ p. of_process p (map (λ b. b.pending) stage.berths.items) events.empty in
       record {
         start = stage.start;
@@ -83,8 +65,7 @@ module _ {M : Type 0} (mind : M → Mind) where
   -- Some run of a window leads from one stage to the other, and this is what its parts make, merged. There are so many
   -- entries more, and the next window starts at the least pending tick, which isn't before the end of this one
   abbrev pub IsWindowRun : (window : ℕ) → (old new : Stage M) → (merged : List EntryRecord) → Type 0
-  IsWindowRun window old new merged =
-      let S = setting_of old.scenario.now in
+  IsWindowRun window old new merged = let S = setting_of old.scenario.now in
       (acts : List Act) × (found : StageRecord Mind) × (left : StageRecord Mind)
       × IsRun S window (end_of S window old.start) (stage_of window old) acts found left
       × IsSameStage S left (stage_of window new)

@@ -1,13 +1,10 @@
 //! The pending events of a process in a window.
 ghost use Rattle.std.specs.Prelude.{◌≡◌, ◌<◌, ◌++◌, ◌∷◌, [], ℕ, List, map, MatchOption, IfOk, OnOk, OnErr, true};
 ghost use Rattle.std.specs.FinMap as events;
-ghost use Rattle.trace_laws.specs.Step.{Event as EventPair};
-ghost use Rattle.trace_laws.specs.World.{IsLeast, NoneBelow, joined};
+ghost use Rattle.trace_laws.specs.{Step.{Event as EventPair}, World.{IsLeast, NoneBelow, joined}, Taken.{event_of}};
 ghost use Rattle.pending_events.specs.Pending.{IsEmpty, IsLeastTick};
-ghost use Rattle.trace_laws.specs.Taken.{event_of};
 ghost use Rattle.mailboxes.specs.Mailboxes.{HasCollected, soonest_in};
-ghost use Rattle.windows.specs.Inside.Agenda.{all_in, all_ahead, in_box, AreLists, AreOne, IsParted, HasFiled};
-ghost use Rattle.windows.specs.Stage.{start_event};
+ghost use Rattle.windows.specs.{Inside.Agenda.{all_in, all_ahead, in_box, AreLists, AreOne, IsParted, HasFiled}, Stage.{start_event}};
 
 use mailboxes::{Collects, Inbox, earlier};
 use pending_events::Row;
@@ -55,8 +52,7 @@ struct Inner {
 impl Model for Agenda {
     ghost use Rattle.std.specs.FinMap as events;
     ghost use Rattle.process_api.specs.contracts.message.StepInput as step_input;
-    ghost use Rattle.trace_laws.specs.World.{key_code};
-    ghost use Rattle.trace_laws.specs.Step.{Events};
+    ghost use Rattle.trace_laws.specs.{World.{key_code}, Step.{Events}};
     ghost use Rattle.windows.specs.Inside.Agenda.{AreLists, AreOne, all_ahead, in_box};
 
     ghost Value = { Events };

@@ -2,11 +2,8 @@
 ghost use Rattle.std.specs.Prelude.{◌≡◌, ◌≤◌, ◌<◌, ◌+◌, ◌*◌, ◌^◌, ◌++◌, [], ◌∷◌, ℕ, length, vec_len, IfErr, IfOk, OnOk, IsErrOf};
 ghost use Rattle.process_api.specs.Place.{most_step_actions};
 ghost use Rattle.steps.specs.Seat.{process_of, own_of, IsMindIn, IsSeated, StaysSeated};
-ghost use Rattle.trace_laws.specs.World.{opened};
-ghost use Rattle.mailboxes.specs.Mailboxes.{IsSlipOf};
-ghost use Rattle.windows.specs.Berth.{all_filed, with_letters, AreFiled, HasRun, IsBerth, IsBerthOf, IsLong};
-ghost use Rattle.windows.specs.Inside.Outbox.{made_in, with_own};
-ghost use Rattle.windows.specs.Stage.{IsRefusalOfOne};
+ghost use Rattle.{trace_laws.specs.World.{opened}, mailboxes.specs.Mailboxes.{IsSlipOf}};
+ghost use Rattle.windows.specs.{Berth.{all_filed, with_letters, AreFiled, HasRun, IsBerth, IsBerthOf, IsLong}, Inside.Outbox.{made_in, with_own}, Stage.{IsRefusalOfOne}};
 
 use crate::agenda::Agenda;
 use crate::outbox::Outbox;

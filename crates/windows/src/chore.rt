@@ -1,6 +1,5 @@
 //! What the starter does while the workers of a window run.
-ghost use Rattle.std.specs.Prelude.{◌≡◌};
-ghost use Rattle.std.specs.Borrow.{GName};
+ghost use Rattle.std.specs.{Prelude.{◌≡◌}, Borrow.{GName}};
 
 use process_api::Entry;
 use std::alloc::Global;

@@ -1,11 +1,8 @@
 //! The starter's side of a window: it deals the waiting berths to the workers, and brings together what they give back.
-ghost use Rattle.std.specs.Prelude.{◌≡◌, ◌+◌, ◌++◌, map, true, false, IfOk, IfErr, IsErrOf, vec_len, IsPermutation};
-ghost use Rattle.std.specs.List.{All};
-ghost use Rattle.trace_laws.specs.World.{NoneBelow};
-ghost use Rattle.mailboxes.specs.Mailboxes.{mailboxes_of, unused};
+ghost use Rattle.std.specs.{Prelude.{◌≡◌, ◌+◌, ◌++◌, map, true, false, IfOk, IfErr, IsErrOf, vec_len, IsPermutation}, List.{All}};
+ghost use Rattle.{trace_laws.specs.World.{NoneBelow}, mailboxes.specs.Mailboxes.{mailboxes_of, unused}};
 ghost use Rattle.deques.specs.Deques.{deques_of, all_put};
-ghost use Rattle.windows.specs.Stage.{IsRefusalOfOne};
-ghost use Rattle.windows.specs.Inside.Workers.{AreReady, IsOneTooLong, IsRestIn, IsFresh, BringsTogether};
+ghost use Rattle.windows.specs.{Stage.{IsRefusalOfOne}, Inside.Workers.{AreReady, IsOneTooLong, IsRestIn, IsFresh, BringsTogether}};
 
 use crate::berth::Berth;
 use crate::gate::Gate;

@@ -1,8 +1,6 @@
 //! The law of windows.
-ghost use Rattle.trace_laws.specs.Setting.{setting_of};
-ghost use Rattle.windows.specs.Plan.{IsPlanFor};
-ghost use Rattle.window_laws.specs.Theorems.{AnyOrder, CloseAlike, HasRun, MakeTrace};
-ghost use Rattle.window_laws.specs.Machine.{LawBerths};
+ghost use Rattle.{trace_laws.specs.Setting.{setting_of}, windows.specs.Plan.{IsPlanFor}};
+ghost use Rattle.window_laws.specs.{Theorems.{AnyOrder, CloseAlike, HasRun, MakeTrace}, Machine.{LawBerths}};
 
 use crate::plan::Plan;
 use scenario_record::Scenario;

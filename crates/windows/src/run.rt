@@ -1,13 +1,9 @@
 //! A run by windows.
 ghost use Rattle.std.specs.Prelude.{◌≡◌, ◌≤◌, ◌<◌, ◌+◌, ◌-◌, ◌^◌, ◌⊎◌, List, [], length, map, IfErr, IfOk, Ok, OnOk, OnErr, IsErrOf};
-ghost use Rattle.process_api.specs.Order.{EntryRecord};
-ghost use Rattle.process_api.specs.Place.{numbers_to};
+ghost use Rattle.process_api.specs.{Order.{EntryRecord}, Place.{numbers_to}};
 ghost use Rattle.scenario_record.specs.Record.{opening_mind};
-ghost use Rattle.trace_laws.specs.Setting.{setting_of};
-ghost use Rattle.trace_laws.specs.World.{IsTrace};
-ghost use Rattle.windows.specs.Inside.Closing.{HasNextWindow, IsNextWindow, AreParts, HandedOn, TookAllBut, TookFrontOf};
-ghost use Rattle.windows.specs.Plan.{IsPlanFor};
-ghost use Rattle.windows.specs.Stage.{IsOverLimit, IsRefusal, IsRefusalOfSink, TookTrace, TookFront, TookClosed, writes_of};
+ghost use Rattle.trace_laws.specs.{Setting.{setting_of}, World.{IsTrace}};
+ghost use Rattle.windows.specs.{Inside.Closing.{HasNextWindow, IsNextWindow, AreParts, HandedOn, TookAllBut, TookFrontOf}, Plan.{IsPlanFor}, Stage.{IsOverLimit, IsRefusal, IsRefusalOfSink, TookTrace, TookFront, TookClosed, writes_of}};
 
 use crate::chore::Chore;
 use crate::gate::Gate;

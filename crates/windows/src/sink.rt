@@ -1,7 +1,6 @@
 //! Where the entries of a run go.
 ghost use Rattle.std.specs.Prelude.{◌≡◌, ◌+◌, ◌-◌, ◌^◌, ◌<◌, ℕ, List, OnOk, OnErr, IfErr};
-ghost use Rattle.process_api.specs.Order.{EntryRecord};
-ghost use Rattle.windows.specs.Stage.{IsRefusalOfSink, writes_of};
+ghost use Rattle.{process_api.specs.Order.{EntryRecord}, windows.specs.Stage.{IsRefusalOfSink, writes_of}};
 
 use process_api::{Entry, RunError};
 

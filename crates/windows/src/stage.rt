@@ -1,17 +1,11 @@
 //! All processes between two windows.
-ghost use Rattle.std.specs.Prelude.{◌≡◌, ◌≤◌, ◌<◌, ◌+◌, ◌^◌, [], ℕ, map, vec_len, length, IfErr, IfNone, IfOk, IfSome, OnOk, IsErrOf, nat_eq};
-ghost use Rattle.std.specs.List.{All};
-ghost use Rattle.process_api.specs.Place.{numbers_to};
-ghost use Rattle.scenario_record.specs.Record.{opening_mind};
-ghost use Rattle.trace_laws.specs.Setting.{setting_of};
-ghost use Rattle.steps.specs.Seat.{process_of, IsMindIn};
-ghost use Rattle.trace_laws.specs.World.{opened, opening};
-ghost use Rattle.mailboxes.specs.Mailboxes.{IsSlipOf, posted_to};
+ghost use Rattle.std.specs.{Prelude.{◌≡◌, ◌≤◌, ◌<◌, ◌+◌, ◌^◌, [], ℕ, map, vec_len, length, IfErr, IfNone, IfOk, IfSome, OnOk, IsErrOf, nat_eq}, List.{All}};
+ghost use Rattle.{process_api.specs.Place.{numbers_to}, scenario_record.specs.Record.{opening_mind}};
+ghost use Rattle.trace_laws.specs.{Setting.{setting_of}, World.{opened, opening}};
+ghost use Rattle.{steps.specs.Seat.{process_of, IsMindIn}, mailboxes.specs.Mailboxes.{IsSlipOf, posted_to}};
 ghost use Rattle.trace_merge.specs.Parts.{all_of};
-ghost use Rattle.windows.specs.Inside.Agenda.{AreOne, in_box};
+ghost use Rattle.windows.specs.{Inside.{Agenda.{AreOne, in_box}, Closing.{delivered, kept_in, IsClosed}}, Stage.{IsRefusalOfOne, stage_of, IsOpened, IsNextStart, IsStageAfter}};
 ghost use Rattle.window_laws.specs.Machine.{StandsFor};
-ghost use Rattle.windows.specs.Stage.{IsRefusalOfOne, stage_of, IsOpened, IsNextStart, IsStageAfter};
-ghost use Rattle.windows.specs.Inside.Closing.{delivered, kept_in, IsClosed};
 
 use crate::agenda::Agenda;
 use crate::berth::Berth;

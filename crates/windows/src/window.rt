@@ -1,15 +1,10 @@
 //! One window: workers share the processes that have something to do in it, and their results are put in order.
-ghost use Rattle.std.specs.Prelude.{◌≡◌, ◌≤◌, ◌<◌, ◌+◌, ◌++◌, ◌⊎◌, ℕ, List, length, map, min, IfOk, IfErr, OnOk, IsErrOf, vec_len};
-ghost use Rattle.std.specs.List.{All};
-ghost use Rattle.std.specs.Thread.{IsSync};
-ghost use Rattle.process_api.specs.Order.{EntryRecord};
-ghost use Rattle.steps.specs.Seat.{own_of};
+ghost use Rattle.std.specs.{Prelude.{◌≡◌, ◌≤◌, ◌<◌, ◌+◌, ◌++◌, ◌⊎◌, ℕ, List, length, map, min, IfOk, IfErr, OnOk, IsErrOf, vec_len}, List.{All}, Thread.{IsSync}};
+ghost use Rattle.{process_api.specs.Order.{EntryRecord}, steps.specs.Seat.{own_of}};
 ghost use Rattle.mailboxes.specs.Mailboxes.{IsSlipOf, unused};
-ghost use Rattle.windows.specs.Inside.Closing.{HasNextWindow, IsNextWindow};
-ghost use Rattle.deques.specs.Deques.{deques_of};
-ghost use Rattle.windows.specs.Plan.{IsPlanFor, most_workers};
+ghost use Rattle.windows.specs.{Inside.{Closing.{HasNextWindow, IsNextWindow}, Workers.{AreReady, IsOneTooLong, IsStart, IsWorkIn, AreAnswers, HadWindow, IsOutcome, RiseBy, given_to}}, Plan.{IsPlanFor, most_workers}};
 ghost use Rattle.windows.specs.Stage.{IsOverLimit, IsRefusal, IsRefusalOfOne, IsCountOfWorkers, IsStage, IsStageAfter, IsWindowRun, StartedWorkers};
-ghost use Rattle.windows.specs.Inside.Workers.{AreReady, IsOneTooLong, IsStart, IsWorkIn, AreAnswers, HadWindow, IsOutcome, RiseBy, given_to};
+ghost use Rattle.deques.specs.Deques.{deques_of};
 
 use crate::berth::Berth;
 use crate::chore::Chore;

@@ -1,14 +1,9 @@
 //! The workers of a window: each takes berths, its own and then others', until none is left, runs them, and gives them
 //! back when it is joined.
-ghost use Rattle.std.specs.Prelude.{◌≡◌, ◌≤◌, ◌⊎◌, ◌++◌, [], ◌∷◌, IfOk, IfErr, OnOk, IsErrOf, Ok, vec_len};
-ghost use Rattle.std.specs.List.{All};
-ghost use Rattle.std.specs.Thread.{IsSync};
+ghost use Rattle.std.specs.{Prelude.{◌≡◌, ◌≤◌, ◌⊎◌, ◌++◌, [], ◌∷◌, IfOk, IfErr, OnOk, IsErrOf, Ok, vec_len}, List.{All}, Thread.{IsSync}};
 ghost use Rattle.mailboxes.specs.Mailboxes.{with_lists};
 ghost use Rattle.process_api.specs.declared.run_error.RunError.TheVariants.{Memory, Spawn};
-ghost use Rattle.windows.specs.Berth.{IsLong};
-ghost use Rattle.windows.specs.Plan.{most_workers};
-ghost use Rattle.windows.specs.Stage.{rank_of, AreThere, IsFirstRefusal, IsRefusalOfOne};
-ghost use Rattle.windows.specs.Inside.Workers.{ArePosting, IsStart, IsAnswerTo, AreAnswers, RunsOneMore, IsReady};
+ghost use Rattle.windows.specs.{Berth.{IsLong}, Plan.{most_workers}, Stage.{rank_of, AreThere, IsFirstRefusal, IsRefusalOfOne}, Inside.Workers.{ArePosting, IsStart, IsAnswerTo, AreAnswers, RunsOneMore, IsReady}};
 
 use crate::berth::{Berth, run_into};
 use crate::chore::Chore;

@@ -1,10 +1,8 @@
 //! What a caller has of the laws.
 ghost use Rattle.std.specs.Prelude.{◌≡◌, ◌≤◌, ◌<◌, ◌+◌, ◌*◌, ◌++◌, ◌∷◌, ℕ, true, false, None, Some, List, length, OnOk, IfOk};
 ghost use Rattle.std.specs.FinSet as set;
-ghost use Rattle.process_api.specs.Coordinator.{end_wait, step_coordinator, coordinator as coordinator_of};
-ghost use Rattle.process_api.specs.declared.action.Action.{Action as ActionData};
+ghost use Rattle.process_api.specs.{Coordinator.{end_wait, step_coordinator, coordinator as coordinator_of}, declared.{action.Action.{Action as ActionData}, consensus.Estimate.{Estimate as EstimateData}}};
 ghost use Rattle.process_api.specs.declared.action.Action.TheVariants as Action;
-ghost use Rattle.process_api.specs.declared.consensus.Estimate.{Estimate as EstimateData};
 ghost use Rattle.process_api.specs.declared.consensus.Phase.TheVariants as Phase;
 ghost use Rattle.process_api.specs.declared.message.Payload.TheVariants as Payload;
 ghost use Rattle.consensus_es.specs.State.{by_sender, state_of, Does, IsOrderly};

@@ -1,8 +1,6 @@
 //! What a caller has of the laws.
 ghost use Rattle.std.specs.Prelude.{◌≡◌, ◌++◌, IsTrue, OnOk};
-ghost use Rattle.process_api.specs.Mind.{leaves_out};
-ghost use Rattle.process_api.specs.React.{react_algorithm};
-ghost use Rattle.consensus_s.specs.Machine.{state_of};
+ghost use Rattle.{process_api.specs.{Mind.{leaves_out}, React.{react_algorithm}}, consensus_s.specs.Machine.{state_of}};
 ghost use Rattle.base_tests.specs.Settled.{IsSettled};
 
 use crate::answers::are_done;

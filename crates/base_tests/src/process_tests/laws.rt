@@ -1,10 +1,7 @@
 //! What a caller has of the laws of base detectors.
 ghost use Rattle.std.specs.Prelude.{◌≡◌, ℕ, false};
 ghost use Rattle.std.specs.FinSet as set;
-ghost use Rattle.process_api.specs.Detector.{DetectorState, opening_detector, suspected_by, step_detector};
-ghost use Rattle.process_api.specs.Place.{Place};
-ghost use Rattle.process_api.specs.declared.message.StepInput.{StepInput as Input};
-ghost use Rattle.process_api.specs.declared.numbers.DetectorNumbers.{DetectorNumbers as Numbers};
+ghost use Rattle.process_api.specs.{Detector.{DetectorState, opening_detector, suspected_by, step_detector}, Place.{Place}, declared.{message.StepInput.{StepInput as Input}, numbers.DetectorNumbers.{DetectorNumbers as Numbers}}};
 
 use process_api::law_base_detectors;
 

@@ -1,10 +1,7 @@
 -- The status of each fault is one of its end.
 use Rattle.std.proofs.Common.{inl, inr, refl}
 use Rattle.process_api.specs.declared.run_error.RunError.TheVariants as run
-use Rattle.bench_commands.specs.Fault.{end_of, status_of}
-use Rattle.bench_commands.specs.declared.fault.Fault.{Fault}
-use Rattle.bench_commands.specs.declared.fault.Fault.TheVariants.{Different, Form, Plan, Run, Scenario, TooLong, Unreadable, Words, WordsMemory}
-use Rattle.shell.specs.Ending.{HasStatus}
+use Rattle.{bench_commands.specs.{Fault.{end_of, status_of}, declared.fault.Fault.{Fault, TheVariants.{Different, Form, Plan, Run, Scenario, TooLong, Unreadable, Words, WordsMemory}}}, shell.specs.Ending.{HasStatus}}
 
 pub has_status : (fault : Fault) → HasStatus (end_of fault) (status_of fault)
 has_status Form = inr (inl refl)

@@ -1,18 +1,10 @@
 -- What the definition makes of a process's progress: what it answers, and which letters count.
 use Rattle.std.specs.Prelude.{ℕ, Bool, not, ◌&&◌, nat_eq, Option}
 use Rattle.std.specs.FinSet as set
-use Rattle.process_api.specs.Answer.{Answer, still}
+use Rattle.process_api.specs.{Answer.{Answer, still}, Coordinator.{Coordinator, coordinator, is_own}, Sets.{Processes}, Place.{Place}, Mind.{AlgorithmState, Coordinating}}
+use Rattle.process_api.specs.declared.{membership.Membership.{Membership}, message.{Payload.{Payload}, StepInput.{StepInput}}}
 use Rattle.process_api.specs.Coordinator as definition
-use Rattle.process_api.specs.Coordinator.{Coordinator, coordinator, is_own}
-use Rattle.process_api.specs.Sets.{Processes}
-use Rattle.process_api.specs.Place.{Place}
-use Rattle.process_api.specs.Mind.{AlgorithmState, Coordinating}
-use Rattle.process_api.specs.declared.membership.Membership.{Membership}
-use Rattle.process_api.specs.declared.message.Payload.{Payload}
-use Rattle.process_api.specs.declared.message.StepInput.{StepInput}
-use Rattle.consensus_es.specs.State.{state_of}
-use Rattle.consensus_es.specs.declared.progress.Progress.{Progress}
-use Rattle.consensus_es.specs.declared.consensus.EsConsensus.{EsConsensus}
+use Rattle.consensus_es.specs.{State.{state_of}, declared.{progress.Progress.{Progress}, consensus.EsConsensus.{EsConsensus}}}
 
 module _ (m : Membership) (s : Progress) where
   abbrev pub begun : StepInput → Answer Coordinator
@@ -57,8 +49,7 @@ module _ (m : Membership) (s : Progress) where
 
   -- a proposal of a round counts: it is timely, by the round's coordinator, and not early
   abbrev pub is_by_coordinator : ℕ → ℕ → Bool
-  is_by_coordinator sender round =
-      is_timely sender round && (nat_eq sender (coordinator m.processes round)
+  is_by_coordinator sender round = is_timely sender round && (nat_eq sender (coordinator m.processes round)
       && not (definition.is_early m.processes m.own (state_of s) sender))
 
 -- the machine as plain data

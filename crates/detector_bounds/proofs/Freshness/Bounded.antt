@@ -1,20 +1,13 @@
 -- Whom q suspects at the end of a tick, with freshness points.
 use Rattle.detector_bounds.proofs.Words.{◌≡◌, ◌≢◌, ℕ, zero, suc, ◌+◌, ◌*◌, ◌<◌, ◌≤◌, inl, inr, sym, ap, ◌∙◌, subst, Bool, true, false, not, ◌&&◌, nat_le, List, arith, Some, cases_lt, cases_Bool, lt-leb, and_right, EntryRecord, suspected_by, Mind, FreshnessNumbers, contains-suspected, and_true, IsInRange, Record, crash, link, place_in, setting_of, has_crashed, World, IsTrace, NoneBelow, start_of, entries, setting_sound, out, is_watched, AreInRange, Link, detected_at, HasNoMistake, KeepsBounds, trusts, detected_by, longest, last_before, watch_of, IsTimely, Watches, IsReliable}
+use Rattle.detector_bounds.proofs.{Fates.{delivers}, Verdicts.{pairs_keep}, Added.{Delivers}, Ending.{IsKept, IsEnd, ending, holds_at}, Freshness.Known.{Knows, kept, firm, state}}
+use Rattle.detector_bounds.proofs.{Instances.{fresh_step, fresh_suspects, runs_freshness, fresh_seen}, Machines.{state_of}, Multiples.{mul-next, less_multiple, last_is_before}, Standing.{stands_kept, out_is}}
+use Rattle.detector_bounds.proofs.Watching.{process_is, watched_is, up_until}
 use Rattle.std.specs.FinSet as set
 use Rattle.process_api.specs.Freshness.{FreshnessState, opening_freshness, watches, is_stale}
 use Rattle.process_api.specs.declared.message.StepInput.TheVariants as input
 use Rattle.process_api.specs.declared.numbers.DetectorNumbers.TheVariants as numbers
 use Rattle.judges.specs.Verdicts.{IsProcess, Suspects}
-use Rattle.detector_bounds.proofs.Fates.{delivers}
-use Rattle.detector_bounds.proofs.Verdicts.{pairs_keep}
-use Rattle.detector_bounds.proofs.Added.{Delivers}
-use Rattle.detector_bounds.proofs.Ending.{IsKept, IsEnd, ending, holds_at}
-use Rattle.detector_bounds.proofs.Freshness.Known.{Knows, kept, firm, state}
-use Rattle.detector_bounds.proofs.Instances.{fresh_step, fresh_suspects, runs_freshness, fresh_seen}
-use Rattle.detector_bounds.proofs.Machines.{state_of}
-use Rattle.detector_bounds.proofs.Multiples.{mul-next, less_multiple, last_is_before}
-use Rattle.detector_bounds.proofs.Standing.{stands_kept, out_is}
-use Rattle.detector_bounds.proofs.Watching.{process_is, watched_is, up_until}
 
 -- nobody is suspected who isn't watched
 module _ (s : Record) (is : IsInRange s) (its : FreshnessNumbers) (kind : s.detector ≡ numbers.Freshness its) (trace : List EntryRecord) (is_trace : IsTrace (setting_of s) trace) (t : ℕ) (below : t < s.horizon) (q p : ℕ)

@@ -1,21 +1,16 @@
 -- Through a run with freshness points: p sends heartbeat i at tick i * eta while it is up, q reaches point i delta ticks later, and
 -- no heartbeat that p didn't send is on its way or came to q.
 use Rattle.detector_bounds.proofs.Words.{◌≡◌, ◌≢◌, ◌⊎◌, ℕ, ◌+◌, ◌*◌, ◌<◌, ◌≤◌, inl, inr, refl, sym, ap, ◌∙◌, subst, true, false, not, nat_le, Some, List, [], ◌∷◌, ◌++◌, arith, cases_lt, cases_Bool, le-leb, leb-false, Answer, EntryRecord, Key, StepInput, FreshnessNumbers, IsInRange, Record, crash, place_in, IsIn, setting_of, Setting, IsSound, has_crashed, Mind, World, Has, IsLeast, NoneBelow, IsWorld, made, taken, opening, start_of, one_input, setting_sound, taken_cases, taken_old, taken_new, same_or_not, and_true, last_before}
+use Rattle.detector_bounds.proofs.{Added.{Delivers}, Clock.{Clock, due_after, clock_first, clock_still, clock_takes}, Ending.{IsKept}}
+use Rattle.detector_bounds.proofs.{Freshness.Steps.{asks_beats, asks_checks, sent_after, reached_after, sent_is, reached_is, came_from, came_stays, came_now, sends, sends_beat}, Instances.{fresh_step, fresh_suspects, runs_freshness}}
+use Rattle.detector_bounds.proofs.{Machines.{RunsDetector, state_of, moved, own, own_up, own_down, letter_new, letter_there}, Multiples.{mul-next, le-mul, less_multiple, after_last}, Others.{in_others}}
+use Rattle.detector_bounds.proofs.Standing.{Stands, stands_first, stands_next, at_start, only_starts}
 use Rattle.process_api.specs.Freshness.{FreshnessState, opening_freshness, next, watches, is_stale}
 use Rattle.process_api.specs.declared.action.Action.TheVariants as action
 use Rattle.process_api.specs.declared.message.Payload.TheVariants as payload
 use Rattle.process_api.specs.declared.message.StepInput.TheVariants as input
 use Rattle.process_api.specs.declared.message.Tag.TheVariants as tag
 use Rattle.process_api.specs.declared.numbers.DetectorNumbers.TheVariants as numbers
-use Rattle.detector_bounds.proofs.Added.{Delivers}
-use Rattle.detector_bounds.proofs.Clock.{Clock, due_after, clock_first, clock_still, clock_takes}
-use Rattle.detector_bounds.proofs.Ending.{IsKept}
-use Rattle.detector_bounds.proofs.Freshness.Steps.{asks_beats, asks_checks, sent_after, reached_after, sent_is, reached_is, came_from, came_stays, came_now, sends, sends_beat}
-use Rattle.detector_bounds.proofs.Instances.{fresh_step, fresh_suspects, runs_freshness}
-use Rattle.detector_bounds.proofs.Machines.{RunsDetector, state_of, moved, own, own_up, own_down, letter_new, letter_there}
-use Rattle.detector_bounds.proofs.Multiples.{mul-next, le-mul, less_multiple, after_last}
-use Rattle.detector_bounds.proofs.Others.{in_others}
-use Rattle.detector_bounds.proofs.Standing.{Stands, stands_first, stands_next, at_start, only_starts}
 
 module _ (s : Record) (is : IsInRange s) (its : FreshnessNumbers) (kind : s.detector ≡ numbers.Freshness its) (q p : ℕ)
     (q_low : 1 ≤ q) (q_high : q ≤ s.processes) (p_low : 1 ≤ p) (p_high : p ≤ s.processes) (apart : q ≢ p) (watched : watches (place_in s q) its p ≡ true) (eta_low : 1 ≤ its.eta) where

@@ -1,13 +1,11 @@
 -- What one input makes of a detector with freshness points, part by part.
 use Rattle.detector_bounds.proofs.Words.{◌≡◌, ◌⊎◌, ℕ, ◌+◌, ◌≤◌, inl, inr, refl, sym, ap, ◌∙◌, Bool, true, false, cond, ◌||◌, nat_le, List, [], ◌∷◌, ◌++◌, map, arith, cond_both, cases_eq, eq-eqb, ne_eqb, or_cases, leb-true, le-leb, or_left, or_right, Answer, still, others, Place, changes, Payload, StepInput, Tag, FreshnessNumbers, IsIn, in_append, in_left, of_image, in_image}
-use Rattle.process_api.specs.Freshness.{FreshnessState, next, watches, suspected, noted, heartbeat_to_others, next_beat, next_check, checked, heard, step_freshness}
+use Rattle.detector_bounds.proofs.{Added.{wakes_of, wakes_of-append}, Clock.{asked}}
+use Rattle.process_api.specs.{Freshness.{FreshnessState, next, watches, suspected, noted, heartbeat_to_others, next_beat, next_check, checked, heard, step_freshness}, declared.action.Note.{Note}}
 use Rattle.process_api.specs.declared.action.Action.TheVariants as action
-use Rattle.process_api.specs.declared.action.Note.{Note}
 use Rattle.process_api.specs.declared.message.Payload.TheVariants as payload
 use Rattle.process_api.specs.declared.message.StepInput.TheVariants as input
 use Rattle.process_api.specs.declared.message.Tag.TheVariants as tag
-use Rattle.detector_bounds.proofs.Added.{wakes_of, wakes_of-append}
-use Rattle.detector_bounds.proofs.Clock.{asked}
 
 -- ---- letters and notes are no wakes, and notes no letters
 

@@ -1,5 +1,6 @@
 -- What a step of the time-out detector does, by its input.
 use Rattle.detector_bounds.proofs.Words.{◌≡◌, ◌≢◌, ℕ, ◌≤◌, inl, inr, refl, List, ◌++◌, map, AllByRecursion, cond_both, Answer, still, others, Place, Action, StepInput, TimeoutNumbers, both, images, always, weaker, IsIn, in_left, in_right, in_images}
+use Rattle.detector_bounds.proofs.{Above.{IsAbove}, Others.{in_others}}
 use Rattle.process_api.specs.Timeout.{TimeoutState, alive_to_others, watches, overdue, noticed, trusted_again, heard, step_timeout}
 use Rattle.process_api.specs.declared.action.Action.TheVariants as action
 use Rattle.process_api.specs.declared.action.Note.TheVariants as note
@@ -7,8 +8,6 @@ use Rattle.process_api.specs.declared.message.Payload.TheVariants as payload
 use Rattle.process_api.specs.declared.message.StepInput.TheVariants as input
 use Rattle.process_api.specs.declared.message.Tag.TheVariants as tag
 use Rattle.process_api.proofs.Sending.{sent_to_others}
-use Rattle.detector_bounds.proofs.Above.{IsAbove}
-use Rattle.detector_bounds.proofs.Others.{in_others}
 
 -- at these inputs a process sends Alive letters and goes on to its next Beat
 abbrev pub IsBeating : StepInput → Type 0

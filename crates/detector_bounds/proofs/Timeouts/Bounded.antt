@@ -2,21 +2,13 @@
 use Rattle.std.proofs.Common.{◌≡◌, ◌≢◌, ℕ, zero, suc, ◌+◌, ◌-◌, ◌*◌, ◌<◌, ◌≤◌, refl, sym, ap, ◌∙◌, subst, true, false, Option, Some, List, arith, leb-false, ◌/◌}
 use Rattle.std.specs.FinSet as set
 use Rattle.detector_bounds.proofs.Words.{suspected_by, EntryRecord, Mind, is_process, is_watched, Timeout, TimeoutNumbers, AreInRange, AreTimeoutInRange, IsInRange, Record, crash, link, fate_of, Delay, setting_of, IsSound, has_crashed, World, NoneBelow, IsTrace, entries, setting_sound, crash_tick, out, detected_at, HasNoMistake, CrashesAt, KeepsBounds, trusts, last_letter, grown, detected_by, longest, Watches, IsReliable, IsTimely, watch_of}
+use Rattle.detector_bounds.proofs.{Ending.{IsKept, IsEnd, ending, holds_at}, Fates.{fate_within, delivers}, Instances.{runs_timeout, timeout_step, timeout_suspects, timeout_seen}}
+use Rattle.detector_bounds.proofs.{Multiples.{from_tick, soon_from, at_most_last, last_is_before}, Standing.{Stands, stands_first, stands_next, out_is}}
+use Rattle.detector_bounds.proofs.Timeouts.{Joined.{RunsTimeout, place_of}, Detecting.{IsPair, AreTicks, suspected_then, Awaits, awaits_kept, firm}, Trusted.{trusts-append}, Watched.{suspects_watched}, Stepping.{state_in}}
+use Rattle.detector_bounds.proofs.{Watching.{process_is, watched_is, up_until, down_from}, Verdicts.{pairs_keep}}
 use Rattle.process_api.specs.Timeout.{watches, opening_timeout}
 use Rattle.judges.specs.Verdicts.{IsProcess, IsCorrect, From, Suspects}
-use Rattle.detector_bounds.proofs.Ending.{IsKept, IsEnd, ending, holds_at}
-use Rattle.detector_bounds.proofs.Fates.{fate_within, delivers}
-use Rattle.detector_bounds.proofs.Instances.{runs_timeout, timeout_step, timeout_suspects, timeout_seen}
-use Rattle.detector_bounds.proofs.Multiples.{from_tick, soon_from, at_most_last, last_is_before}
-use Rattle.detector_bounds.proofs.Standing.{Stands, stands_first, stands_next, out_is}
-use Rattle.detector_bounds.proofs.Timeouts.Joined.{RunsTimeout, place_of}
-use Rattle.detector_bounds.proofs.Timeouts.Detecting.{IsPair, AreTicks, suspected_then, Awaits, awaits_kept, firm}
-use Rattle.detector_bounds.proofs.Timeouts.Trusted.{trusts-append}
-use Rattle.detector_bounds.proofs.Timeouts.Watched.{suspects_watched}
-use Rattle.detector_bounds.proofs.Watching.{process_is, watched_is, up_until, down_from}
-use Rattle.detector_bounds.proofs.Verdicts.{pairs_keep}
 use Rattle.detector_bounds.proofs.Timeouts.Trusting as trusting
-use Rattle.detector_bounds.proofs.Timeouts.Stepping.{state_in}
 
 module _ (s : Record) (ranges : IsInRange s) (its : TimeoutNumbers) (kind : s.detector ≡ Timeout its) where
   abbrev pub sound : IsSound (setting_of s)

@@ -7,6 +7,9 @@
 use Rattle.std.proofs.Common.{◌≡◌, ◌≢◌, ◌⊎◌, ℕ, ◌+◌, ◌-◌, ◌*◌, ◌<◌, ◌≤◌, inl, inr, refl, sym, ap, ◌∙◌, subst, Bool, true, false, nat_le, List, [], ◌∷◌, arith, le-leb}
 use Rattle.std.specs.FinSet as set
 use Rattle.detector_bounds.proofs.Words.{cases_lt, Key, StepInput, TimeoutNumbers, same_or_not, World, Pair, Has, IsLeast, NoneBelow, Run, made, taken, opening, entries, start_of, starts_are, one_input, trusts, EntryRecord}
+use Rattle.detector_bounds.proofs.{Ending.{IsKept, none_at}, Multiples.{mul-next, more_grown, fewer_grown, multiple_after}, Standing.{starts_there}}
+use Rattle.detector_bounds.proofs.Timeouts.{Joined.{RunsTimeout, place_of}, Acting.{IsBeating, IsChecking}, Noticing.{by_input}}
+use Rattle.detector_bounds.proofs.Timeouts.{Stepping.{state_in, IsBased, opening_based, is_down, later, next_based, next_state, alive_cases, beat_cases, check_pending, stays, trust_counted}, Trusted.{trusts-append}}
 use Rattle.process_api.specs.Timeout.{TimeoutState, watches}
 use Rattle.process_api.specs.declared.message.Payload.TheVariants as payload
 use Rattle.process_api.specs.declared.message.StepInput.TheVariants as input
@@ -14,14 +17,6 @@ use Rattle.process_api.specs.declared.message.Tag.TheVariants as tag
 use Rattle.streams.specs.declared.fate.Fate.TheVariants as fate
 use Rattle.trace_laws.specs.Setting.{Setting, IsSound, IsProcess, has_crashed}
 use Rattle.judges.proofs.Letters.{no_letter_first}
-use Rattle.detector_bounds.proofs.Ending.{IsKept, none_at}
-use Rattle.detector_bounds.proofs.Multiples.{mul-next, more_grown, fewer_grown, multiple_after}
-use Rattle.detector_bounds.proofs.Standing.{starts_there}
-use Rattle.detector_bounds.proofs.Timeouts.Joined.{RunsTimeout, place_of}
-use Rattle.detector_bounds.proofs.Timeouts.Acting.{IsBeating, IsChecking}
-use Rattle.detector_bounds.proofs.Timeouts.Noticing.{by_input}
-use Rattle.detector_bounds.proofs.Timeouts.Stepping.{state_in, IsBased, opening_based, is_down, later, next_based, next_state, alive_cases, beat_cases, check_pending, stays, trust_counted}
-use Rattle.detector_bounds.proofs.Timeouts.Trusted.{trusts-append}
 
 module _ {Mind : Type 0} (S : Setting Mind) (sound : IsSound S) (numbers : TimeoutNumbers) (R : RunsTimeout S numbers) (q p : ℕ) where
   -- what is asked of the pair: q watches p and does not crash below the horizon

@@ -1,7 +1,6 @@
 -- Machines that have a time-out detector below other parts.
 use Rattle.std.specs.Prelude.{ℕ}
-use Rattle.detector_bounds.proofs.Words.{Place, opening_timeout, step_timeout, TimeoutNumbers, Setting}
-use Rattle.detector_bounds.proofs.Machines.{RunsDetector}
+use Rattle.detector_bounds.proofs.{Words.{Place, opening_timeout, step_timeout, TimeoutNumbers, Setting}, Machines.{RunsDetector}}
 
 abbrev pub place_of : {Mind : Type 0} → Setting Mind → ℕ → Place
 place_of S p = record { own = p; processes = S.processes; horizon = S.horizon }

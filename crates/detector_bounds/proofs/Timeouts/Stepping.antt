@@ -1,6 +1,8 @@
 -- One step of the list, seen from the time-out detectors: whose state changes, and which Beats, Checks and Alive letters
 -- are pending then.
 use Rattle.detector_bounds.proofs.Words.{◌≡◌, ◌≢◌, ◌⊎◌, ℕ, ◌+◌, ◌<◌, ◌≤◌, inl, inr, refl, sym, ap, ◌∙◌, subst, Bool, true, false, List, [], ◌∷◌, ◌++◌, arith, cond, cases_lt, cond_both, Action, Key, StepInput, TimeoutNumbers, before_by_tick, IsIn, Event, Process, Made, dead, made_by, World, Has, IsLeast, IsWorld, NoneBelow, made, taken, opening, opening_world, in_left, step_key, by_receiver, taken_cases, taken_old, taken_new, taken_world, made_sent, each_of, trusts}
+use Rattle.detector_bounds.proofs.Timeouts.{Noticing.{notes_trust}, Trusted.{acted_note, entry_counts}, Joined.{RunsTimeout, place_of}, Acting.{IsBeating, IsChecking, IsDone, all_done, beats_on, checks_on, sends_on}}
+use Rattle.detector_bounds.proofs.{Events.{IsOf, Comes, IsAddedAt, comes_of, wake_joins, letter_joins}, Above.{IsFollowed}}
 use Rattle.std.specs.FinSet as set
 use Rattle.process_api.specs.Timeout.{TimeoutState, watches, step_timeout}
 use Rattle.process_api.specs.declared.action.Action.TheVariants as action
@@ -10,12 +12,6 @@ use Rattle.process_api.specs.declared.message.StepInput.TheVariants as input
 use Rattle.process_api.specs.declared.message.Tag.TheVariants as tag
 use Rattle.streams.specs.declared.fate.Fate.TheVariants as fate
 use Rattle.trace_laws.specs.Setting.{Setting, IsSound, IsProcess, has_crashed}
-use Rattle.detector_bounds.proofs.Timeouts.Noticing.{notes_trust}
-use Rattle.detector_bounds.proofs.Timeouts.Trusted.{acted_note, entry_counts}
-use Rattle.detector_bounds.proofs.Events.{IsOf, Comes, IsAddedAt, comes_of, wake_joins, letter_joins}
-use Rattle.detector_bounds.proofs.Above.{IsFollowed}
-use Rattle.detector_bounds.proofs.Timeouts.Joined.{RunsTimeout, place_of}
-use Rattle.detector_bounds.proofs.Timeouts.Acting.{IsBeating, IsChecking, IsDone, all_done, beats_on, checks_on, sends_on}
 
 module _ {Mind : Type 0} (S : Setting Mind) (sound : IsSound S) (numbers : TimeoutNumbers) (R : RunsTimeout S numbers) where
   -- the detector of a process

@@ -4,8 +4,7 @@ use Rattle.std.proofs.lemmas.List.Elements.{filter-append}
 use Rattle.process_api.specs.declared.action.Action.TheVariants as action
 use Rattle.process_api.specs.declared.action.Note.{Note}
 use Rattle.process_api.specs.declared.action.Note.TheVariants as note
-use Rattle.trace_laws.specs.Step.{noted}
-use Rattle.judges.specs.Outcomes.{timed, notes_of}
+use Rattle.{trace_laws.specs.Step.{noted}, judges.specs.Outcomes.{timed, notes_of}}
 
 notes_of-append : (xs ys : List EntryRecord) (q : ℕ) → notes_of (xs ++ ys) q ≡ notes_of xs q ++ notes_of ys q
 notes_of-append [] ys q = refl

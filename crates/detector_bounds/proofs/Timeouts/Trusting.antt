@@ -6,19 +6,15 @@
 use Rattle.std.proofs.Common.{◌≡◌, ◌≢◌, ◌⊎◌, ℕ, ◌+◌, ◌-◌, ◌<◌, ◌≤◌, inl, inr, refl, sym, ap, ◌∙◌, subst, Bool, true, false, nat_le, List, [], ◌∷◌, arith, zero, suc, leb-true}
 use Rattle.std.specs.Ordering.{nat_cmp}
 use Rattle.std.specs.FinSet as set
-use Rattle.detector_bounds.proofs.Words.{cases_lt, Key, StepInput, TimeoutNumbers, same_or_not, World, Pair, Has, IsLeast, Run, taken, opening, start_of, one_input}
+use Rattle.detector_bounds.proofs.{Words.{cases_lt, Key, StepInput, TimeoutNumbers, same_or_not, World, Pair, Has, IsLeast, Run, taken, opening, start_of, one_input}, Ending.{none_at}, Standing.{starts_there}}
+use Rattle.detector_bounds.proofs.Timeouts.{Joined.{RunsTimeout, place_of}, Acting.{IsBeating}, Noticing.{by_input}}
+use Rattle.detector_bounds.proofs.Timeouts.Stepping.{state_in, IsBased, opening_based, is_down, later, least_tick, next_based, next_state, beat_pending, alive_pending, stays}
 use Rattle.process_api.specs.Timeout.{TimeoutState, watches}
 use Rattle.process_api.specs.declared.message.Payload.TheVariants as payload
 use Rattle.process_api.specs.declared.message.StepInput.TheVariants as input
 use Rattle.process_api.specs.declared.message.Tag.TheVariants as tag
 use Rattle.streams.specs.declared.fate.Fate.TheVariants as fate
 use Rattle.trace_laws.specs.Setting.{Setting, IsSound, IsProcess, has_crashed}
-use Rattle.detector_bounds.proofs.Ending.{none_at}
-use Rattle.detector_bounds.proofs.Standing.{starts_there}
-use Rattle.detector_bounds.proofs.Timeouts.Joined.{RunsTimeout, place_of}
-use Rattle.detector_bounds.proofs.Timeouts.Acting.{IsBeating}
-use Rattle.detector_bounds.proofs.Timeouts.Noticing.{by_input}
-use Rattle.detector_bounds.proofs.Timeouts.Stepping.{state_in, IsBased, opening_based, is_down, later, least_tick, next_based, next_state, beat_pending, alive_pending, stays}
 
 module _ {Mind : Type 0} (S : Setting Mind) (sound : IsSound S) (numbers : TimeoutNumbers) (R : RunsTimeout S numbers) (q p : ℕ) where
   -- what is asked of the pair: q watches p, and these are the ticks at which they crash, as far as that is below the horizon

@@ -1,12 +1,11 @@
 -- A time-out detector suspects nobody that it doesn't watch.
 use Rattle.detector_bounds.proofs.Words.{◌≡◌, ◌⊎◌, ℕ, inl, inr, sym, ap, ◌∙◌, subst, true, not, ◌&&◌, nat_eq, nat_cmp, List, [], ◌∷◌, and_parts, or_cases, cond_both, Answer, still, is_process, Place, StepInput, TimeoutNumbers, contains-insert_all, contains-remove_is, Setting, IsSound, World, Pair, Run, taken, opening}
+use Rattle.detector_bounds.proofs.Timeouts.{Joined.{RunsTimeout, place_of}, Stepping.{state_in, IsBased, opening_based, next_based, next_state}}
 use Rattle.std.specs.FinSet as set
 use Rattle.process_api.specs.Timeout.{TimeoutState, watches, is_overdue, noticed, trusted_again, heard, step_timeout}
 use Rattle.process_api.specs.declared.message.Payload.TheVariants as payload
 use Rattle.process_api.specs.declared.message.StepInput.TheVariants as input
 use Rattle.process_api.specs.declared.message.Tag.TheVariants as tag
-use Rattle.detector_bounds.proofs.Timeouts.Joined.{RunsTimeout, place_of}
-use Rattle.detector_bounds.proofs.Timeouts.Stepping.{state_in, IsBased, opening_based, next_based, next_state}
 
 module _ (place : Place) (numbers : TimeoutNumbers) (s : TimeoutState) (now p : ℕ) where
   abbrev IsNoNewer : Answer TimeoutState → Type 0

@@ -1,23 +1,10 @@
 -- The pieces of a picture, of a run and some ticks of it.
 use Rattle.std.specs.Prelude.{◌≡◌, ◌≤◌, ℕ, ◌+◌, ◌-◌, ◌*◌, Bool, not, List, ◌++◌, filter, flat_map, length, sum_by, Option}
-use Rattle.judges.specs.Out.{suspects}
-use Rattle.judges.specs.Outcomes.{outcome}
-use Rattle.judges.specs.declared.outcomes.Outcome.{Outcome}
-use Rattle.process_api.specs.Place.{numbers_to, others}
-use Rattle.scenario_record.specs.Record.{outages_on}
-use Rattle.reporting.specs.declared.letter.Letter.{Letter}
+use Rattle.{judges.specs.{Out.{suspects}, Outcomes.{outcome}, declared.outcomes.Outcome.{Outcome}}, process_api.specs.Place.{numbers_to, others}, scenario_record.specs.Record.{outages_on}, reporting.specs.declared.letter.Letter.{Letter}}
 use Rattle.svg.specs.declared.shape.Shape.{Shape}
-use Rattle.drawing.specs.Frame.{placeless, groups_bottom, row_height, row_top, line_of, own_top}
-use Rattle.drawing.specs.Suspicions.{bands, row_end, upper_bars, has_row, pair_at, own_at, group_shapes, group_bands}
-use Rattle.drawing.specs.Inside.Sweeping.{stretches}
+use Rattle.drawing.specs.{Frame.{placeless, groups_bottom, row_height, row_top, line_of, own_top}, Suspicions.{bands, row_end, upper_bars, has_row, pair_at, own_at, group_shapes, group_bands}, Inside.Sweeping.{stretches}}
 use Rattle.drawing.specs.LettersPicture.{arrows, bar_turns, line_bands, mark_shapes, turn_class, turn_shapes, upper_layer}
-use Rattle.drawing.specs.declared.bars.Bar.{Bar}
-use Rattle.drawing.specs.declared.groups.Row.{Row}
-use Rattle.drawing.specs.declared.groups.Rows.{Rows}
-use Rattle.drawing.specs.declared.groups.Run.{Run}
-use Rattle.drawing.specs.declared.pairs.PairBars.{PairBars}
-use Rattle.drawing.specs.declared.layout.Ticks.{Ticks}
-use Rattle.drawing.specs.declared.marks.Spot.{Spot}
+use Rattle.drawing.specs.declared.{bars.Bar.{Bar}, groups.{Row.{Row}, Rows.{Rows}, Run.{Run}}, pairs.PairBars.{PairBars}, layout.Ticks.{Ticks}, marks.Spot.{Spot}}
 
 -- the bars of a pair on a layer
 abbrev pub bars_in : Run → (layer q p : ℕ) → List Bar
@@ -104,8 +91,7 @@ arrows_in run of letters = arrows run.scenario.now.processes run.ticks.from run.
 
 -- the stretches of suspicion of a pair
 abbrev pub turn_bars : Run → (q p : ℕ) → List Bar
-turn_bars run q p =
-    stretches (suspects (upper_layer run.scenario.now.share) run.trace.now q p) 0
+turn_bars run q p = stretches (suspects (upper_layer run.scenario.now.share) run.trace.now q p) 0
     (row_end run.scenario.now run.ticks.until q)
 
 abbrev pub lines_in : Run → List Shape
@@ -124,8 +110,7 @@ abbrev pub all_line_bands_in : Run → List Shape
 all_line_bands_in run = flat_map (line_bands_in run) (numbers_to run.scenario.now.processes)
 
 unfoldable pub turns_in : Run → (q p : ℕ) → List Shape
-turns_in run q p =
-    flat_map (bar_turns run.ticks.from run.ticks.until (turn_class run.scenario.now.share)
+turns_in run q p = flat_map (bar_turns run.ticks.from run.ticks.until (turn_class run.scenario.now.share)
     (line_of run.scenario.now.processes q) (row_end run.scenario.now run.ticks.until q) p) (turn_bars run q p)
 
 abbrev pub turns_of_others : Run → (q : ℕ) → List Shape

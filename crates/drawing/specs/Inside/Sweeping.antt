@@ -1,8 +1,6 @@
 -- Stretches as they are found, tick by tick.
 use Rattle.std.specs.Prelude.{◌≡◌, ℕ, zero, suc, ◌+◌, ◌-◌, ◌≤◌, nat_le, nat_lt, max, Bool, true, false, if◌then◌else◌, Option, None, Some, List, [], ◌∷◌, ◌++◌, fold}
-use Rattle.judges.specs.Turns.{Turn}
-use Rattle.drawing.specs.declared.bars.Bar.{Bar}
-use Rattle.drawing.specs.declared.sweep.Sweep.{Sweep}
+use Rattle.{judges.specs.Turns.{Turn}, drawing.specs.declared.{bars.Bar.{Bar}, sweep.Sweep.{Sweep}}}
 
 -- of the ticks that are behind: the stretches that ended, and the first tick of one that goes on
 pub record Found : Type 0 where
@@ -57,6 +55,5 @@ pub record IsSwept (test : ℕ → Bool) (from : ℕ) (s : Sweep) : Type 0 where
 
 -- what was swept of any test was swept of it as these turns change it, where a tick after those behind is theirs
 abbrev pub SweptOn : List Turn → (tick : ℕ) → (old new : Sweep) → Type 0
-SweptOn turns tick old new =
-    (test : ℕ → Bool) (from : ℕ) → IsSwept test from old → old.tick ≤ max from tick
+SweptOn turns tick old new = (test : ℕ → Bool) (from : ℕ) → IsSwept test from old → old.tick ≤ max from tick
     → IsSwept (after_all test turns) from new

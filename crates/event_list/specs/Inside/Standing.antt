@@ -1,15 +1,8 @@
 -- Where a run of the list stands.
 use Rattle.std.specs.Prelude.{◌≡◌, ℕ, ◌-◌, List, ◌++◌, Some, All, map, slice_get, slice_set}
-use Rattle.process_api.specs.Order.{EntryRecord}
-use Rattle.process_api.specs.Mind.{Mind}
-use Rattle.process_api.specs.declared.key.Key.{Key}
-use Rattle.scenario_record.specs.Record.{Record}
-use Rattle.trace_laws.specs.Setting.{Setting, IsProcess, setting_of}
-use Rattle.steps.specs.Posting.{Posted, posted_along, posted_in}
-use Rattle.steps.specs.Seat.{process_of, IsSeated}
-use Rattle.trace_laws.specs.Step.{Event, Events, Process, Made, step}
-use Rattle.trace_laws.specs.World.{IsReached, World, Pair, Run, IsWorld, opening, joined}
-use Rattle.event_list.specs.declared.list.EventList.{EventList}
+use Rattle.{process_api.specs.{Order.{EntryRecord}, Mind.{Mind}, declared.key.Key.{Key}}, scenario_record.specs.Record.{Record}}
+use Rattle.trace_laws.specs.{Setting.{Setting, IsProcess, setting_of}, Step.{Event, Events, Process, Made, step}, World.{IsReached, World, Pair, Run, IsWorld, opening, joined}}
+use Rattle.{steps.specs.{Posting.{Posted, posted_along, posted_in}, Seat.{process_of, IsSeated}}, event_list.specs.declared.list.EventList.{EventList}}
 
 module _ {M : Type 0} (S : Setting M) where
   -- whatever the list does from this world, it sent these letters before
@@ -40,7 +33,6 @@ abbrev pub posted_at : Record → Event → Process Mind → List Posted
 posted_at s event before = posted_in (setting_of s) before event.0 event.1
 
 module _ {M : Type 0} (mind : M → Mind) where
-  -- the processes of the list
   abbrev pub processes_of : EventList M → List (Process Mind)
   processes_of list = map (process_of mind) list.seats.items
 

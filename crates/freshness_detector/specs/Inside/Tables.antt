@@ -1,12 +1,7 @@
 -- What a detector's tables stand for.
-use Rattle.std.specs.Prelude.{◌≡◌, ℕ, false, nat_le, List, Option, None, slice_index_or}
-use Rattle.std.specs.Option.{option_map_or}
+use Rattle.std.specs.{Prelude.{◌≡◌, ℕ, false, nat_le, List, Option, None, slice_index_or}, Option.{option_map_or}}
 use Rattle.std.specs.FinSet as set
-use Rattle.process_api.specs.Freshness.{FreshnessState, suspected}
-use Rattle.process_api.specs.Sets.{Processes}
-use Rattle.process_api.specs.declared.numbers.FreshnessNumbers.{FreshnessNumbers}
-use Rattle.scenario_record.specs.Opening.{place_of}
-use Rattle.scenario_record.specs.declared.opening.Opening.{Opening}
+use Rattle.{process_api.specs.{Freshness.{FreshnessState, suspected}, Sets.{Processes}, declared.numbers.FreshnessNumbers.{FreshnessNumbers}}, scenario_record.specs.{Opening.{place_of}, declared.opening.Opening.{Opening}}}
 
 -- latest: for each process the greatest number of its heartbeats that came, if one did
 abbrev pub state_by : (sent reached : ℕ) → (latest : List (Option ℕ)) → FreshnessState

@@ -1,15 +1,8 @@
 -- What a detector is, as plain data.
 use Rattle.std.specs.Prelude.{ℕ, Bool, List}
-use Rattle.process_api.specs.Answer.{Answer}
-use Rattle.process_api.specs.Detector.{ByFreshness}
-use Rattle.process_api.specs.Freshness.{FreshnessState, watches, is_stale, suspected, noted, next_check, heard, checked, step_freshness}
-use Rattle.process_api.specs.Mind.{Lower}
-use Rattle.process_api.specs.Sets.{Processes}
-use Rattle.process_api.specs.declared.action.Action.{Action}
-use Rattle.process_api.specs.declared.message.StepInput.{StepInput}
-use Rattle.scenario_record.specs.Opening.{place_of, base_of}
-use Rattle.freshness_detector.specs.Inside.Tables.{state_by}
-use Rattle.freshness_detector.specs.declared.detector.FreshnessDetector.{FreshnessDetector}
+use Rattle.process_api.specs.{Answer.{Answer}, Detector.{ByFreshness}, Freshness.{FreshnessState, watches, is_stale, suspected, noted, next_check, heard, checked, step_freshness}, Mind.{Lower}, Sets.{Processes}}
+use Rattle.{process_api.specs.declared.{action.Action.{Action}, message.StepInput.{StepInput}}, scenario_record.specs.Opening.{place_of, base_of}}
+use Rattle.freshness_detector.specs.{Inside.Tables.{state_by}, declared.detector.FreshnessDetector.{FreshnessDetector}}
 
 abbrev pub state_of : FreshnessDetector → FreshnessState
 state_of d = state_by d.sent d.reached d.latest.items

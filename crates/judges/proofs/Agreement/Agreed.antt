@@ -1,16 +1,11 @@
 -- The outcomes of every trace of the rotating coordinator agree.
 use Rattle.judges.proofs.Words.{◌≡◌, ◌≢◌, ℕ, ◌≤◌, inl, inr, refl, sym, ap, ◌∙◌, subst, Bool, true, false, cond, not, List, [], ◌∷◌, map, Option, None, Some, unwrap_or, filter, find, EntryRecord, numbers_to, Decided, numbers_are, IsInRange, Record, proposal, IsIn, setting_of, IsTrace, setting_sound, Agrees, DecidesOnce, answers_of, notes_of, is_answer, value_of, outcome, outcomes, Outcome}
-use Rattle.process_api.specs.declared.action.Note.{Note}
+use Rattle.judges.proofs.{Agreement.{Coordinators.{trace_one_value, trace_proposed, trace_once}, Answering.{answers_by, answers_are, value_in, decides_once}, Joined.{RunsCoordinator}, Locking.{there_is}}, Instances.{runs_coordinator}}
+use Rattle.{judges.proofs.Members.{each_of, of_image}, process_api.specs.declared.action.Note.{Note}}
 use Rattle.scenario_record.specs.Ranges.{is_idle}
 use Rattle.scenario_record.specs.declared.algorithm.AlgorithmKind.TheVariants as kind
 use Rattle.judges.specs.Verdicts.{IsProcess}
 use Rattle.judges.specs.declared.outcomes.Answer.TheVariants as answer
-use Rattle.judges.proofs.Agreement.Coordinators.{trace_one_value, trace_proposed, trace_once}
-use Rattle.judges.proofs.Agreement.Answering.{answers_by, answers_are, value_in, decides_once}
-use Rattle.judges.proofs.Instances.{runs_coordinator}
-use Rattle.judges.proofs.Agreement.Joined.{RunsCoordinator}
-use Rattle.judges.proofs.Agreement.Locking.{there_is}
-use Rattle.judges.proofs.Members.{each_of, of_image}
 
 -- ---- what an outcome tells
 

@@ -1,7 +1,6 @@
 -- The answers of processes, as lists of values: of a decision its value, of NoValue none.
 use Rattle.judges.proofs.Words.{◌≡◌, ◌⊎◌, ℕ, inl, inr, refl, ap, ◌∙◌, true, false, cond, List, [], ◌∷◌, ◌++◌, map, Option, None, Some, ◌==◌, if◌then◌else◌, filter, map-append, EntryRecord, Decided, NoValue, answers_of, DecidesOnce, timed, notes_of, is_answer}
-use Rattle.std.proofs.lemmas.List.Elements.{filter-append}
-use Rattle.process_api.specs.declared.action.Note.{Note}
+use Rattle.{std.proofs.lemmas.List.Elements.{filter-append}, process_api.specs.declared.action.Note.{Note}}
 
 -- the answers among notes
 abbrev pub answers_in : List Note → List (Option ℕ)

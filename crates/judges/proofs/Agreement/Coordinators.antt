@@ -1,16 +1,11 @@
 -- Through a run: what every process knows of itself, and that every letter on its way was sent.
 use Rattle.judges.proofs.Words.{◌≡◌, ℕ, inl, inr, refl, sym, ap, ◌∙◌, subst, Bool, true, false, cond, ◌==◌, List, [], ◌∷◌, ◌++◌, append_assoc, append-nil, IsTrue, ◌⊎◌, arith, Some, cases_eq, cond_both, eqb-true, eq-eqb, ne_eqb, cases_lt, step_coordinator, is_decided, Key, Payload, StepInput, Action, Answer, EntryRecord, change, Made, dead, made_by, IsIn, in_left, in_right, change_at, change_other, taken_cases, taken_world, opening_world, same_Some}
+use Rattle.judges.proofs.Agreement.{Joined.{RunsCoordinator}, Answering.{answers_in, answers_by}, Local.{Local, IsFine, verdicts, verdicts-append, CameFrom, step_fits, lower_fits, opening_fits, IsGood, Once, next_of}}
+use Rattle.judges.proofs.{Agreement.Locking.{Facts, one_locked, locked_valid}, Letters.{added_letter, no_letter_first}, Members.{each_of}}
 use Rattle.process_api.specs.declared.message.Payload.TheVariants as payload
 use Rattle.process_api.specs.declared.message.StepInput.TheVariants as input
 use Rattle.process_api.specs.declared.action.Action.TheVariants as action
-use Rattle.trace_laws.specs.Setting.{Setting, IsSound, IsProcess, has_crashed}
-use Rattle.trace_laws.specs.World.{World, Pair, Has, IsWorld, Run, made, taken, opening, entries, IsTrace}
-use Rattle.judges.proofs.Agreement.Joined.{RunsCoordinator}
-use Rattle.judges.proofs.Agreement.Answering.{answers_in, answers_by}
-use Rattle.judges.proofs.Agreement.Local.{Local, IsFine, verdicts, verdicts-append, CameFrom, step_fits, lower_fits, opening_fits, IsGood, Once, next_of}
-use Rattle.judges.proofs.Letters.{added_letter, no_letter_first}
-use Rattle.judges.proofs.Members.{each_of}
-use Rattle.judges.proofs.Agreement.Locking.{Facts, one_locked, locked_valid}
+use Rattle.trace_laws.specs.{Setting.{Setting, IsSound, IsProcess, has_crashed}, World.{World, Pair, Has, IsWorld, Run, made, taken, opening, entries, IsTrace}}
 
 module _ {Mind : Type 0} (S : Setting Mind) where
   -- who sent what, by what each process did

@@ -1,8 +1,7 @@
 -- Machines whose minds have, above lower parts of any kind, the state of a rotating coordinator.
 use Rattle.std.specs.Prelude.{◌≡◌, ℕ, Bool, false, List, ◌++◌, IsTrue}
 use Rattle.judges.proofs.Words.{AllByRecursion, Coordinator, opening_coordinator, step_coordinator, Action, Suspect, Trust, StepInput}
-use Rattle.process_api.specs.declared.action.Action.TheVariants.{Send, Wake, Note}
-use Rattle.process_api.specs.declared.message.Payload.TheVariants.{Alive, Heartbeat, Suspects}
+use Rattle.process_api.specs.declared.{action.Action.TheVariants.{Send, Wake, Note}, message.Payload.TheVariants.{Alive, Heartbeat, Suspects}}
 use Rattle.trace_laws.specs.Setting.{Setting, IsProcess}
 
 -- what the lower parts may do: they send no letter of the algorithm, and note suspicion and trust alone

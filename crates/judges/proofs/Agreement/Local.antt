@@ -1,16 +1,12 @@
 -- What is true of one process, of its state and of all that it did so far. Sent says what is sent in the whole run.
 use Rattle.judges.proofs.Words.{◌≡◌, ℕ, ◌+◌, ◌<◌, ◌≤◌, refl, sym, ap, ◌∙◌, subst, Bool, true, false, cond, arith, nat_lt, Option, None, Some, List, [], ◌∷◌, ◌++◌, map, append_assoc, append-nil, zero, suc, inl, inr, ◌&&◌, not, nat_le, nat_eq, eqb, is_some, unwrap_or, AllByRecursion, cond_both, leb-true, eqb-true, and_parts, Answer, still, after, to_all, Estimate, Phase, Opening, Collect, Await, Tally, Ended, Kept, Coordinator, is_decided, from_round, enter, leave, best_to, is_opening, keep, propose, collect, reply, adopt, await, tally, end_wait, waits_left, end_waits, settle, is_timely, is_early, deliver, receive, begin, step_coordinator, opening_coordinator, Payload, Action, both, weaker, and-true, numbers_to, change, relay, StepInput, change_at, change_other}
-use Rattle.process_api.specs.Coordinator.{coordinator, is_own, greatest_round, count_to, majority}
+use Rattle.judges.proofs.{Agreement.{Answering.{answers_in}, Locking.{IsChosen, IsLocked, Origin, IsBest, best_is, there_is, is_true_there}, Joined.{IsOfLower}}, Algorithms.{all_sent}}
+use Rattle.process_api.specs.{Coordinator.{coordinator, is_own, greatest_round, count_to, majority}, Rows.{keep_one}}
 use Rattle.process_api.specs.declared.message.Payload.TheVariants as payload
 use Rattle.process_api.specs.declared.action.Note.TheVariants as note
 use Rattle.process_api.specs.declared.action.Action.TheVariants as action
 use Rattle.trace_laws.specs.Step.{noted}
-use Rattle.judges.proofs.Agreement.Answering.{answers_in}
-use Rattle.judges.proofs.Agreement.Locking.{IsChosen, IsLocked, Origin, IsBest, best_is, there_is, is_true_there}
-use Rattle.process_api.specs.Rows.{keep_one}
 use Rattle.process_api.specs.declared.message.StepInput.TheVariants as input
-use Rattle.judges.proofs.Algorithms.{all_sent}
-use Rattle.judges.proofs.Agreement.Joined.{IsOfLower}
 
 -- the answers among actions
 abbrev pub verdicts : List Action → List (Option ℕ)

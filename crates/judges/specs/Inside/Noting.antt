@@ -1,11 +1,7 @@
 -- What one more entry makes of outcomes.
-use Rattle.std.specs.Prelude.{ℕ, max, Some, List, fold}
-use Rattle.process_api.specs.declared.action.Note.{Note}
-use Rattle.process_api.specs.declared.action.Note.TheVariants.{Suspect, Trust, Round, Decided, NoValue}
-use Rattle.judges.specs.declared.outcomes.Answer.{Answer}
+use Rattle.{std.specs.Prelude.{ℕ, max, Some, List, fold}, process_api.specs.declared.action.Note.{Note, TheVariants.{Suspect, Trust, Round, Decided, NoValue}}}
+use Rattle.judges.specs.{declared.outcomes.{Answer.{Answer}, Outcome.{Outcome}}, Outcomes.{answer_of}}
 use Rattle.judges.specs.declared.outcomes.Answer.TheVariants as answer
-use Rattle.judges.specs.declared.outcomes.Outcome.{Outcome}
-use Rattle.judges.specs.Outcomes.{answer_of}
 
 -- the step of an outcome at one more note
 abbrev pub answered : Outcome → Answer → (tick : ℕ) → Note → Outcome

@@ -1,6 +1,4 @@
-use Rattle.std.proofs.Common.{refl}
-use Rattle.std.proofs.lemmas.Str.{IsUtf8-past_char}
-use Rattle.printable.proofs.Characters.{one_more, ended}
+use Rattle.{std.proofs.{Common.{refl}, lemmas.Str.{IsUtf8-past_char}}, printable.proofs.Characters.{one_more, ended}}
 use Rattle.printable.proofs.write_text.Goals as goal
 
 pub loop-c-preserved : goal.loop-c-preserved

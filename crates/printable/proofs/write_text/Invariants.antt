@@ -1,8 +1,5 @@
-use Rattle.std.proofs.Common.{IsUtf8}
-use Rattle.std.specs.Str.Iter.{chars_rest}
-use Rattle.std.specs.Fmt.{IsPlainFormatter}
-use Rattle.printable.specs.Printable.{shown_as}
-use Rattle.printable.proofs.Characters.{IsUnderWay}
+use Rattle.{std.proofs.Common.{IsUtf8}, std.specs.{Str.Iter.{chars_rest}, Fmt.{IsPlainFormatter}}}
+use Rattle.{printable.specs.Printable.{shown_as}, printable.proofs.Characters.{IsUnderWay}}
 use Rattle.printable.proofs.write_text.Given as goal
 
 abbrev pub invariant-loop-c : goal.invariant-loop-c

@@ -1,16 +1,8 @@
 -- What a sink leaves that writes the rows of a run's entries as its windows close.
 use Rattle.std.specs.Prelude.{◌≡◌, ◌⊎◌, ℕ, Bool, true, false, List, [], ◌∷◌, ◌++◌, Option, IsTrue}
-use Rattle.trace_laws.specs.Setting.{setting_of}
-use Rattle.trace_laws.specs.World.{IsTrace}
-use Rattle.process_api.specs.Order.{EntryRecord}
-use Rattle.scenario_record.specs.Record.{Record}
-use Rattle.runs.specs.Finishing.{IsTraceWithin}
-use Rattle.reporting.specs.ReportText.{Text}
-use Rattle.reporting.specs.Running.{IsRunning, Running, RunningFollowed}
-use Rattle.reporting.specs.TraceText.{Holds, rows_text}
-use Rattle.reporting.specs.Outlet.{Wrote, WrotePart}
+use Rattle.{trace_laws.specs.{Setting.{setting_of}, World.{IsTrace}}, process_api.specs.Order.{EntryRecord}, scenario_record.specs.Record.{Record}, runs.specs.Finishing.{IsTraceWithin}}
+use Rattle.reporting.specs.{ReportText.{Text}, Running.{IsRunning, Running, RunningFollowed}, TraceText.{Holds, rows_text}, Outlet.{Wrote, WrotePart}, declared.trace_text.TraceText.{TraceText}}
 use Rattle.qos_report.specs.declared.streaming.Streaming.{Streaming}
-use Rattle.reporting.specs.declared.trace_text.TraceText.{TraceText}
 
 module _ {O : Type 0} (told : O → Option (List ℕ)) (failed : O → ℕ) where
   module _ (old new : O) where

@@ -1,12 +1,6 @@
 -- The reduction's own part as plain data.
-use Rattle.std.specs.Prelude.{ℕ, List}
-use Rattle.process_api.specs.Answer.{Answer}
-use Rattle.process_api.specs.Sets.{Processes, changes}
-use Rattle.process_api.specs.Reduction.{ReductionState, gathered, step_reduction}
-use Rattle.process_api.specs.declared.action.Note.{Note}
-use Rattle.process_api.specs.declared.message.StepInput.{StepInput}
-use Rattle.scenario_record.specs.Opening.{place_of}
-use Rattle.reduction.specs.declared.gathering.Gathering.{Gathering}
+use Rattle.{std.specs.Prelude.{ℕ, List}, process_api.specs.{Answer.{Answer}, Sets.{Processes, changes}, Reduction.{ReductionState, gathered, step_reduction}, declared.{action.Note.{Note}, message.StepInput.{StepInput}}}}
+use Rattle.{scenario_record.specs.Opening.{place_of}, reduction.specs.declared.gathering.Gathering.{Gathering}}
 
 abbrev pub state_of : Gathering → ReductionState
 state_of g = record { period = g.period; output = g.output }

@@ -1,14 +1,8 @@
 -- The text of a report, from what was found of a run.
-use Rattle.std.specs.Prelude.{Option, None, Some, [], ◌++◌, ℕ, List, ◌∷◌, decimal}
-use Rattle.std.specs.List.{flat_map, join_with_byte}
-use Rattle.judges.specs.declared.verdicts.Verdicts.{Verdicts}
-use Rattle.scenario_record.specs.declared.algorithm.AlgorithmKind.{AlgorithmKind}
-use Rattle.reporting.specs.ReportText.{Text, report_header, run_text, verdict_text, pair_text, decisions_text, report_rows}
-use Rattle.reporting.specs.Rows.{comma}
-use Rattle.reporting.specs.declared.findings.RunFindings.{RunFindings}
-use Rattle.reporting.specs.declared.report_rows.About.{About}
-use Rattle.reporting.specs.declared.values.Value.{Value}
-use Rattle.reporting.specs.declared.values.Value.TheVariants.{Number, Count, Sum, Word}
+use Rattle.std.specs.{Prelude.{Option, None, Some, [], ◌++◌, ℕ, List, ◌∷◌, decimal}, List.{flat_map, join_with_byte}}
+use Rattle.{judges.specs.declared.verdicts.Verdicts.{Verdicts}, scenario_record.specs.declared.algorithm.AlgorithmKind.{AlgorithmKind}}
+use Rattle.reporting.specs.{ReportText.{Text, report_header, run_text, verdict_text, pair_text, decisions_text, report_rows}, Rows.{comma}}
+use Rattle.reporting.specs.declared.{findings.RunFindings.{RunFindings}, report_rows.About.{About}, values.Value.{Value, TheVariants.{Number, Count, Sum, Word}}}
 
 -- the verdicts on layer 2, where there is a reduction
 abbrev pub second_text : Option Verdicts → Text
@@ -19,8 +13,7 @@ abbrev pub layers_text : RunFindings → Text
 layers_text f = verdict_text 1 f.first ++ second_text f.second
 
 unfoldable pub found_text : AlgorithmKind → RunFindings → Text
-found_text algorithm f =
-    report_header
+found_text algorithm f = report_header
     ++ (run_text f.summary.entries f.summary.sent f.summary.lost
     ++ (layers_text f
     ++ (flat_map pair_text f.measures.items ++ decisions_text algorithm f.summary.outcomes.items)))

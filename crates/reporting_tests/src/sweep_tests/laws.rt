@@ -1,8 +1,6 @@
 //! The laws at work: the points and the texts of shards one after the other, and of the whole; the seeds of runs.
-ghost use Rattle.std.specs.Prelude.{◌≡◌, ◌≤◌, ◌<◌, ◌-◌, ◌==◌, ℕ, [], length, map, IfOk, IfSome};
-ghost use Rattle.std.specs.List.{count_by, flat_map, range_with_len};
-ghost use Rattle.study.specs.Sources.{sources_of};
-ghost use Rattle.study.specs.Grid.{combinations, runs, turn};
+ghost use Rattle.std.specs.{Prelude.{◌≡◌, ◌≤◌, ◌<◌, ◌-◌, ◌==◌, ℕ, [], length, map, IfOk, IfSome}, List.{count_by, flat_map, range_with_len}};
+ghost use Rattle.study.specs.{Sources.{sources_of}, Grid.{combinations, runs, turn}};
 ghost use Rattle.sweep.specs.StudyText.{IsStudyText};
 
 use super::studies::seven_points;

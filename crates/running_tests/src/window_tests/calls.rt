@@ -1,10 +1,7 @@
 //! One window on one thread, whose berths are called one after the other in a given order.
-ghost use Rattle.std.specs.Prelude.{◌≡◌, length, IfOk, IsPermutation};
-ghost use Rattle.std.specs.List.{All};
+ghost use Rattle.std.specs.{Prelude.{◌≡◌, length, IfOk, IsPermutation}, List.{All}};
 ghost use Rattle.mailboxes.specs.Mailboxes.{IsSlipOf};
-ghost use Rattle.windows.specs.Berth.{IsBerthOf};
-ghost use Rattle.windows.specs.Plan.{IsPlanFor};
-ghost use Rattle.windows.specs.Stage.{IsStage};
+ghost use Rattle.windows.specs.{Berth.{IsBerthOf}, Plan.{IsPlanFor}, Stage.{IsStage}};
 
 use event_list::RunError;
 use mailboxes::{Mailboxes, SharedMailboxes, Slip};

@@ -1,7 +1,6 @@
 //! Runs in which each input in turn is refused by the machine that takes it.
 ghost use Rattle.std.specs.Prelude.{◌≡◌, IfOk, map};
-ghost use Rattle.process_api.specs.Place.{numbers_to};
-ghost use Rattle.scenario_record.specs.Record.{opening_mind};
+ghost use Rattle.{process_api.specs.Place.{numbers_to}, scenario_record.specs.Record.{opening_mind}};
 
 use super::{ONE_CRASH, same_entries};
 use crate::common::{NO_MEMORY, NO_RUN, same, scenario_of};

@@ -1,6 +1,5 @@
 //! Runs of a scenario by the list and by windows, and the first windows of such runs.
-ghost use Rattle.windows.specs.Plan.{IsPlanFor};
-ghost use Rattle.windows.specs.Stage.{IsStage};
+ghost use Rattle.windows.specs.{Plan.{IsPlanFor}, Stage.{IsStage}};
 
 use super::calls::after_windows;
 use crate::common::{NO_MEMORY, NO_RUN};

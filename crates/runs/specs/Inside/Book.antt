@@ -1,9 +1,6 @@
 -- A book of letters, as they are heard of.
 use Rattle.std.specs.Prelude.{◌≡◌, List, ◌++◌, map}
-use Rattle.steps.specs.Posting.{Posted}
-use Rattle.trace_laws.specs.Setting.{setting_of}
-use Rattle.runs.specs.Letters.{letter_of}
-use Rattle.runs.specs.declared.book.LetterBook.{LetterBook}
+use Rattle.{steps.specs.Posting.{Posted}, trace_laws.specs.Setting.{setting_of}, runs.specs.{Letters.{letter_of}, declared.book.LetterBook.{LetterBook}}}
 
 -- the one book is the other with these letters at its end
 pub record HasHeard (old : LetterBook) (posted : List Posted) (new : LetterBook) : Type 0 where

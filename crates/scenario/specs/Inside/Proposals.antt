@@ -1,9 +1,6 @@
 -- Proposals that are read from the numbers of an array.
-use Rattle.std.specs.Prelude.{◌≡◌, ℕ, ℤ, List, map, true, false, Option, MatchOption}
-use Rattle.std.specs.List.{list_any}
-use Rattle.std.specs.Global.{Vec}
-use Rattle.scenario.specs.Text.{natural}
-use Rattle.scenario.specs.Rules.{is_bad_proposal}
+use Rattle.std.specs.{Prelude.{◌≡◌, ℕ, ℤ, List, map, true, false, Option, MatchOption}, List.{list_any}, Global.{Vec}}
+use Rattle.scenario.specs.{Text.{natural}, Rules.{is_bad_proposal}}
 
 -- what is read of the numbers is they, where each is in its range
 abbrev pub AreReadOf : List ℤ → Option (Vec ℕ) → Type 0

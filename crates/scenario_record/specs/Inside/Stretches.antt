@@ -1,9 +1,6 @@
 -- Stretches in which a tick is looked up.
-use Rattle.std.specs.Prelude.{◌≡◌, ℕ, List}
-use Rattle.std.specs.List.{list_any}
-use Rattle.std.specs.List.Sorted.{IsNonDecreasingBy}
-use Rattle.scenario_record.specs.Record.{covers}
-use Rattle.scenario_record.specs.declared.outage.Outage.{Outage}
+use Rattle.std.specs.{Prelude.{◌≡◌, ℕ, List}, List.{list_any, Sorted.{IsNonDecreasingBy}}}
+use Rattle.scenario_record.specs.{Record.{covers}, declared.outage.Outage.{Outage}}
 
 -- the stretches, by rising begins and rising ends, have just the ticks of the outages
 pub record AreStretchesOf (outages stretches : List Outage) : Type 0 where

@@ -1,15 +1,7 @@
 -- What the actions of a step do, as the links of the process stand.
 use Rattle.std.specs.Prelude.{ℕ, ◌+◌, ◌++◌, List}
-use Rattle.process_api.specs.Order.{EntryRecord}
-use Rattle.process_api.specs.Mind.{Mind}
-use Rattle.process_api.specs.declared.action.Action.{Action}
-use Rattle.process_api.specs.declared.entry.Kind.{Kind}
-use Rattle.process_api.specs.declared.key.Key.{Key}
-use Rattle.scenario_record.specs.Record.{Record}
-use Rattle.trace_laws.specs.Setting.{setting_of, Setting}
-use Rattle.trace_laws.specs.Step.{sent_by, lost_by, noted_by, sent, lost, noted}
-use Rattle.steps.specs.Seat.{count_of}
-use Rattle.steps.specs.declared.links.Links.{Links}
+use Rattle.{process_api.specs.{Order.{EntryRecord}, Mind.{Mind}, declared.{action.Action.{Action}, entry.Kind.{Kind}, key.Key.{Key}}}, scenario_record.specs.Record.{Record}}
+use Rattle.{trace_laws.specs.{Setting.{setting_of, Setting}, Step.{sent_by, lost_by, noted_by, sent, lost, noted}}, steps.specs.{Seat.{count_of}, declared.links.Links.{Links}}}
 
 -- the key so many ticks later
 abbrev pub later : Key → (ticks : ℕ) → Key

@@ -1,9 +1,6 @@
 -- When a refused run is told with how a range is written.
-use Rattle.std.specs.Prelude.{Bool, false, ◌&&◌, ◌||◌, ◌==◌}
-use Rattle.std.specs.Char.{is_ascii_digit}
-use Rattle.std.specs.List.{list_all}
-use Rattle.study.specs.Settings.{Given, number, text}
-use Rattle.study.specs.Words.{Word, has}
+use Rattle.std.specs.{Prelude.{Bool, false, ◌&&◌, ◌||◌, ◌==◌}, Char.{is_ascii_digit}, List.{list_all}}
+use Rattle.study.specs.{Settings.{Given, number, text}, Words.{Word, has}}
 
 -- digits and colons alone, as if a word said a range
 abbrev pub is_like_range : Word → Bool

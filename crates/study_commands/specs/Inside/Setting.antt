@@ -1,20 +1,9 @@
 -- Files in which keys can't be set, files that stand for no scenario, and studies that words say.
 use Rattle.std.specs.Prelude.{◌≡◌, ◌++◌, ℕ, List, length, false, Ok, Err}
-use Rattle.study.specs.Grid.{runs}
-use Rattle.study.specs.Placed.{assign_all, is_memory as is_place_memory}
-use Rattle.study.specs.Laid.{IsRefusedFor, is_memory}
-use Rattle.study.specs.Sources.{SourcesRecord, sources_of}
-use Rattle.study.specs.declared.assignment.Assignment.{Assignment}
-use Rattle.study.specs.declared.error.PlaceError.{PlaceError}
-use Rattle.study.specs.declared.error.ReadError.{ReadError}
-use Rattle.study_commands.specs.Check.{study_begin}
-use Rattle.study_commands.specs.Sweep.{IsFaultOf}
-use Rattle.study_commands.specs.declared.fault.Fault.{Fault}
-use Rattle.study_commands.specs.declared.fault.Fault.TheVariants.{Memory, Refused}
-use Rattle.study_commands.specs.declared.sweeping.SaidStudy.{SaidStudy}
-use Rattle.sweep.specs.Outcome.{CantBeRun}
-use Rattle.sweep.specs.StudyText.{numbers_of}
-use Rattle.sweep.specs.declared.error.SweepError.{SweepError}
+use Rattle.study.specs.{Grid.{runs}, Placed.{assign_all, is_memory as is_place_memory}, Laid.{IsRefusedFor, is_memory}, Sources.{SourcesRecord, sources_of}}
+use Rattle.study.specs.declared.{assignment.Assignment.{Assignment}, error.{PlaceError.{PlaceError}, ReadError.{ReadError}}}
+use Rattle.study_commands.specs.{Check.{study_begin}, Inside.Private.{IsFaultOf}, declared.{fault.Fault.{Fault, TheVariants.{Memory, Refused}}, sweeping.SaidStudy.{SaidStudy}}}
+use Rattle.sweep.specs.{Outcome.{CantBeRun}, StudyText.{numbers_of}, declared.error.SweepError.{SweepError}}
 
 -- why not, for a reason other than memory
 pub record IsUnsetIn (assigned : List Assignment) (files : SourcesRecord) : Type 0 where
@@ -42,8 +31,7 @@ StandsForNone sources _ = ⊥
 
 -- the fault is why the study can't be run
 abbrev pub CantBeSwept : SaidStudy → Fault → Type 0
-CantBeSwept s f =
-    (e : SweepError) × CantBeRun (sources_of s.sources) s.grid s.layout.groups s.shard e × IsFaultOf e f
+CantBeSwept s f = (e : SweepError) × CantBeRun (sources_of s.sources) s.grid s.layout.groups s.shard e × IsFaultOf e f
 
 -- the text begins with how many points and runs these are
 abbrev pub TellsOfStudy : SaidStudy → (text : List ℕ) → Type 0

@@ -1,10 +1,5 @@
 -- The status of each fault is one of its end.
-use Rattle.std.proofs.Common.{inl, inr, refl}
-use Rattle.shell.specs.Ending.{HasStatus}
-use Rattle.study_commands.specs.Fault.{end_of, status_of}
-use Rattle.study_commands.specs.declared.fault.Fault.{Fault}
-use Rattle.study_commands.specs.declared.fault.Fault.TheVariants.{Form, Limit, Memory, NotDrawn, Refused, Words}
-use Rattle.study_commands.specs.declared.fault.Fault.TheVariants.{WordsMemory, Write}
+use Rattle.{std.proofs.Common.{inl, inr, refl}, shell.specs.Ending.{HasStatus}, study_commands.specs.{Fault.{end_of, status_of}, declared.fault.Fault.{Fault, TheVariants.{Form, Limit, Memory, NotDrawn, Refused, Words, WordsMemory, Write}}}}
 
 pub has_status : (fault : Fault) → HasStatus (end_of fault) (status_of fault)
 has_status Form = inr (inl refl)

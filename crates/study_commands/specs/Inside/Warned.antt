@@ -1,20 +1,8 @@
 -- What the functions that find warnings have in hand.
-use Rattle.std.specs.Prelude.{◌≡◌, ◌+◌, ◌++◌, ◌<◌, ◌==◌, ◌&&◌, not, ℕ, List, [], length, map, filter}
-use Rattle.std.specs.Prelude.{slice_get, slice_index_or, Bool, Option, option_and_then, option_map, if◌then◌else◌}
-use Rattle.std.specs.Borrow.{Bor}
-use Rattle.std.specs.Global.{Vec}
-use Rattle.std.specs.List.{AllZip, list_any, range_with_len}
-use Rattle.std.specs.Option.{option_map_or}
-use Rattle.scenario.specs.Table.{all_items, is_table, the_tables}
-use Rattle.scenario.specs.Text.{pair_of, processes_of, record_of}
-use Rattle.study.specs.Grid.{GridRecord}
-use Rattle.study.specs.Settings.{Given, Path, path_of}
-use Rattle.study.specs.Sources.{SourcesRecord}
-use Rattle.study.specs.declared.key.Key.{Key}
-use Rattle.study_commands.specs.Warnings.{Dealt, IsFirst, Warning, lates, outages, tick_of, unevens, unused, uses_link}
-use Rattle.study_commands.specs.declared.dealt_ticks.DealtTicks.{DealtTicks}
-use Rattle.study_commands.specs.declared.first_run.FirstRun.{FirstRun}
-use Rattle.study_commands.specs.declared.warning.Warning.{Warning as Found}
+use Rattle.std.specs.{Prelude.{◌≡◌, ◌+◌, ◌++◌, ◌<◌, ◌==◌, ◌&&◌, not, ℕ, List, [], length, map, filter, slice_get, slice_index_or, Bool, Option, option_and_then, option_map, if◌then◌else◌}, Borrow.{Bor}, Global.{Vec}}
+use Rattle.{std.specs.{List.{AllZip, list_any, range_with_len}, Option.{option_map_or}}, scenario.specs.{Table.{all_items, is_table, the_tables}, Text.{pair_of, processes_of, record_of}}}
+use Rattle.study.specs.{Grid.{GridRecord}, Settings.{Given, Path, path_of}, Sources.{SourcesRecord}, declared.key.Key.{Key}}
+use Rattle.study_commands.specs.{Warnings.{Dealt, IsFirst, Warning, lates, outages, tick_of, unevens, unused, uses_link}, declared.{dealt_ticks.DealtTicks.{DealtTicks}, first_run.FirstRun.{FirstRun}, warning.Warning.{Warning as Found}}}
 use Rattle.study_commands.specs.declared.warning.Warning.TheVariants as found
 use Rattle.toml.specs.Data.{Data, Members, as_array, as_table}
 

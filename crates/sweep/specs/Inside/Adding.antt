@@ -1,24 +1,9 @@
 -- Sums of sums. They stay at the greatest number of their types, should they reach it.
-use Rattle.std.specs.Prelude.{ℕ, ◌+◌, ◌-◌, ◌^◌, min, ◌==◌, ◌||◌, Bool, true, false, not, nat_lt, Option, None, Some, if◌then◌else◌, is_none, is_some, ◌≡◌, ◌≢◌, ◌*◌, ◌≤◌, ◌&&◌, List, length}
-use Rattle.std.specs.List.{list_all, sum_by}
-use Rattle.scenario_record.specs.Record.{Record}
-use Rattle.judges.specs.Out.{end_of}
-use Rattle.judges.specs.declared.outcomes.Outcome.{Outcome}
-use Rattle.judges.specs.declared.verdicts.Verdicts.{Verdicts}
-use Rattle.reporting.specs.declared.pair_measures.PairMeasures.{PairMeasures}
-use Rattle.reporting.specs.declared.summary.Summary.{Summary}
-use Rattle.sweep.specs.OneRun.{detection_ticks, is_undetected, is_at_once, has_decided, decision_tick, do_disagree}
-use Rattle.sweep.specs.Percentile.{greater}
-use Rattle.sweep.specs.Columns.{ArePairSums}
-use Rattle.sweep.specs.Fitting.{ArePairsWithin}
-use Rattle.sweep.specs.declared.columns.DecisionSums.{DecisionSums}
-use Rattle.sweep.specs.declared.columns.DetectionBounds.{DetectionBounds}
-use Rattle.sweep.specs.declared.columns.FirstRuns.{FirstRuns}
-use Rattle.sweep.specs.declared.columns.LayerSums.{LayerSums}
-use Rattle.sweep.specs.declared.columns.PairSums.{PairSums}
-use Rattle.sweep.specs.declared.columns.RunCounts.{RunCounts}
-use Rattle.sweep.specs.declared.columns.TraceSums.{TraceSums}
-use Rattle.sweep.specs.declared.columns.VerdictCounts.{VerdictCounts}
+use Rattle.std.specs.{Prelude.{ℕ, ◌+◌, ◌-◌, ◌^◌, min, ◌==◌, ◌||◌, Bool, true, false, not, nat_lt, Option, None, Some, if◌then◌else◌, is_none, is_some, ◌≡◌, ◌≢◌, ◌*◌, ◌≤◌, ◌&&◌, List, length}, List.{list_all, sum_by}}
+use Rattle.{scenario_record.specs.Record.{Record}, judges.specs.{Out.{end_of}, declared.{outcomes.Outcome.{Outcome}, verdicts.Verdicts.{Verdicts}}}}
+use Rattle.reporting.specs.declared.{pair_measures.PairMeasures.{PairMeasures}, summary.Summary.{Summary}}
+use Rattle.sweep.specs.{OneRun.{detection_ticks, is_undetected, is_at_once, has_decided, decision_tick, do_disagree}, Percentile.{greater}, Columns.{ArePairSums}, Fitting.{ArePairsWithin}}
+use Rattle.sweep.specs.declared.columns.{DecisionSums.{DecisionSums}, DetectionBounds.{DetectionBounds}, FirstRuns.{FirstRuns}, LayerSums.{LayerSums}, PairSums.{PairSums}, RunCounts.{RunCounts}, TraceSums.{TraceSums}, VerdictCounts.{VerdictCounts}}
 
 -- of 128 bits, and of 64
 abbrev pub plus : ℕ → ℕ → ℕ
@@ -28,11 +13,7 @@ abbrev pub plus_few : ℕ → ℕ → ℕ
 plus_few a b = min (a + b) (2 ^ 64 - 1)
 
 abbrev pub traces_plus : TraceSums → TraceSums → TraceSums
-traces_plus a b = record {
-  entries = plus a.entries b.entries;
-  sent = plus a.sent b.sent;
-  lost = plus a.lost b.lost;
-}
+traces_plus a b = record { entries = plus a.entries b.entries; sent = plus a.sent b.sent; lost = plus a.lost b.lost }
 
 abbrev pub pairs_plus : PairSums → PairSums → PairSums
 pairs_plus a b = record {

@@ -1,26 +1,11 @@
 -- How far a sweep has come. The runs of a study by numbers: those of its points, one point after the other.
-use Rattle.std.specs.Prelude.{ℕ, ◌+◌, ◌-◌, ◌*◌, ◌≤◌, ◌<◌, List, length, take, Option, ◌≡◌, ◌/◌, ◌%◌, slice_index_or, Some, Result, IfOk}
-use Rattle.std.specs.List.{AllZip, range_with_len, count_by}
-use Rattle.scenario_record.specs.Record.{Record}
-use Rattle.study.specs.Sources.{SourcesRecord}
+use Rattle.std.specs.{Prelude.{ℕ, ◌+◌, ◌-◌, ◌*◌, ◌≤◌, ◌<◌, List, length, take, Option, ◌≡◌, ◌/◌, ◌%◌, slice_index_or, Some, Result, IfOk}, List.{AllZip, range_with_len, count_by}}
+use Rattle.{scenario_record.specs.Record.{Record}, study.specs.{Sources.{SourcesRecord}, Grid.{GridRecord, runs, ShardRecord}, Placed.{sources_of_run}, declared.error.PlaceError.{PlaceError}}}
 use Rattle.reporting.specs.Outlet.{Wrote, WrotePart, WroteNothing}
-use Rattle.study.specs.Grid.{GridRecord, runs, ShardRecord}
-use Rattle.study.specs.Placed.{sources_of_run}
-use Rattle.study.specs.declared.error.PlaceError.{PlaceError}
-use Rattle.sweep.specs.Layout.{LayoutRecord, Text}
-use Rattle.sweep.specs.Results.{Trial}
-use Rattle.sweep.specs.StudyText.{point_at, unit_point, unit_runs, unit_first, header_of, IsTrialOf, HasRowsOf, run_at}
-use Rattle.sweep.specs.Sums.{AreUnitSums, AreNumbers}
-use Rattle.sweep.specs.Columns.{is_limited}
-use Rattle.sweep.specs.Outcome.{HeardLimits, CantRun, IsReady}
-use Rattle.sweep.specs.Groups.{first_above}
-use Rattle.sweep.specs.declared.error.SweepError.{SweepError}
+use Rattle.sweep.specs.{Layout.{LayoutRecord, Text}, Results.{Trial}, StudyText.{point_at, unit_point, unit_runs, unit_first, header_of, IsTrialOf, HasRowsOf, run_at}, Sums.{AreUnitSums, AreNumbers}, Columns.{is_limited}}
+use Rattle.sweep.specs.{Outcome.{HeardLimits, CantRun, IsReady}, Groups.{first_above}}
+use Rattle.sweep.specs.declared.{error.SweepError.{SweepError}, progress.Progress.{Progress}, run_numbers.RunNumbers.{RunNumbers}, group.Group.{Group}, limits.Limits.{Limits}, layout.Rows.{Rows}}
 use Rattle.sweep.specs.declared.error.SweepError.TheVariants as error
-use Rattle.sweep.specs.declared.progress.Progress.{Progress}
-use Rattle.sweep.specs.declared.run_numbers.RunNumbers.{RunNumbers}
-use Rattle.sweep.specs.declared.group.Group.{Group}
-use Rattle.sweep.specs.declared.limits.Limits.{Limits}
-use Rattle.sweep.specs.declared.layout.Rows.{Rows}
 use Rattle.sweep.specs.declared.layout.Rows.TheVariants as kind
 
 -- the point of a run's number, and the run of the point
@@ -62,8 +47,7 @@ module _ (sources : SourcesRecord) (g : GridRecord) (groups : List Group) where
   -- of these numbers the refusal is that of the first that can't be run
   abbrev pub IsFirstRefusal : (first end : ℕ) → SweepError → Type 0
   IsFirstRefusal first end error.Memory = Unit {0}
-  IsFirstRefusal first end e =
-      (number : ℕ) × (first ≤ number) × (number < end) × IsRefusalAt number e
+  IsFirstRefusal first end e = (number : ℕ) × (first ≤ number) × (number < end) × IsRefusalAt number e
       × ((m : ℕ) → first ≤ m → m < number → IsReadyAt m)
 
   -- all runs of the points from one up to another can be run

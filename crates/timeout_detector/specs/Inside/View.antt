@@ -1,14 +1,8 @@
 -- What a detector is, as plain data.
 use Rattle.std.specs.Prelude.{ℕ, Bool, List, ◌++◌, slice_index_or}
-use Rattle.process_api.specs.Answer.{Answer}
+use Rattle.process_api.specs.{Answer.{Answer}, Timeout.{TimeoutState, watches, checked, heard, alive_to_others, next_beat, step_timeout}, Detector.{ByTimeout}, Mind.{Lower}, declared.{action.Action.{Action}, message.StepInput.{StepInput}}}
 use Rattle.process_api.specs.Timeout as timeout
-use Rattle.process_api.specs.Timeout.{TimeoutState, watches, checked, heard, alive_to_others, next_beat, step_timeout}
-use Rattle.process_api.specs.Detector.{ByTimeout}
-use Rattle.process_api.specs.Mind.{Lower}
-use Rattle.process_api.specs.declared.action.Action.{Action}
-use Rattle.process_api.specs.declared.message.StepInput.{StepInput}
-use Rattle.scenario_record.specs.Opening.{place_of, base_of}
-use Rattle.timeout_detector.specs.declared.detector.TimeoutDetector.{TimeoutDetector}
+use Rattle.{scenario_record.specs.Opening.{place_of, base_of}, timeout_detector.specs.declared.detector.TimeoutDetector.{TimeoutDetector}}
 
 -- its tables as functions: processes that they have no place for are as at the opening
 abbrev pub state_of : TimeoutDetector → TimeoutState

@@ -1,8 +1,6 @@
 -- Entries that are moved from parts to a list.
-use Rattle.std.specs.Prelude.{List, ◌++◌, map}
-use Rattle.std.specs.List.Sorted.{IsPermutation}
-use Rattle.process_api.specs.Order.{EntryRecord}
-use Rattle.trace_merge.specs.Parts.{all_of}
+use Rattle.std.specs.{Prelude.{List, ◌++◌, map}, List.Sorted.{IsPermutation}}
+use Rattle.{process_api.specs.Order.{EntryRecord}, trace_merge.specs.Parts.{all_of}}
 
 -- the entries of a list and of what is left of parts are those of the list and of what is left of the parts later
 abbrev pub HaveMoved : {X : Type 0} (left : X → List EntryRecord) (before : List EntryRecord) (old : List X)

@@ -1,10 +1,7 @@
 -- Runs of a window in which two workers take turns.
 use Rattle.std.specs.Prelude.{◌≡◌, ℕ, ◌≤◌, List, [], ◌∷◌, ◌++◌, map}
-use Rattle.trace_laws.specs.Setting.{Setting}
-use Rattle.trace_laws.specs.Step.{Event}
-use Rattle.trace_laws.specs.World.{World, Pair, IsWorld, NoneBelow, Run}
-use Rattle.window_laws.specs.Machine.{StageRecord, Act, Take, Turn, Post, Return, Close, StandsFor, IsRun, end_of}
-use Rattle.window_laws.specs.Theorems.{IsListRun, AreAlike, turns_of}
+use Rattle.trace_laws.specs.{Setting.{Setting}, Step.{Event}, World.{World, Pair, IsWorld, NoneBelow, Run}}
+use Rattle.window_laws.specs.{Machine.{StageRecord, Act, Take, Turn, Post, Return, Close, StandsFor, IsRun, end_of}, Theorems.{IsListRun, AreAlike, turns_of}}
 
 -- a worker, and a letter that it posts
 abbrev pub Posting : Type 0

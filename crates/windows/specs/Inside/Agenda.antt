@@ -1,17 +1,8 @@
 -- The pending events of a process: those of the window that is run, and others.
-use Rattle.std.specs.Prelude.{◌≡◌, ◌≤◌, ◌<◌, ◌++◌, ℕ, List, [], ◌∷◌, map, Option, Some, None}
+use Rattle.std.specs.{Prelude.{◌≡◌, ◌≤◌, ◌<◌, ◌++◌, ℕ, List, [], ◌∷◌, map, Option, Some, None}, List.{AllByRecursion}}
 use Rattle.std.specs.FinMap as events
-use Rattle.std.specs.List.{AllByRecursion}
-use Rattle.process_api.specs.declared.key.Key.{Key}
-use Rattle.process_api.specs.declared.message.Letter.{Letter}
-use Rattle.process_api.specs.declared.message.StepInput.{StepInput}
-use Rattle.mailboxes.specs.Mailboxes.{earlier_of}
-use Rattle.trace_laws.specs.History.{IsIn}
-use Rattle.trace_laws.specs.Step.{Event, Events}
-use Rattle.trace_laws.specs.Taken.{event_of}
-use Rattle.trace_laws.specs.World.{Has, joined}
-use Rattle.windows.specs.declared.agenda.Lists.{Lists}
-use Rattle.windows.specs.declared.agenda.Parted.{Parted}
+use Rattle.{process_api.specs.declared.{key.Key.{Key}, message.{Letter.{Letter}, StepInput.{StepInput}}}, mailboxes.specs.Mailboxes.{earlier_of}}
+use Rattle.{trace_laws.specs.{History.{IsIn}, Step.{Event, Events}, Taken.{event_of}, World.{Has, joined}}, windows.specs.declared.agenda.{Lists.{Lists}, Parted.{Parted}}}
 
 -- the least tick of these events, if there are any
 abbrev pub first_tick : List Event → Option ℕ

@@ -1,22 +1,8 @@
 -- A window that is run and closed, whose parts are merged later. The parts of a closed window, which are merged later.
-use Rattle.std.specs.Prelude.{◌≡◌, ◌+◌, ◌++◌, ◌<◌, ◌≤◌, ℕ, List, [], ◌∷◌, length, map, ◌⊎◌, IsTrue, Result, OnOk, OnErr, IfErr}
-use Rattle.std.specs.Global.{Vec}
-use Rattle.std.specs.List.{All}
-use Rattle.process_api.specs.Order.{EntryRecord, is_rising}
-use Rattle.process_api.specs.Mind.{Mind}
-use Rattle.process_api.specs.declared.message.Letter.{Letter}
-use Rattle.process_api.specs.declared.run_error.RunError.{RunError}
-use Rattle.trace_laws.specs.Step.{Events}
-use Rattle.trace_laws.specs.Taken.{event_of}
-use Rattle.trace_laws.specs.World.{joined}
-use Rattle.trace_merge.specs.Parts.{all_of, AreDisjoint, IsMergeOf}
-use Rattle.mailboxes.specs.Mailboxes.{SlipView, list_of, posted_to}
-use Rattle.steps.specs.declared.seat.Seat.{Seat}
-use Rattle.window_laws.specs.Theorems.{end_to_end}
-use Rattle.windows.specs.Plan.{PlanRecord, IsPlanFor}
-use Rattle.windows.specs.Stage.{IsNextStart, IsStage, IsStageAfter, IsWindowRun, StartedWorkers, TookAll, IsRefusalOfSink, writes_of}
-use Rattle.windows.specs.declared.berth.Berth.{Berth}
-use Rattle.windows.specs.declared.stage.Stage.{Stage}
+use Rattle.std.specs.{Prelude.{◌≡◌, ◌+◌, ◌++◌, ◌<◌, ◌≤◌, ℕ, List, [], ◌∷◌, length, map, ◌⊎◌, IsTrue, Result, OnOk, OnErr, IfErr}, Global.{Vec}, List.{All}}
+use Rattle.{process_api.specs.{Order.{EntryRecord, is_rising}, Mind.{Mind}, declared.{message.Letter.{Letter}, run_error.RunError.{RunError}}}, trace_laws.specs.{Step.{Events}, Taken.{event_of}, World.{joined}}}
+use Rattle.{trace_merge.specs.Parts.{all_of, AreDisjoint, IsMergeOf}, mailboxes.specs.Mailboxes.{SlipView, list_of, posted_to}, steps.specs.declared.seat.Seat.{Seat}, window_laws.specs.Theorems.{end_to_end}}
+use Rattle.windows.specs.{Plan.{PlanRecord, IsPlanFor}, Stage.{IsNextStart, IsStage, IsStageAfter, IsWindowRun, StartedWorkers, TookAll, IsRefusalOfSink, writes_of}, declared.{berth.Berth.{Berth}, stage.Stage.{Stage}}}
 
 -- each part rises, and no key is in two
 pub record AreParts (parts : List (Vec EntryRecord)) : Type 0 where
@@ -30,8 +16,7 @@ IsMerged parts merged = IsMergeOf (map (λ part. part.items) parts) merged
 module _ {K : Type 0} (took : K → List EntryRecord → K → Type 0) where
   -- the sink took, piece by piece, what these parts make and the others don't
   abbrev pub TookAllBut : (parts : List (Vec EntryRecord)) (others : List (List EntryRecord)) → (old new : K) → Type 0
-  TookAllBut parts others old new =
-      (told : List (List EntryRecord)) × TookAll took old told new
+  TookAllBut parts others old new = (told : List (List EntryRecord)) × TookAll took old told new
       × ((rest : List EntryRecord) → IsMergeOf others rest → IsMerged parts (end_to_end told ++ rest))
 
   -- The sink took pieces that what these parts make begins with, and was handed nothing more; or it took a front of one

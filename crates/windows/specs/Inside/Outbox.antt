@@ -1,15 +1,7 @@
 -- What a process causes in a window, as it is handed on.
 use Rattle.std.specs.Prelude.{◌≡◌, ℕ, List, length}
-use Rattle.process_api.specs.Mind.{Mind}
-use Rattle.scenario_record.specs.Record.{Record}
-use Rattle.steps.specs.Seat.{process_of}
-use Rattle.steps.specs.declared.seat.Seat.{Seat}
-use Rattle.trace_laws.specs.Setting.{setting_of}
-use Rattle.trace_laws.specs.Step.{Event, Events, Made, step}
-use Rattle.trace_laws.specs.World.{joined}
-use Rattle.window_laws.specs.Machine.{for_self}
-use Rattle.windows.specs.Berth.{AreFiled}
-use Rattle.windows.specs.declared.outbox.Outbox.{Outbox}
+use Rattle.{process_api.specs.Mind.{Mind}, scenario_record.specs.Record.{Record}, steps.specs.{Seat.{process_of}, declared.seat.Seat.{Seat}}, trace_laws.specs.{Setting.{setting_of}, Step.{Event, Events, Made, step}, World.{joined}}}
+use Rattle.{window_laws.specs.Machine.{for_self}, windows.specs.{Berth.{AreFiled}, declared.outbox.Outbox.{Outbox}}}
 
 -- what the process in a seat makes of an event
 abbrev pub made_in : {M : Type 0} (mind : M → Mind) (s : Record) → Seat M → Event → Made (setting_of s)

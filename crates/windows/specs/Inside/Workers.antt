@@ -1,24 +1,9 @@
 -- What the workers of a window do.
-use Rattle.std.specs.Prelude.{◌≡◌, ◌↔◌, ◌<◌, ◌≤◌, ◌-◌, ◌++◌, ℕ, Bool, nat_eq, filter, List, [], length, map, ◌∷◌, Result, IfOk, IfErr, IsErrOf, vec_len}
-use Rattle.std.specs.List.{All, AllPairs, Contains, flat_map}
-use Rattle.std.specs.List.Sorted.{IsPermutation}
-use Rattle.std.specs.Global.{Vec}
-use Rattle.process_api.specs.Mind.{Mind}
-use Rattle.process_api.specs.declared.message.Letter.{Letter}
-use Rattle.process_api.specs.declared.run_error.RunError.{RunError}
-use Rattle.process_api.specs.declared.run_error.RunError.TheVariants.{Limit}
-use Rattle.scenario_record.specs.Record.{Record}
-use Rattle.steps.specs.Seat.{own_of}
-use Rattle.trace_laws.specs.History.{IsIn}
+use Rattle.std.specs.{Prelude.{◌≡◌, ◌↔◌, ◌<◌, ◌≤◌, ◌-◌, ◌++◌, ℕ, Bool, nat_eq, filter, List, [], length, map, ◌∷◌, Result, IfOk, IfErr, IsErrOf, vec_len}, List.{All, AllPairs, Contains, flat_map, Sorted.{IsPermutation}}, Global.{Vec}}
+use Rattle.{process_api.specs.{Mind.{Mind}, declared.{message.Letter.{Letter}, run_error.RunError.{RunError, TheVariants.{Limit}}}}, scenario_record.specs.Record.{Record}, steps.specs.Seat.{own_of}, trace_laws.specs.History.{IsIn}}
 use Rattle.mailboxes.specs.Mailboxes.{MailboxId, SlipView, IsSlipOf, unused, posted_to}
-use Rattle.windows.specs.Berth.{IsBerth, IsBerthOf, IsLong, RanTo, with_letters}
+use Rattle.windows.specs.{Berth.{IsBerth, IsBerthOf, IsLong, RanTo, with_letters}, Stage.{IsRefusal, IsRefusalOfOne}, declared.{berth.Berth.{Berth}, workers.{Work.{Work}, Start.{Start}}, shared.{Shared.{Shared}, Window.{Window}}}}
 use Rattle.deques.specs.Deques.{DequeId, HandView, RestView, all_put}
-use Rattle.windows.specs.Stage.{IsRefusal, IsRefusalOfOne}
-use Rattle.windows.specs.declared.berth.Berth.{Berth}
-use Rattle.windows.specs.declared.workers.Work.{Work}
-use Rattle.windows.specs.declared.shared.Shared.{Shared}
-use Rattle.windows.specs.declared.shared.Window.{Window}
-use Rattle.windows.specs.declared.workers.Start.{Start}
 
 -- one run of a berth: the berth as it was taken, the berth as it was left, and the letters that were posted, in order
 pub record Stay (M : Type 0) : Type 0 where
@@ -41,7 +26,6 @@ module _ {M : Type 0} where
   abbrev pub left_in : List (Stay M) → List (Berth M)
   left_in stays = map (λ t. t.after) stays
 
-  -- the letters of these runs
   abbrev pub sent_in : List (Stay M) → List Letter
   sent_in stays = flat_map (λ t. t.letters) stays
 
@@ -56,8 +40,7 @@ module _ {M : Type 0} where
 
     -- the process took its events below the end, and stays in its berth
     abbrev pub IsStay : (end : ℕ) → Stay M → Type 0
-    IsStay end t =
-        RanTo mind s (own_of mind t.before.seat) end t.before t.after t.letters
+    IsStay end t = RanTo mind s (own_of mind t.before.seat) end t.before t.after t.letters
         × ((p most : ℕ) → IsBerth mind s p most t.before → IsBerth mind s p most t.after)
 
     -- one of the processes has
@@ -184,8 +167,7 @@ module _ {M : Type 0} (mind : M → Mind) where
 
     -- what the starter ran itself, after the workers
     abbrev pub IsRestIn : (old new : RestView (Berth M)) → SlipView → List (Berth M) → Type 0
-    IsRestIn old new slip done =
-        IsRest mind w.window.now.streams w.window.now.end w.mailboxes.now old new slip done
+    IsRestIn old new slip done = IsRest mind w.window.now.streams w.window.now.end w.mailboxes.now old new slip done
 
   -- each of these processes had its window
   abbrev pub HadWindow : Window → List MailboxId → (olds news : List (Berth M)) → List SlipView → Type 0

@@ -1,8 +1,6 @@
 use Rattle.std.proofs.Common.{◌≡◌, ◌∙◌, IsTrue, not, false, ap, refl, sym}
 use Rattle.std.specs.FinSet as set
-use Rattle.process_api.specs.Mind.{AlgorithmState, Idle, Exchanging, Coordinating, leaves_out, stands_at}
-use Rattle.process_api.specs.Place.{Place}
-use Rattle.process_api.specs.Sets.{Processes}
+use Rattle.process_api.specs.{Mind.{AlgorithmState, Idle, Exchanging, Coordinating, leaves_out, stands_at}, Place.{Place}, Sets.{Processes}}
 use Rattle.process_api.proofs.Minds.{same_own}
 use Rattle.base_tests.proofs.driving.drive_algorithm.Goals as goal
 

@@ -1,6 +1,4 @@
-use Rattle.std.proofs.Common.{IsTrue}
-use Rattle.process_api.specs.Mind.{stands_at}
-use Rattle.scenario_record.specs.Opening.{place_of}
+use Rattle.{std.proofs.Common.{IsTrue}, process_api.specs.Mind.{stands_at}, scenario_record.specs.Opening.{place_of}}
 use Rattle.base_tests.proofs.driving.drive_algorithm.Given as goal
 
 abbrev pub invariant-loop-tick : goal.invariant-loop-tick

@@ -1,7 +1,5 @@
-use Rattle.bench_commands.proofs.Words.{rules, Memory}
-use Rattle.trace_laws.proofs.Sound.{setting_sound}
-use Rattle.bench_commands.proofs.Stopping.{refused_at_machines}
-use Rattle.reporting.proofs.Fed.{if_reason}
+use Rattle.bench_commands.proofs.{Words.{rules, Memory}, Stopping.{refused_at_machines}}
+use Rattle.{trace_laws.proofs.Sound.{setting_sound}, reporting.proofs.Fed.{if_reason}}
 use Rattle.bench_commands.proofs.bench.bench.Goals as goal
 
 pub returns-in_err-machines-clause-refused : goal.returns-in_err-machines-clause-refused

@@ -1,7 +1,6 @@
 use Rattle.std.proofs.Common.{ap, Err}
-use Rattle.bench_commands.proofs.Stopping.{list_done, stops_by, why_by}
+use Rattle.bench_commands.proofs.{Stopping.{list_done, stops_by, why_by}, commands.texts.Goals.{in-Ok, in-Err}}
 use Rattle.bench_commands.proofs.commands.texts.Goals as goal
-use Rattle.bench_commands.proofs.commands.texts.Goals.{in-Ok, in-Err}
 
 pub returns-clause-text : goal.returns-clause-text
 returns-clause-text g c = elim c.match-bench.branch [

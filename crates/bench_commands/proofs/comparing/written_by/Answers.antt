@@ -1,5 +1,4 @@
-use Rattle.bench_commands.proofs.Words.{rules, ◌≡◌, ℕ, List, Option, Some, Limit, Both}
-use Rattle.bench_commands.proofs.Stopping.{refused_long}
+use Rattle.bench_commands.proofs.{Words.{rules, ◌≡◌, ℕ, List, Option, Some, Limit, Both}, Stopping.{refused_long}}
 use Rattle.reporting.specs.Outlet.{Held}
 use Rattle.bench_commands.proofs.comparing.written_by.Goals as goal
 

@@ -1,5 +1,4 @@
-use Rattle.bench_commands.proofs.Words.{◌∙◌, ap, codes, decimal, tells_as}
-use Rattle.bench_commands.proofs.Pieces.{name_line, pair_line}
+use Rattle.bench_commands.proofs.{Words.{◌∙◌, ap, codes, decimal, tells_as}, Pieces.{name_line, pair_line}}
 use Rattle.bench_commands.proofs.fault.put_refusal.Goals as goal
 
 pub returns-in-BelowLookahead : goal.returns-in-BelowLookahead

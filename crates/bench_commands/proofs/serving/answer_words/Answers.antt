@@ -1,5 +1,4 @@
-use Rattle.bench_commands.proofs.Words.{map, AsksHelp, States, Answers, Leaves, Writes, end_of, IsHelp, for_help, for_order}
-use Rattle.bench_commands.proofs.Stopping.{answered}
+use Rattle.bench_commands.proofs.{Words.{map, AsksHelp, States, Answers, Leaves, Writes, end_of, IsHelp, for_help, for_order}, Stopping.{answered}}
 use Rattle.bench_commands.proofs.serving.answer_words.Goals as goal
 
 pub returns-in-Ok-clause-text : goal.returns-in-Ok-clause-text

@@ -1,7 +1,5 @@
-use Rattle.bench_commands.proofs.Words.{◌∙◌, map, sym, arith, AsksHelp, Explains, States, Answers, Leaves, Writes, end_of, line_of, status_of, IsReason, TellsOf, StopsFor}
-use Rattle.bench_commands.specs.Inside.Statuses.{has_status}
-use Rattle.bench_commands.proofs.Stopping.{run_asked, unasked_status}
-use Rattle.shell.proofs.Serving.{ends, failure_of}
+use Rattle.bench_commands.proofs.{Words.{◌∙◌, map, sym, arith, AsksHelp, Explains, States, Answers, Leaves, Writes, end_of, line_of, status_of, IsReason, TellsOf, StopsFor}, Stopping.{run_asked, unasked_status}}
+use Rattle.{bench_commands.specs.Inside.Statuses.{has_status}, shell.proofs.Serving.{ends, failure_of}}
 use Rattle.bench_commands.proofs.serving.serve.Goals as goal
 
 pub returns : goal.returns

@@ -1,7 +1,6 @@
-use Rattle.command_line.proofs.Basics.{◌∙◌, sym, found_of, one_text, one_text-rows}
+use Rattle.command_line.proofs.{Basics.{◌∙◌, sym, found_of, one_text, one_text-rows}, Words.{none_read, read_one}}
 use Rattle.std.specs.Str.Parse.{ParsesUnsigned, ExplainsUnsignedError, HasUnsignedDigitsIfOk}
 use Rattle.std.proofs.lemmas.Option.{IfSome_then}
-use Rattle.command_line.proofs.Words.{none_read, read_one}
 use Rattle.command_line.proofs.order.number_at.Goals as goal
 
 pub returns-clause-stated : goal.returns-clause-stated

@@ -1,5 +1,4 @@
-use Rattle.command_line.proofs.Basics.{rules, found_of, rows_of}
-use Rattle.command_line.proofs.Words.{lacks_window, lacks_workers}
+use Rattle.command_line.proofs.{Basics.{rules, found_of, rows_of}, Words.{lacks_window, lacks_workers}}
 use Rattle.command_line.proofs.order.read_compare.Goals as goal
 
 pub returns-in_err-workers-clause-missing : goal.returns-in_err-workers-clause-missing

@@ -1,5 +1,4 @@
-use Rattle.std.proofs.Common.{map, refl}
-use Rattle.command_line.proofs.Words.{kind_by_words, nothing_by_words, stated_by_words}
+use Rattle.{std.proofs.Common.{map, refl}, command_line.proofs.Words.{kind_by_words, nothing_by_words, stated_by_words}}
 use Rattle.command_line.proofs.order.read_words.Goals as goal
 
 pub returns-in-Some-clause-stated : goal.returns-in-Some-clause-stated

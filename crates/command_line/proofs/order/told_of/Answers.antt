@@ -1,5 +1,4 @@
-use Rattle.std.proofs.Common.{rules}
-use Rattle.command_line.proofs.Words.{asks_help, is_mistaken}
+use Rattle.{std.proofs.Common.{rules}, command_line.proofs.Words.{asks_help, is_mistaken}}
 use Rattle.command_line.proofs.order.told_of.Goals as goal
 
 pub returns-in-Ok : goal.returns-in-Ok

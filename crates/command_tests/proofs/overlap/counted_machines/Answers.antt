@@ -1,6 +1,5 @@
 use Rattle.std.proofs.Common.{ap, ◌∙◌}
-use Rattle.scenario_record.specs.Record.{opening_mind}
-use Rattle.machines.proofs.Making.{one_more}
+use Rattle.{scenario_record.specs.Record.{opening_mind}, machines.proofs.Making.{one_more}}
 use Rattle.command_tests.proofs.overlap.counted_machines.Goals as goal
 
 pub loop-before-preserved : goal.loop-before-preserved

@@ -1,6 +1,4 @@
-use Rattle.consensus_es.proofs.Settled.{settled, settles_on, settles_here}
-use Rattle.consensus_es.proofs.Bound.{step_few}
-use Rattle.consensus_es.proofs.Choosing.{best_is}
+use Rattle.consensus_es.proofs.{Settled.{settled, settles_on, settles_here}, Bound.{step_few}, Choosing.{best_is}}
 use Rattle.consensus_es.proofs.laws.law_settled.Goals as goal
 
 pub returns-clause-over : goal.returns-clause-over

@@ -1,5 +1,4 @@
-use Rattle.consensus_s.proofs.Words.{◌∙◌, ◌≤◌, ℕ, sym, arith, Bool, false, not, is_some, None, Some, cell, kept_of}
-use Rattle.consensus_s.proofs.Counting.{any_holds}
+use Rattle.consensus_s.proofs.{Words.{◌∙◌, ◌≤◌, ℕ, sym, arith, Bool, false, not, is_some, None, Some, cell, kept_of}, Counting.{any_holds}}
 use Rattle.consensus_s.proofs.letters.is_missed.Goals as goal
 
 pub returns-then-is_missed_by : goal.returns-then-is_missed_by

@@ -1,5 +1,4 @@
-use Rattle.consensus_s.proofs.Words.{◌∙◌, ℕ, ap, sym, Option, None, Some, cell, kept_of}
-use Rattle.consensus_s.proofs.Counting.{first_is}
+use Rattle.consensus_s.proofs.{Words.{◌∙◌, ℕ, ap, sym, Option, None, Some, cell, kept_of}, Counting.{first_is}}
 use Rattle.consensus_s.proofs.letters.told.Goals as goal
 
 pub returns-then-is_some : goal.returns-then-is_some

@@ -1,5 +1,4 @@
-use Rattle.consensus_s.proofs.Words.{◌∙◌, ap, sym, cell}
-use Rattle.consensus_s.proofs.Counting.{first_is}
+use Rattle.consensus_s.proofs.{Words.{◌∙◌, ap, sym, cell}, Counting.{first_is}}
 use Rattle.consensus_s.proofs.vectors.first_value.Goals as goal
 
 pub returns-then-is_some : goal.returns-then-is_some

@@ -1,5 +1,4 @@
-use Rattle.deques.proofs.Words.{◌≡◌, [], ◌∷◌, ◌++◌, map, sym, ap, ◌∙◌, subst, add-one, rules, Vec, All, map-id, All-same, All-push, map-map, MayTell, many_out, one_out, blank}
-use Rattle.deques.proofs.Deals.{many_may, many_blank}
+use Rattle.deques.proofs.{Words.{◌≡◌, [], ◌∷◌, ◌++◌, map, sym, ap, ◌∙◌, subst, add-one, rules, Vec, All, map-id, All-same, All-push, map-map, MayTell, many_out, one_out, blank}, Deals.{many_may, many_blank}}
 use Rattle.deques.proofs.dealing.all_permits.Goals as goal
 
 pub loop-init : goal.loop-init

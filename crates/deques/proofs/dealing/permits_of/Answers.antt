@@ -1,5 +1,4 @@
-use Rattle.deques.proofs.Words.{◌<◌, ◌≤◌, ◌++◌, length, map, ap, ◌∙◌, append-nil, rules, one_out, blank, take_all, drop_all}
-use Rattle.deques.proofs.Deals.{may_give, one_gave, one_given}
+use Rattle.deques.proofs.{Words.{◌<◌, ◌≤◌, ◌++◌, length, map, ap, ◌∙◌, append-nil, rules, one_out, blank, take_all, drop_all}, Deals.{may_give, one_gave, one_given}}
 use Rattle.deques.proofs.dealing.permits_of.Goals as goal
 
 pub permit-permit-requires : goal.permit-permit-requires

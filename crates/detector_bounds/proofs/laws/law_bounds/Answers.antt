@@ -1,5 +1,4 @@
-use Rattle.detector_bounds.proofs.Kept.{bounds_kept}
-use Rattle.detector_bounds.proofs.Sharing.{shares_detection}
+use Rattle.detector_bounds.proofs.{Kept.{bounds_kept}, Sharing.{shares_detection}}
 use Rattle.detector_bounds.proofs.laws.law_bounds.Goals as goal
 
 pub returns : goal.returns

@@ -1,6 +1,4 @@
-use Rattle.std.proofs.Common.{rules}
-use Rattle.toml.specs.View.{table_view}
-use Rattle.diagnosis.proofs.Telling.{told_ok}
+use Rattle.{std.proofs.Common.{rules}, toml.specs.View.{table_view}, diagnosis.proofs.Telling.{told_ok}}
 use Rattle.diagnosis.proofs.answer.diagnose.Goals as goal
 
 pub returns-in-Ok : goal.returns-in-Ok

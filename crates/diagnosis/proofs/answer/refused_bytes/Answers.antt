@@ -1,7 +1,5 @@
-use Rattle.std.proofs.Common.{None, refl, rules}
-use Rattle.toml.specs.Errors.{span_start}
-use Rattle.scenario.proofs.Reading.{refused_text}
-use Rattle.diagnosis.specs.Text.{no_toml}
+use Rattle.{std.proofs.Common.{None, refl, rules}, toml.specs.Errors.{span_start}}
+use Rattle.{scenario.proofs.Reading.{refused_text}, diagnosis.specs.Text.{no_toml}}
 use Rattle.diagnosis.proofs.answer.refused_bytes.Goals as goal
 
 pub returns : goal.returns

@@ -1,5 +1,4 @@
-use Rattle.std.proofs.Common.{rules}
-use Rattle.diagnosis.specs.Text.{found}
+use Rattle.{std.proofs.Common.{rules}, diagnosis.specs.Text.{found}}
 use Rattle.diagnosis.proofs.answer.refused_table.Goals as goal
 
 pub returns : goal.returns

@@ -1,8 +1,7 @@
 use Rattle.std.proofs.Common.{◌≡◌, get_or}
 use Rattle.diagnosis.specs.Diagnosis.{edits}
-use Rattle.diagnosis.proofs.Likenesses.{no_field, nearer, farther, ended}
+use Rattle.diagnosis.proofs.{Likenesses.{no_field, nearer, farther, ended}, keys.most_alike.Goals.{then-edits-least, else-edits-least}}
 use Rattle.diagnosis.proofs.keys.most_alike.Goals as goal
-use Rattle.diagnosis.proofs.keys.most_alike.Goals.{then-edits-least, else-edits-least}
 
 pub loop-field-preserved : goal.loop-field-preserved
 loop-field-preserved c =

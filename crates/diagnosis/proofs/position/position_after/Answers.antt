@@ -1,7 +1,6 @@
 use Rattle.std.proofs.Common.{◌≡◌, rules, sym, ◌∙◌, ap, get_or, true, false, cond, arith}
-use Rattle.diagnosis.proofs.Positions.{start, step, done, width}
+use Rattle.diagnosis.proofs.{Positions.{start, step, done, width}, position.position_after.Goals.{then-byte-eq10, else-byte-eq10+then-starts_character, else-byte-eq10+else-starts_character}}
 use Rattle.diagnosis.proofs.position.position_after.Goals as goal
-use Rattle.diagnosis.proofs.position.position_after.Goals.{then-byte-eq10, else-byte-eq10+then-starts_character, else-byte-eq10+else-starts_character}
 
 pub loop-byte-init : goal.loop-byte-init
 loop-byte-init c = start c.args.before.now

@@ -1,6 +1,4 @@
-use Rattle.std.proofs.Common.{take}
-use Rattle.std.specs.Fmt.{HasWritten, IsPlainFormatter}
-use Rattle.diagnosis.specs.Text.{names_text}
+use Rattle.{std.proofs.Common.{take}, std.specs.Fmt.{HasWritten, IsPlainFormatter}, diagnosis.specs.Text.{names_text}}
 use Rattle.diagnosis.proofs.text.write_names.Given as goal
 
 abbrev pub invariant-loop-name : goal.invariant-loop-name

@@ -1,5 +1,4 @@
-use Rattle.std.proofs.Common.{w64}
-use Rattle.std.proofs.lemmas.Int.{to_z-of_z}
+use Rattle.std.proofs.{Common.{w64}, lemmas.Int.{to_z-of_z}}
 use Rattle.diagnosis.proofs.text.write_not_before.Goals as goal
 
 pub returns : goal.returns

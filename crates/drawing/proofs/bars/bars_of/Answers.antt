@@ -1,5 +1,4 @@
-use Rattle.std.proofs.lemmas.Result.{IfOk-weaker}
-use Rattle.drawing.proofs.Stretching.{stretches_are_bars}
+use Rattle.{std.proofs.lemmas.Result.{IfOk-weaker}, drawing.proofs.Stretching.{stretches_are_bars}}
 use Rattle.drawing.proofs.bars.bars_of.Goals as goal
 
 pub returns : goal.returns

@@ -1,9 +1,7 @@
 use Rattle.drawing.proofs.Words.{◌≡◌, ℕ, List, false, true, ◌<◌, ◌≤◌, ◌+◌, ◌++◌, ◌∷◌, [], max, sym, ap, ◌∙◌, arith, take, length, get_or, take_more, take_all, fold-append, IfOk-weaker, AreUntil, turns, EntryRecord, after_all}
-use Rattle.judges.proofs.Order.{before_at}
-use Rattle.judges.proofs.Turns.{suspects_is, turns_more}
-use Rattle.judges.specs.Out.{suspects}
-use Rattle.process_api.specs.Order.{is_rising}
 use Rattle.drawing.proofs.Stretching.{stretches_same}
+use Rattle.{judges.proofs.{Order.{before_at}, Turns.{suspects_is, turns_more}}, judges.specs.Out.{suspects}}
+use Rattle.process_api.specs.Order.{is_rising}
 use Rattle.drawing.proofs.bars.stretches_of.Goals as goal
 
 -- entries up to a tick

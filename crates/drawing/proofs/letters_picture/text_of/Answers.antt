@@ -1,6 +1,4 @@
-use Rattle.drawing.proofs.Words.{◌≡◌, ◌∙◌, ap, sym, subst, append_assoc, MatchResult-weaker, Tells, placeless, own_of, turn_bars, line_bands_in, marks_in, lanes_bottom, letters_shapes}
-use Rattle.drawing.proofs.Framing.{tells_on}
-use Rattle.drawing.proofs.Stretching.{stretches_are_bars}
+use Rattle.drawing.proofs.{Words.{◌≡◌, ◌∙◌, ap, sym, subst, append_assoc, MatchResult-weaker, Tells, placeless, own_of, turn_bars, line_bands_in, marks_in, lanes_bottom, letters_shapes}, Framing.{tells_on}, Stretching.{stretches_are_bars}}
 use Rattle.drawing.proofs.letters_picture.text_of.Goals as goal
 
 pub returns : goal.returns

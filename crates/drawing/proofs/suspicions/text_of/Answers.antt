@@ -1,5 +1,4 @@
-use Rattle.drawing.proofs.Words.{MatchResult-weaker, bars_in, has_row_in, group_of, group_bands_of, left_out}
-use Rattle.drawing.proofs.Stretching.{stretches_are_bars}
+use Rattle.drawing.proofs.{Words.{MatchResult-weaker, bars_in, has_row_in, group_of, group_bands_of, left_out}, Stretching.{stretches_are_bars}}
 use Rattle.drawing.proofs.suspicions.text_of.Goals as goal
 
 pub returns : goal.returns

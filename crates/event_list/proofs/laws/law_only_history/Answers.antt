@@ -1,6 +1,5 @@
 use Rattle.event_list.proofs.Words.{setting_of, opening_world, has_one_trace, trace_is_closed, only_history, setting_sound, taken_world}
-use Rattle.trace_laws.proofs.Causes.{has_one_cause, is_taken_once}
-use Rattle.trace_laws.proofs.Simulate.{plain_trace}
+use Rattle.trace_laws.proofs.{Causes.{has_one_cause, is_taken_once}, Simulate.{plain_trace}}
 use Rattle.event_list.proofs.laws.law_only_history.Goals as goal
 
 pub returns : goal.returns

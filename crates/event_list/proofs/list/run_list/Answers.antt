@@ -1,6 +1,5 @@
 use Rattle.event_list.proofs.Words.{◌≤◌, [], length, subst, sym, rules, ◌∙◌, setting_of, IsTrace, IsTrue}
-use Rattle.process_api.specs.Order.{is_rising}
-use Rattle.trace_laws.specs.History.{HasCauses, TakesOnce}
+use Rattle.{process_api.specs.Order.{is_rising}, trace_laws.specs.History.{HasCauses, TakesOnce}}
 use Rattle.event_list.proofs.list.run_list.Goals as goal
 
 pub new-requires : goal.new-requires

@@ -1,8 +1,6 @@
 use Rattle.event_list.proofs.Words.{◌≡◌, ◌+◌, ◌*◌, List, length, map, sym, subst, ◌∙◌, arith, Some, slice_get, ◌-◌, ◌++◌, ◌∷◌, [], All, length-map, length_push, MatchOption-at_none, MatchOption-at_some, most_step_actions, Mind, HaveJoined, posted_in, setting_of, process_of, IsSeated, IsProcess, IsStepped, Process, step, trace_rises, setting_sound}
-use Rattle.trace_laws.proofs.Effects.{trace_has_causes, trace_takes_once}
-use Rattle.trace_laws.proofs.Joining.{joined_then}
-use Rattle.event_list.proofs.Recording.{Going, taken_next, cut_short}
-use Rattle.event_list.proofs.Standing.{first_longer, first_receiver, first_process, first_own, stands_next, stands_end}
+use Rattle.event_list.proofs.{Recording.{Going, taken_next, cut_short}, Standing.{first_longer, first_receiver, first_process, first_own, stands_next, stands_end}}
+use Rattle.trace_laws.proofs.{Effects.{trace_has_causes, trace_takes_once}, Joining.{joined_then}}
 use Rattle.event_list.proofs.list.run_list_into.Goals as goal
 
 pub returns-then-taken-limit-clause-limit : goal.returns-then-taken-limit-clause-limit

@@ -1,5 +1,4 @@
-use Rattle.event_list.proofs.Words.{◌≡◌, ◌≤◌, ◌*◌, ◌-◌, map, vec_len, All, HaveJoined, setting_of, process_of, IsSeated, most_step_actions}
-use Rattle.event_list.proofs.Recording.{Going}
+use Rattle.event_list.proofs.{Words.{◌≡◌, ◌≤◌, ◌*◌, ◌-◌, map, vec_len, All, HaveJoined, setting_of, process_of, IsSeated, most_step_actions}, Recording.{Going}}
 use Rattle.event_list.proofs.list.run_list_into.Given as goal
 
 abbrev pub invariant-loop-list : goal.invariant-loop-list

@@ -1,5 +1,4 @@
-use Rattle.judges.proofs.Words.{◌∙◌, sym, ap, subst, [], Agree, outcomes}
-use Rattle.judges.proofs.Agreement.Agreed.{agrees}
+use Rattle.judges.proofs.{Words.{◌∙◌, sym, ap, subst, [], Agree, outcomes}, Agreement.Agreed.{agrees}}
 use Rattle.judges.proofs.outcomes.decisions.Goals as goal
 
 pub returns-in_err-running-clause-once : goal.returns-in_err-running-clause-once

@@ -1,5 +1,4 @@
-use Rattle.judges.proofs.Words.{rules, sym, ◌+◌, ◌-◌, ◌*◌, ◌<◌, ap, ◌∙◌, arith, length, mul-add-lt, turned}
-use Rattle.judges.proofs.Entering.{one_turned}
+use Rattle.judges.proofs.{Words.{rules, sym, ◌+◌, ◌-◌, ◌*◌, ◌<◌, ap, ◌∙◌, arith, length, mul-add-lt, turned}, Entering.{one_turned}}
 use Rattle.judges.proofs.pairs.turn.Goals as goal
 
 pub offset_bounds-pairs-row : goal.offset_bounds-pairs-row

@@ -1,5 +1,4 @@
-use Rattle.judges.proofs.Words.{sym, subst, [], IsJudging, AreVerdicts}
-use Rattle.judges.proofs.Meaning.{verdicts_mean}
+use Rattle.judges.proofs.{Words.{sym, subst, [], IsJudging, AreVerdicts}, Meaning.{verdicts_mean}}
 use Rattle.judges.proofs.verdicts.judge.Goals as goal
 
 pub returns-clause-value : goal.returns-clause-value

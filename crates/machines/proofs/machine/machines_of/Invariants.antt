@@ -1,6 +1,5 @@
 use Rattle.std.proofs.Common.{◌≡◌, map}
-use Rattle.process_api.specs.Place.{numbers_to}
-use Rattle.scenario_record.specs.Record.{opening_mind}
+use Rattle.{process_api.specs.Place.{numbers_to}, scenario_record.specs.Record.{opening_mind}}
 use Rattle.machines.specs.contracts.machine.MachineProcess.TheImpl as machine
 use Rattle.machines.proofs.machine.machines_of.Given as goal
 

@@ -1,5 +1,4 @@
-use Rattle.mailboxes.proofs.Words.{◌≡◌, ◌∙◌, ◌++◌, ◌∷◌, [], ap, map, drop, length, sym, subst, append_assoc, All, into_iter_items, length-map, All-tail}
-use Rattle.mailboxes.proofs.Homes.{back_of, mailbox_of, IsIn}
+use Rattle.mailboxes.proofs.{Words.{◌≡◌, ◌∙◌, ◌++◌, ◌∷◌, [], ap, map, drop, length, sym, subst, append_assoc, All, into_iter_items, length-map, All-tail}, Homes.{back_of, mailbox_of, IsIn}}
 use Rattle.mailboxes.proofs.mailboxes.inboxes_of.Goals as goal
 
 pub loop-home-preserved : goal.loop-home-preserved

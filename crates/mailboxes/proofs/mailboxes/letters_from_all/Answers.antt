@@ -1,5 +1,4 @@
-use Rattle.mailboxes.proofs.Words.{[], ap, append_assoc, into_iter_items, letters_in, map-append, subst, sym, Shuffled, Shuffled-next, Shuffled-refl, ◌++◌, ◌∙◌, ◌∷◌, IsPermutation}
-use Rattle.mailboxes.proofs.Homes.{items_of}
+use Rattle.mailboxes.proofs.{Words.{[], ap, append_assoc, into_iter_items, letters_in, map-append, subst, sym, Shuffled, Shuffled-next, Shuffled-refl, ◌++◌, ◌∙◌, ◌∷◌, IsPermutation}, Homes.{items_of}}
 use Rattle.mailboxes.proofs.mailboxes.letters_from_all.Goals as goal
 
 pub loop-inbox-init : goal.loop-inbox-init

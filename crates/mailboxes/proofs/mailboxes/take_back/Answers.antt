@@ -1,9 +1,7 @@
 use Rattle.mailboxes.proofs.Words.{◌≡◌, ◌<◌, List, refl, map, length, get_or, sym, ap, ◌∙◌, subst, arith, length-map, All-get_or, get_or-map, MailboxId, TicketView, HomeView, one_back, SlipView, with-nil, with-length, length_more, turn_at, turn_more}
-use Rattle.std.proofs.lemmas.Iterator.Adapters.{YieldsList-from_vec}
-use Rattle.std.proofs.lemmas.Iterator.Consumers.{YieldsList-turn}
-use Rattle.mailboxes.proofs.Homes.{mailbox_of, whose, posted_by}
+use Rattle.mailboxes.proofs.{Homes.{mailbox_of, whose, posted_by}, mailboxes.take_back.Goals.{In-Some}}
+use Rattle.std.proofs.lemmas.Iterator.{Adapters.{YieldsList-from_vec}, Consumers.{YieldsList-turn}}
 use Rattle.mailboxes.proofs.mailboxes.take_back.Goals as goal
-use Rattle.mailboxes.proofs.mailboxes.take_back.Goals.{In-Some}
 
 pub loop-ticket-init : goal.loop-ticket-init
 loop-ticket-init c = (tt, tt, refl, sym (with-nil one_back _))

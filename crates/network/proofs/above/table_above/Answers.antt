@@ -1,6 +1,4 @@
-use Rattle.network.proofs.Basics.{◌≡◌, subst, take, arith, add-one, All, take_all, All-map, AreAllWithin}
-use Rattle.network.proofs.ArrayTables.{numbered_image}
-use Rattle.network.proofs.Naming.{all_before}
+use Rattle.network.proofs.{Basics.{◌≡◌, subst, take, arith, add-one, All, take_all, All-map, AreAllWithin}, ArrayTables.{numbered_image}, Naming.{all_before}}
 use Rattle.network.proofs.above.table_above.Goals as goal
 
 pub returns-in-Some-clause-some : goal.returns-in-Some-clause-some

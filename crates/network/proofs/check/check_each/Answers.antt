@@ -1,5 +1,4 @@
-use Rattle.network.proofs.Basics.{◌≡◌, ◌∙◌, ap, sym, subst, take, arith, rules, All, filter_map, take_all, All-push, as_table, view, table_view, tables_of, one_there, none_there, IsTableOf}
-use Rattle.network.proofs.ArrayTables.{table_numbered}
+use Rattle.network.proofs.{Basics.{◌≡◌, ◌∙◌, ap, sym, subst, take, arith, rules, All, filter_map, take_all, All-push, as_table, view, table_view, tables_of, one_there, none_there, IsTableOf}, ArrayTables.{table_numbered}}
 use Rattle.network.proofs.check.check_each.Goals as goal
 
 pub loop-i-preserved-in_default : goal.loop-i-preserved-in_default

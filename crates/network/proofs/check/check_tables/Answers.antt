@@ -1,8 +1,7 @@
 use Rattle.network.proofs.Basics.{◌≡◌, ◌∙◌, ◌≤◌, ap, sym, subst, length, true, Some, None, arith, rules, All, get_member, view, items_view, table_view, most_tables, items_in, key_of, IsTableOf}
+use Rattle.network.proofs.{ArrayTables.{are_items, counted, tables_there}, Checked.{absent, on_ok, present}}
 use Rattle.scenario.specs.Table.{all_items, is_of, is_table, tables_at, the_tables}
 use Rattle.scenario.specs.declared.field.Kind.TheVariants as kind
-use Rattle.network.proofs.ArrayTables.{are_items, counted, tables_there}
-use Rattle.network.proofs.Checked.{absent, on_ok, present}
 use Rattle.network.proofs.check.check_tables.Goals as goal
 
 pub returns-in_default-clause-ok : goal.returns-in_default-clause-ok

@@ -1,8 +1,5 @@
-use Rattle.network.proofs.Basics.{◌∙◌, ◌∷◌, sym, ap, map, subst, rules, string_bytes, true, Contains, All-head, All-rest, All-same, table_view, keys_of}
-use Rattle.std.specs.Map.Iter.{deref}
-use Rattle.std.proofs.lemmas.Map.Iter.{rest_more}
-use Rattle.scenario.proofs.Elements.{keys_there}
-use Rattle.network.proofs.Keys.{any_unlisted, unlisted_view, unlisted_step}
+use Rattle.network.proofs.{Basics.{◌∙◌, ◌∷◌, sym, ap, map, subst, rules, string_bytes, true, Contains, All-head, All-rest, All-same, table_view, keys_of}, Keys.{any_unlisted, unlisted_view, unlisted_step}}
+use Rattle.{std.specs.Map.Iter.{deref}, std.proofs.lemmas.Map.Iter.{rest_more}, scenario.proofs.Elements.{keys_there}}
 use Rattle.network.proofs.check.unlisted_key.Goals as goal
 
 pub loop-key-init : goal.loop-key-init

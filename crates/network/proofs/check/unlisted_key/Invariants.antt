@@ -1,5 +1,4 @@
-use Rattle.network.proofs.Basics.{◌≡◌, map, string_bytes, All, Contains, table_view, keys_of, has_unlisted}
-use Rattle.network.proofs.Keys.{any_unlisted}
+use Rattle.network.proofs.{Basics.{◌≡◌, map, string_bytes, All, Contains, table_view, keys_of, has_unlisted}, Keys.{any_unlisted}}
 use Rattle.network.proofs.check.unlisted_key.Given as goal
 
 abbrev pub invariant-loop-key : goal.invariant-loop-key

@@ -1,5 +1,4 @@
-use Rattle.network.proofs.Basics.{ap, length-append, arith, rules, drawn_of, of_burst, of_each, LinkOutage}
-use Rattle.network.proofs.Adding.{in_turn}
+use Rattle.network.proofs.{Basics.{ap, length-append, arith, rules, drawn_of, of_burst, of_each, LinkOutage}, Adding.{in_turn}}
 use Rattle.network.proofs.drawing.draw.Goals as goal
 
 pub returns-in_err-draw_all-clause-full : goal.returns-in_err-draw_all-clause-full

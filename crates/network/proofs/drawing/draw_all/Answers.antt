@@ -1,5 +1,4 @@
-use Rattle.network.proofs.Basics.{ℕ, ◌∙◌, ap, sym, ◌++◌, List, arith, rules, flat_map, enumerate_from, take_all, length-enumerate_from, most_outages, LinkOutage}
-use Rattle.network.proofs.Adding.{adds_more, full_more, numbered_at}
+use Rattle.network.proofs.{Basics.{ℕ, ◌∙◌, ap, sym, ◌++◌, List, arith, rules, flat_map, enumerate_from, take_all, length-enumerate_from, most_outages, LinkOutage}, Adding.{adds_more, full_more, numbered_at}}
 use Rattle.network.proofs.drawing.draw_all.Goals as goal
 
 pub loop-i-preserved : goal.loop-i-preserved

@@ -1,5 +1,4 @@
-use Rattle.network.proofs.Basics.{◌∙◌, [], ap, arith, flat_map, range_with_len, length-range_with_len, links_from}
-use Rattle.network.proofs.Adding.{adds_more, all_taken, one_at}
+use Rattle.network.proofs.{Basics.{◌∙◌, [], ap, arith, flat_map, range_with_len, length-range_with_len, links_from}, Adding.{adds_more, all_taken, one_at}}
 use Rattle.network.proofs.group.links_between.Goals as goal
 
 pub loop-before-preserved : goal.loop-before-preserved

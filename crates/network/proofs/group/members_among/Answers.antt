@@ -1,5 +1,4 @@
-use Rattle.network.proofs.Basics.{◌∙◌, ◌++◌, ◌∷◌, [], ap, if◌then◌else◌, filter, arith, holds}
-use Rattle.network.proofs.Adding.{all_taken, kept_more}
+use Rattle.network.proofs.{Basics.{◌∙◌, ◌++◌, ◌∷◌, [], ap, if◌then◌else◌, filter, arith, holds}, Adding.{all_taken, kept_more}}
 use Rattle.network.proofs.group.members_among.Goals as goal
 
 pub loop-before-preserved : goal.loop-before-preserved

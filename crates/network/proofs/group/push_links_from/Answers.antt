@@ -1,5 +1,4 @@
-use Rattle.network.proofs.Basics.{ℕ, ◌∙◌, ◌++◌, ◌∷◌, [], ap, if◌then◌else◌, filter, map, arith, joins, Ends}
-use Rattle.network.proofs.Adding.{all_taken, mapped_more}
+use Rattle.network.proofs.{Basics.{ℕ, ◌∙◌, ◌++◌, ◌∷◌, [], ap, if◌then◌else◌, filter, map, arith, joins, Ends}, Adding.{all_taken, mapped_more}}
 use Rattle.network.proofs.group.push_links_from.Goals as goal
 
 pub loop-before-preserved : goal.loop-before-preserved

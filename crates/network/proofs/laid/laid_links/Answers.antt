@@ -1,5 +1,4 @@
-use Rattle.network.proofs.Basics.{◌∙◌, [], ap, arith, flat_map, range_with_len, length-range_with_len, laid_from, laid_links}
-use Rattle.network.proofs.Adding.{adds_more, all_taken, one_at}
+use Rattle.network.proofs.{Basics.{◌∙◌, [], ap, arith, flat_map, range_with_len, length-range_with_len, laid_from, laid_links}, Adding.{adds_more, all_taken, one_at}}
 use Rattle.network.proofs.laid.laid_links.Goals as goal
 
 pub loop-before-preserved : goal.loop-before-preserved

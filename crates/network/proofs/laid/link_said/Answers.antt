@@ -1,7 +1,5 @@
-use Rattle.network.proofs.Basics.{◌∙◌, ap, sym, map, Some, None, if◌then◌else◌, take_all, LinkTable}
-use Rattle.std.specs.List.{filter, last_or}
-use Rattle.network.specs.Laid.{is_of, link_said}
-use Rattle.network.proofs.Later.{later}
+use Rattle.network.proofs.{Basics.{◌∙◌, ap, sym, map, Some, None, if◌then◌else◌, take_all, LinkTable}, Later.{later}}
+use Rattle.{std.specs.List.{filter, last_or}, network.specs.Laid.{is_of, link_said}}
 use Rattle.network.proofs.laid.link_said.Goals as goal
 
 pub loop-table-preserved : goal.loop-table-preserved

@@ -1,6 +1,5 @@
 use Rattle.network.proofs.Basics.{◌≡◌, map, take, None, LinkTable}
-use Rattle.std.specs.List.{filter, last_or}
-use Rattle.network.specs.Laid.{is_of}
+use Rattle.{std.specs.List.{filter, last_or}, network.specs.Laid.{is_of}}
 use Rattle.network.proofs.laid.link_said.Given as goal
 
 -- what was said last so far

@@ -1,6 +1,5 @@
-use Rattle.network.proofs.Basics.{ℕ, ◌∙◌, ap, ◌++◌, List, arith, flat_map, range_with_len, option_to_list, length-range_with_len, laid_on}
+use Rattle.network.proofs.{Basics.{ℕ, ◌∙◌, ap, ◌++◌, List, arith, flat_map, range_with_len, option_to_list, length-range_with_len, laid_on}, Adding.{adds_more, all_taken, one_at}}
 use Rattle.network.specs.declared.laid.LaidLink.{LaidLink}
-use Rattle.network.proofs.Adding.{adds_more, all_taken, one_at}
 use Rattle.network.proofs.laid.push_laid_from.Goals as goal
 
 pub loop-before-preserved : goal.loop-before-preserved

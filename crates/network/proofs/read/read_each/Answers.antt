@@ -1,5 +1,4 @@
-use Rattle.network.proofs.Basics.{◌≡◌, ◌∙◌, ap, sym, subst, take, arith, AllZip, filter_map, take_all, as_table, view, table_view, tables_of, one_there, none_there}
-use Rattle.network.proofs.ArrayTables.{AllZip-more}
+use Rattle.network.proofs.{Basics.{◌≡◌, ◌∙◌, ap, sym, subst, take, arith, AllZip, filter_map, take_all, as_table, view, table_view, tables_of, one_there, none_there}, ArrayTables.{AllZip-more}}
 use Rattle.network.proofs.read.read_each.Goals as goal
 
 pub loop-value-preserved-in_default : goal.loop-value-preserved-in_default

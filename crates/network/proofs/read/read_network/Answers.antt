@@ -1,5 +1,4 @@
-use Rattle.toml.specs.View.{table_view}
-use Rattle.network.proofs.InRange.{in_range}
+use Rattle.{toml.specs.View.{table_view}, network.proofs.InRange.{in_range}}
 use Rattle.network.proofs.read.read_network.Goals as goal
 
 pub returns-clause-ok : goal.returns-clause-ok

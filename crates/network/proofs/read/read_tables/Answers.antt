@@ -1,7 +1,6 @@
-use Rattle.network.proofs.Basics.{◌≡◌, ◌∙◌, ap, sym, subst, true, false, Some, None, rules, IfOk, AllZip, get_member, view, items_view, table_view, key_of}
+use Rattle.network.proofs.{Basics.{◌≡◌, ◌∙◌, ap, sym, subst, true, false, Some, None, rules, IfOk, AllZip, get_member, view, items_view, table_view, key_of}, ArrayTables.{nothing_there, tables_missing, tables_there}}
 use Rattle.scenario.specs.Table.{is_of, tables_at, the_tables}
 use Rattle.scenario.specs.declared.field.Kind.TheVariants as kind
-use Rattle.network.proofs.ArrayTables.{nothing_there, tables_missing, tables_there}
 use Rattle.network.proofs.read.read_tables.Goals as goal
 
 pub returns-in_default : goal.returns-in_default

@@ -1,5 +1,4 @@
-use Rattle.network.proofs.Basics.{◌≡◌, ◌∙◌, sym, take, arith, take_all, number_of}
-use Rattle.network.proofs.Firsts.{each_view}
+use Rattle.network.proofs.{Basics.{◌≡◌, ◌∙◌, sym, take, arith, take_all, number_of}, Firsts.{each_view}}
 use Rattle.network.proofs.reading.numbers_of.Goals as goal
 
 pub returns : goal.returns

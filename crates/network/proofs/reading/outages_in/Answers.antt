@@ -1,5 +1,4 @@
-use Rattle.std.proofs.Common.{rules}
-use Rattle.std.proofs.lemmas.Fn.{always_returns_same}
+use Rattle.std.proofs.{Common.{rules}, lemmas.Fn.{always_returns_same}}
 use Rattle.network.proofs.reading.outages_in.Goals as goal
 
 pub returns-clause-in_order : goal.returns-clause-in_order

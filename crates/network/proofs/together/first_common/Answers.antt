@@ -1,5 +1,4 @@
-use Rattle.network.proofs.Basics.{◌&&◌, ◌∙◌, holds}
-use Rattle.network.proofs.Firsts.{passed_next}
+use Rattle.network.proofs.{Basics.{◌&&◌, ◌∙◌, holds}, Firsts.{passed_next}}
 use Rattle.network.proofs.together.first_common.Goals as goal
 
 pub loop-before-preserved : goal.loop-before-preserved

@@ -1,7 +1,5 @@
-use Rattle.pending_events.proofs.Words.{◌∙◌, ◌+◌, ap, sym, subst, joined, IsParted}
+use Rattle.pending_events.proofs.{Words.{◌∙◌, ◌+◌, ap, sym, subst, joined, IsParted}, Parted.{filled, filled_same, filled_some, lost}, Rows.{none_in}}
 use Rattle.std.specs.FinMap as events
-use Rattle.pending_events.proofs.Parted.{filled, filled_same, filled_some, lost}
-use Rattle.pending_events.proofs.Rows.{none_in}
 use Rattle.pending_events.proofs.pending.fill.Goals as goal
 
 pub returns-in_err-fill-clause-parted : goal.returns-in_err-fill-clause-parted

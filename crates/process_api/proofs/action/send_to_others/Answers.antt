@@ -1,7 +1,5 @@
-use Rattle.process_api.proofs.Basics.{◌≡◌, ◌∷◌, [], ◌++◌, ℕ, ◌+◌, Bool, not, nat_eq, ap, sym, ◌∙◌, Action, Send}
-use Rattle.process_api.proofs.Numbering.{appended-passes, appended-fails}
+use Rattle.process_api.proofs.{Basics.{◌≡◌, ◌∷◌, [], ◌++◌, ℕ, ◌+◌, Bool, not, nat_eq, ap, sym, ◌∙◌, Action, Send}, Numbering.{appended-passes, appended-fails}, action.send_to_others.Goals.{then-ne+in_ok-copy+in_ok-send_to, else-ne}}
 use Rattle.process_api.proofs.action.send_to_others.Goals as goal
-use Rattle.process_api.proofs.action.send_to_others.Goals.{then-ne+in_ok-copy+in_ok-send_to, else-ne}
 
 pub loop-before-preserved : goal.loop-before-preserved
 loop-before-preserved c =

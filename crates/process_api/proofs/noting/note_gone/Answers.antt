@@ -1,6 +1,5 @@
-use Rattle.process_api.proofs.Basics.{◌++◌, ap, ◌∙◌, map, in_order, up_to, note_of}
+use Rattle.process_api.proofs.{Basics.{◌++◌, ap, ◌∙◌, map, in_order, up_to, note_of}, Rising.{gone-members}}
 use Rattle.process_api.specs.declared.action.Action.TheVariants as action
-use Rattle.process_api.proofs.Rising.{gone-members}
 use Rattle.process_api.proofs.noting.note_gone.Goals as goal
 
 pub loop-who-init : goal.loop-who-init

@@ -1,5 +1,4 @@
-use Rattle.process_api.proofs.Basics.{◌∙◌, ap, cell_of}
-use Rattle.process_api.proofs.Rows.{pushed}
+use Rattle.process_api.proofs.{Basics.{◌∙◌, ap, cell_of}, Rows.{pushed}}
 use Rattle.process_api.proofs.row.widen.Goals as goal
 
 pub wide-preserved : goal.wide-preserved

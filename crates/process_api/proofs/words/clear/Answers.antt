@@ -1,5 +1,4 @@
-use Rattle.std.proofs.Common.{arith}
-use Rattle.process_api.proofs.BitWords.{clear_own, clear_others}
+use Rattle.{std.proofs.Common.{arith}, process_api.proofs.BitWords.{clear_own, clear_others}}
 use Rattle.process_api.proofs.words.clear.Goals as goal
 
 pub returns-clause-own : goal.returns-clause-own

@@ -1,5 +1,4 @@
-use Rattle.process_api.proofs.Basics.{rules, ◌<◌, ◌^◌, sym, arith, get_or, ones-le}
-use Rattle.process_api.proofs.BitWords.{len-none, len-word}
+use Rattle.process_api.proofs.{Basics.{rules, ◌<◌, ◌^◌, sym, arith, get_or, ones-le}, BitWords.{len-none, len-word}}
 use Rattle.process_api.proofs.words.count.Goals as goal
 
 pub loop-k-init : goal.loop-k-init

@@ -1,5 +1,4 @@
-use Rattle.process_api.proofs.Basics.{◌≡◌, ◌*◌, ◌%◌, ◌^◌, ◌-◌, ◌∙◌, ap, bit_and, bit_at, one_shl}
-use Rattle.process_api.proofs.BitWords.{low_bit}
+use Rattle.process_api.proofs.{Basics.{◌≡◌, ◌*◌, ◌%◌, ◌^◌, ◌-◌, ◌∙◌, ap, bit_and, bit_at, one_shl}, BitWords.{low_bit}}
 use Rattle.process_api.proofs.words.low_bits.Goals as goal
 
 pub returns : goal.returns

@@ -1,6 +1,4 @@
-use Rattle.promised.proofs.Words.{◌≡◌, rules, subst, sym, KeepsPromises, watched_links, promised}
-use Rattle.promised.proofs.Promising.{same_numbers}
-use Rattle.promised.proofs.Keeping.{promises_kept}
+use Rattle.promised.proofs.{Words.{◌≡◌, rules, subst, sym, KeepsPromises, watched_links, promised}, Promising.{same_numbers}, Keeping.{promises_kept}}
 use Rattle.promised.proofs.bounds.promised_bounds.Goals as goal
 
 pub returns-clause-value : goal.returns-clause-value

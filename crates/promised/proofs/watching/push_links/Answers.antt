@@ -1,7 +1,6 @@
-use Rattle.promised.proofs.Words.{◌≡◌, ◌∙◌, ◌+◌, ◌++◌, rules, ap, append_assoc, sym, ℕ, Bool, true, false, [], ◌∷◌, filter, map, range_with_len, is_watched, watched_link, watch_of, WatchedLink}
-use Rattle.promised.proofs.Linking.{chosen_more, passed_more}
-use Rattle.promised.proofs.watching.push_links.Goals as goal
+use Rattle.promised.proofs.{Words.{◌≡◌, ◌∙◌, ◌+◌, ◌++◌, rules, ap, append_assoc, sym, ℕ, Bool, true, false, [], ◌∷◌, filter, map, range_with_len, is_watched, watched_link, watch_of, WatchedLink}, Linking.{chosen_more, passed_more}}
 use Rattle.promised.proofs.watching.push_links.Goals.{then-takes_in+in_ok-push, else-takes_in}
+use Rattle.promised.proofs.watching.push_links.Goals as goal
 
 pub loop-before-preserved : goal.loop-before-preserved
 loop-before-preserved c =

@@ -1,5 +1,4 @@
-use Rattle.promised.proofs.Words.{rules, links_to}
-use Rattle.promised.proofs.Linking.{each_more}
+use Rattle.promised.proofs.{Words.{rules, links_to}, Linking.{each_more}}
 use Rattle.promised.proofs.watching.watched_links.Goals as goal
 
 pub loop-before-preserved : goal.loop-before-preserved

@@ -1,7 +1,6 @@
 use Rattle.qos_report.proofs.Words.{rules, ◌<◌, ◌^◌, ap, subst, refl, Err, Ok, length, arith, IsTrue, has_trace, setting_sound, setting_of, IsSound, Memory, Write, if_reason, report_text, IsTextWhere, Running, WroteFront, WroteWhere, rows_text, trace_header}
-use Rattle.trace_laws.proofs.Effects.{trace_has_causes, trace_takes_once}
 use Rattle.qos_report.proofs.Breaking.{breaks_at_close, breaks_at_opening, breaks_in_rows, breaks_in_write, part_in_header, part_in_report, wrote_printed}
-use Rattle.runs.proofs.Finishing.{finishes}
+use Rattle.{trace_laws.proofs.Effects.{trace_has_causes, trace_takes_once}, runs.proofs.Finishing.{finishes}}
 use Rattle.qos_report.proofs.bench.bench_windows.Goals as goal
 
 pub returns-clause-done : goal.returns-clause-done

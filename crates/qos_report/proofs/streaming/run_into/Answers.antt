@@ -1,5 +1,4 @@
-use Rattle.trace_laws.proofs.Sound.{setting_sound}
-use Rattle.qos_report.proofs.Streamed.{ran_front, ran_same, ran_took}
+use Rattle.{trace_laws.proofs.Sound.{setting_sound}, qos_report.proofs.Streamed.{ran_front, ran_same, ran_took}}
 use Rattle.qos_report.proofs.streaming.run_into.Goals as goal
 
 pub returns-clause-outlet : goal.returns-clause-outlet

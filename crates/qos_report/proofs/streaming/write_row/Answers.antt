@@ -1,6 +1,5 @@
-use Rattle.qos_report.proofs.Words.{◌≡◌, ◌∙◌, ◌++◌, ◌∷◌, [], length, ap, subst, arith, Err, length-append, on_err, written, handed, Wrote, WrotePart}
+use Rattle.qos_report.proofs.{Words.{◌≡◌, ◌∙◌, ◌++◌, ◌∷◌, [], length, ap, subst, arith, Err, length-append, on_err, written, handed, Wrote, WrotePart}, Streamed.{all_gone, part_out, row_kept}}
 use Rattle.csv.specs.Writing.{writer_pending}
-use Rattle.qos_report.proofs.Streamed.{all_gone, part_out, row_kept}
 use Rattle.qos_report.proofs.streaming.write_row.Goals as goal
 
 pub returns-in_err-write_text-clause-front : goal.returns-in_err-write_text-clause-front

@@ -1,5 +1,4 @@
-use Rattle.reporting.proofs.Words.{sym, subst, arith, IsPlain}
-use Rattle.reporting.proofs.NoQuotes.{plain_decimal}
+use Rattle.reporting.proofs.{Words.{sym, subst, arith, IsPlain}, NoQuotes.{plain_decimal}}
 use Rattle.reporting.proofs.digits.digits_of.Goals as goal
 
 pub returns : goal.returns

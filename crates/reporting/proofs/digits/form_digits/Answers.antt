@@ -1,5 +1,4 @@
-use Rattle.reporting.proofs.Words.{arith, rules, length-decimal-le}
-use Rattle.reporting.proofs.NoQuotes.{plain_decimal}
+use Rattle.reporting.proofs.{Words.{arith, rules, length-decimal-le}, NoQuotes.{plain_decimal}}
 use Rattle.reporting.proofs.digits.form_digits.Goals as goal
 
 pub write_digits-requires : goal.write_digits-requires

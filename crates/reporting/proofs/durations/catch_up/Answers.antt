@@ -1,5 +1,4 @@
-use Rattle.reporting.proofs.Words.{get_or, ap, ◌∙◌, arith, length-set, caught, lists_in}
-use Rattle.reporting.proofs.Listing.{caught_next}
+use Rattle.reporting.proofs.{Words.{get_or, ap, ◌∙◌, arith, length-set, caught, lists_in}, Listing.{caught_next}}
 use Rattle.reporting.proofs.durations.catch_up.Goals as goal
 
 pub loop-place-preserved : goal.loop-place-preserved

@@ -1,6 +1,4 @@
-use Rattle.reporting.proofs.Words.{◌≡◌, ◌≢◌, ◌+◌, ◌-◌, suc, sym, ap, ◌∙◌, arith, closed, metered}
-use Rattle.reporting.proofs.EachProcess.{pushed_other, skipped_own}
-use Rattle.reporting.proofs.layer_pairs.close_row.Goals.{then-column-row+in_ok-push, else-column-row}
+use Rattle.reporting.proofs.{Words.{◌≡◌, ◌≢◌, ◌+◌, ◌-◌, suc, sym, ap, ◌∙◌, arith, closed, metered}, EachProcess.{pushed_other, skipped_own}, layer_pairs.close_row.Goals.{then-column-row+in_ok-push, else-column-row}}
 use Rattle.reporting.proofs.layer_pairs.close_row.Goals as goal
 
 pub loop-column-preserved : goal.loop-column-preserved

@@ -1,5 +1,4 @@
-use Rattle.reporting.proofs.Words.{◌≡◌, ap, ◌∙◌, ◌++◌, arith, closed_rows}
-use Rattle.reporting.proofs.Closing.{metering_closed}
+use Rattle.reporting.proofs.{Words.{◌≡◌, ap, ◌∙◌, ◌++◌, arith, closed_rows}, Closing.{metering_closed}}
 use Rattle.reporting.proofs.layer_pairs.close_rows.Goals as goal
 
 pub returns : goal.returns

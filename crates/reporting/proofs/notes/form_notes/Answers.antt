@@ -1,6 +1,4 @@
-use Rattle.reporting.proofs.Words.{◌≡◌, ◌∙◌, ◌++◌, ◌∷◌, sym, ap, flat_map, note_text, notes_text}
-use Rattle.reporting.proofs.Fed.{on_ok}
-use Rattle.reporting.proofs.Joining.{notes_text_none, notes_text_first}
+use Rattle.reporting.proofs.{Words.{◌≡◌, ◌∙◌, ◌++◌, ◌∷◌, sym, ap, flat_map, note_text, notes_text}, Fed.{on_ok}, Joining.{notes_text_none, notes_text_first}}
 use Rattle.reporting.proofs.notes.form_notes.Goals as goal
 
 pub returns-in-None-clause-text : goal.returns-in-None-clause-text

@@ -1,6 +1,5 @@
-use Rattle.reporting.proofs.Words.{rules, ◌≡◌, [], ◌∙◌, text_of, front_of, value_text}
+use Rattle.reporting.proofs.{Words.{rules, ◌≡◌, [], ◌∙◌, text_of, front_of, value_text}, Fronts.{one_more}}
 use Rattle.reporting.specs.declared.values.Value.TheVariants.{Number}
-use Rattle.reporting.proofs.Fronts.{one_more}
 use Rattle.reporting.proofs.report_rows.push_values.Goals as goal
 
 pub loop-name-preserved : goal.loop-name-preserved

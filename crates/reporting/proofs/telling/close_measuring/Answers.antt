@@ -1,5 +1,4 @@
-use Rattle.reporting.proofs.Words.{◌∙◌, ◌++◌, ap, layer_measures, second_measures}
-use Rattle.reporting.proofs.Layers.{both_layers}
+use Rattle.reporting.proofs.{Words.{◌∙◌, ◌++◌, ap, layer_measures, second_measures}, Layers.{both_layers}}
 use Rattle.reporting.proofs.telling.close_measuring.Goals as goal
 
 pub returns-clause-found : goal.returns-clause-found

@@ -1,5 +1,4 @@
-use Rattle.reporting.proofs.Words.{◌∙◌, Some, ap, sym, subst, false, IsWhere, there_where, found_text, report_text, AreLayers, IsTextWhere}
-use Rattle.reporting.proofs.Fed.{found_is}
+use Rattle.reporting.proofs.{Words.{◌∙◌, Some, ap, sym, subst, false, IsWhere, there_where, found_text, report_text, AreLayers, IsTextWhere}, Fed.{found_is}}
 use Rattle.reporting.proofs.telling.close_running.Goals as goal
 
 pub returns-in_ok-report-in-Some : goal.returns-in_ok-report-in-Some

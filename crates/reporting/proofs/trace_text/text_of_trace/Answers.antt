@@ -1,6 +1,4 @@
-use Rattle.reporting.proofs.Words.{◌∙◌, [], Holds, trace_text}
-use Rattle.reporting.proofs.Fed.{if_ok}
-use Rattle.reporting.proofs.Followed.{text_same, text_told}
+use Rattle.reporting.proofs.{Words.{◌∙◌, [], Holds, trace_text}, Fed.{if_ok}, Followed.{text_same, text_told}}
 use Rattle.reporting.proofs.trace_text.text_of_trace.Goals as goal
 
 pub returns : goal.returns

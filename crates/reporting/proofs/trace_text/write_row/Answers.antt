@@ -1,9 +1,6 @@
-use Rattle.reporting.proofs.Words.{◌≡◌, ◌≢◌, ◌∙◌, ◌++◌, ap, subst, arith, default_writer, row_text, writer_setup, ArePlain, kind_text, written}
+use Rattle.reporting.proofs.{Words.{◌≡◌, ◌≢◌, ◌∙◌, ◌++◌, ap, subst, arith, default_writer, row_text, writer_setup, ArePlain, kind_text, written}, NoQuotes.{plain_name}, PlainRows.{row_text-bare}, trace_text.write_row.Goals.{in-Ok, in-Err}}
 use Rattle.csv.specs.declared.writer.QuoteStyle.TheVariants as style
 use Rattle.reporting.specs.Inside.RowTexts.{texts_of}
-use Rattle.reporting.proofs.NoQuotes.{plain_name}
-use Rattle.reporting.proofs.PlainRows.{row_text-bare}
-use Rattle.reporting.proofs.trace_text.write_row.Goals.{in-Ok, in-Err}
 use Rattle.reporting.proofs.trace_text.write_row.Goals as goal
 
 pub returns-clause-text : goal.returns-clause-text

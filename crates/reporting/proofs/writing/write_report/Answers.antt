@@ -1,6 +1,4 @@
-use Rattle.reporting.proofs.Words.{rules, ◌<◌, ◌^◌, ◌∙◌, [], true, ap, subst, length, report_text, Wrote, WrotePart}
-use Rattle.reporting.proofs.Fed.{on_ok, text_items}
-use Rattle.reporting.proofs.Followed.{running_same, running_told}
+use Rattle.reporting.proofs.{Words.{rules, ◌<◌, ◌^◌, ◌∙◌, [], true, ap, subst, length, report_text, Wrote, WrotePart}, Fed.{on_ok, text_items}, Followed.{running_same, running_told}}
 use Rattle.reporting.proofs.writing.write_report.Goals as goal
 
 pub returns-clause-whole : goal.returns-clause-whole

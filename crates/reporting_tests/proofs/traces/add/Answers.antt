@@ -1,7 +1,5 @@
-use Rattle.reporting_tests.proofs.Words.{◌≡◌, ◌-◌, sym, ap, ◌∙◌, subst, arith, true, get_or, is_before, is_rising}
-use Rattle.process_api.specs.Order.{EntryRecord}
-use Rattle.judges.proofs.Adding.{rising_first, rising_more}
-use Rattle.reporting_tests.proofs.traces.add.Goals.{else-count-gt0-via-then-count-gt0+else-not-is_before, else-count-gt0-via-else-count-gt0}
+use Rattle.reporting_tests.proofs.{Words.{◌≡◌, ◌-◌, sym, ap, ◌∙◌, subst, arith, true, get_or, is_before, is_rising}, traces.add.Goals.{else-count-gt0-via-then-count-gt0+else-not-is_before, else-count-gt0-via-else-count-gt0}}
+use Rattle.{process_api.specs.Order.{EntryRecord}, judges.proofs.Adding.{rising_first, rising_more}}
 use Rattle.reporting_tests.proofs.traces.add.Goals as goal
 
 pub returns : goal.returns

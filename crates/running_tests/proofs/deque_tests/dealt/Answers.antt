@@ -1,5 +1,4 @@
-use Rattle.std.proofs.Common.{◌≡◌, ◌∙◌, sym}
-use Rattle.std.proofs.lemmas.List.Elements.{All-weaker}
+use Rattle.std.proofs.{Common.{◌≡◌, ◌∙◌, sym}, lemmas.List.Elements.{All-weaker}}
 use Rattle.deques.specs.Deques.{IsDealt}
 use Rattle.running_tests.proofs.deque_tests.dealt.Goals as goal
 

@@ -1,5 +1,4 @@
-use Rattle.std.proofs.Common.{◌≡◌}
-use Rattle.std.proofs.lemmas.List.Elements.{All-pop}
+use Rattle.std.proofs.{Common.{◌≡◌}, lemmas.List.Elements.{All-pop}}
 use Rattle.running_tests.proofs.deque_tests.last_of.Goals as goal
 
 pub returns-clause-last : goal.returns-clause-last

@@ -1,7 +1,5 @@
-use Rattle.runs.proofs.Words.{◌<◌, ◌^◌, [], length, arith, recording_same, recording_told}
-use Rattle.reporting.proofs.Fed.{on_ok, if_ok}
-use Rattle.runs.proofs.Finishing.{finishes, refuses_after}
-use Rattle.reporting.specs.Running.{IsRecording}
+use Rattle.runs.proofs.{Words.{◌<◌, ◌^◌, [], length, arith, recording_same, recording_told}, Finishing.{finishes, refuses_after}}
+use Rattle.{reporting.proofs.Fed.{on_ok, if_ok}, reporting.specs.Running.{IsRecording}}
 use Rattle.runs.proofs.bench.bench_list.Goals as goal
 
 pub returns-clause-done : goal.returns-clause-done

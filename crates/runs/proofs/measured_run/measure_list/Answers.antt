@@ -1,5 +1,4 @@
-use Rattle.runs.proofs.Words.{◌<◌, ◌^◌, [], length, arith, sym, subst, true, Agree, agrees, measuring_same, measuring_told}
-use Rattle.runs.proofs.Resting.{has_grounds}
+use Rattle.runs.proofs.{Words.{◌<◌, ◌^◌, [], length, arith, sym, subst, true, Agree, agrees, measuring_same, measuring_told}, Resting.{has_grounds}}
 use Rattle.runs.proofs.measured_run.measure_list.Goals as goal
 
 pub returns-clause-done : goal.returns-clause-done

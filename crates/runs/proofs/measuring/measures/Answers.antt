@@ -1,5 +1,4 @@
-use Rattle.runs.proofs.Words.{◌<◌, ◌^◌, sym, ap, ◌∙◌, subst, false, length, [], rules, All, shares_suspicions, IsBounded, RestsOnBlame, all_measures, measuring_same, measuring_told}
-use Rattle.runs.proofs.Resting.{all_bounded, all_rest}
+use Rattle.runs.proofs.{Words.{◌<◌, ◌^◌, sym, ap, ◌∙◌, subst, false, length, [], rules, All, shares_suspicions, IsBounded, RestsOnBlame, all_measures, measuring_same, measuring_told}, Resting.{all_bounded, all_rest}}
 use Rattle.runs.proofs.measuring.measures.Goals as goal
 
 pub returns-clause-rows : goal.returns-clause-rows

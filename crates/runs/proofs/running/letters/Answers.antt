@@ -1,9 +1,5 @@
-use Rattle.runs.proofs.Words.{◌++◌, [], map, refl, sym, ◌∙◌, append-nil, setting_of, letter_of}
+use Rattle.runs.proofs.{Words.{◌++◌, [], map, refl, sym, ◌∙◌, append-nil, setting_of, letter_of}, Coming.{letters_in_trace, only_letters}, Losing.{letters_lost}, Numbered.{letters_are_numbered}, Ordered.{letters_in_order}}
 use Rattle.runs.specs.Inside.Book.{HasHeard}
-use Rattle.runs.proofs.Coming.{letters_in_trace, only_letters}
-use Rattle.runs.proofs.Losing.{letters_lost}
-use Rattle.runs.proofs.Numbered.{letters_are_numbered}
-use Rattle.runs.proofs.Ordered.{letters_in_order}
 use Rattle.runs.proofs.running.letters.Goals as goal
 
 pub returns-clause-letters : goal.returns-clause-letters

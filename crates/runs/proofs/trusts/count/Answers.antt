@@ -1,5 +1,4 @@
-use Rattle.runs.proofs.Words.{◌≡◌, ◌-◌, ◌+◌, ◌*◌, ◌∙◌, min, get_or, ap, arith, rules, most_trusts}
-use Rattle.runs.proofs.Trusting.{one_counted}
+use Rattle.runs.proofs.{Words.{◌≡◌, ◌-◌, ◌+◌, ◌*◌, ◌∙◌, min, get_or, ap, arith, rules, most_trusts}, Trusting.{one_counted}}
 use Rattle.runs.proofs.trusts.count.Goals as goal
 
 pub returns-then-column-n : goal.returns-then-column-n

@@ -1,6 +1,5 @@
-use Rattle.runs.proofs.Words.{◌≡◌, ◌+◌, ap, sym, cond, eqb, rules, is_trust}
+use Rattle.runs.proofs.{Words.{◌≡◌, ◌+◌, ap, sym, cond, eqb, rules, is_trust}, Trusting.{same_counts}}
 use Rattle.process_api.specs.declared.action.Note.TheVariants as note
-use Rattle.runs.proofs.Trusting.{same_counts}
 use Rattle.runs.proofs.trusts.note.Goals as goal
 
 pub returns-in-Trust-eq1-default : goal.returns-in-Trust-eq1-default

@@ -1,5 +1,4 @@
-use Rattle.runs.proofs.Words.{◌+◌, take, cond, eqb, count_by, subst, rules, take_all, is_trust, AreCounts}
-use Rattle.runs.proofs.Trusting.{same_counts, counted_next}
+use Rattle.runs.proofs.{Words.{◌+◌, take, cond, eqb, count_by, subst, rules, take_all, is_trust, AreCounts}, Trusting.{same_counts, counted_next}}
 use Rattle.runs.proofs.trusts.note_all.Goals as goal
 
 pub loop-one-preserved : goal.loop-one-preserved

@@ -1,6 +1,4 @@
-use Rattle.scenario.proofs.Words.{◌≡◌, ◌∙◌, ◌+◌, ap, sym, rules, arith, Some, None, find, range_with_len, flat_map, table_view, record_of, is_below, pairs_from, link_in}
-use Rattle.scenario.proofs.BelowFacts.{below_of_parts}
-use Rattle.scenario.proofs.Steps.{next_row}
+use Rattle.scenario.proofs.{Words.{◌≡◌, ◌∙◌, ◌+◌, ap, sym, rules, arith, Some, None, find, range_with_len, flat_map, table_view, record_of, is_below, pairs_from, link_in}, BelowFacts.{below_of_parts}, Steps.{next_row}}
 use Rattle.scenario.proofs.below.first_below.Goals as goal
 
 pub loop-from-init : goal.loop-from-init

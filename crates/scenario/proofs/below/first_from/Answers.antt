@@ -1,5 +1,4 @@
-use Rattle.scenario.proofs.Words.{◌∙◌, ◌==◌, ◌+◌, sym, not, is_below, link_in}
-use Rattle.scenario.proofs.Steps.{skip}
+use Rattle.scenario.proofs.{Words.{◌∙◌, ◌==◌, ◌+◌, sym, not, is_below, link_in}, Steps.{skip}}
 use Rattle.scenario.proofs.below.first_from.Goals as goal
 
 pub loop-to-preserved : goal.loop-to-preserved

@@ -1,9 +1,5 @@
-use Rattle.scenario.proofs.Words.{◌≡◌, ◌∙◌, ◌-◌, sym, length, take, get_or, is_some, None, rules, arith, true, false, take_all, table_view, crash_tick, is_bad_crash, IsProcess, tables_in}
-use Rattle.scenario.proofs.Elements.{IsAt}
-use Rattle.scenario.proofs.Slots.{at_place, bad_among, again, clean, kept}
-use Rattle.scenario.proofs.Firsts.{applies}
-use Rattle.scenario.proofs.KeyFacts.{process_keys}
-use Rattle.scenario.proofs.Taking.{crashes_whole}
+use Rattle.scenario.proofs.{Words.{◌≡◌, ◌∙◌, ◌-◌, sym, length, take, get_or, is_some, None, rules, arith, true, false, take_all, table_view, crash_tick, is_bad_crash, IsProcess, tables_in}, Elements.{IsAt}}
+use Rattle.scenario.proofs.{Slots.{at_place, bad_among, again, clean, kept}, Firsts.{applies}, KeyFacts.{process_keys}, Taking.{crashes_whole}}
 use Rattle.scenario.proofs.crashes.read_crashes.Goals as goal
 
 pub returns-in_default-clause-judged : goal.returns-in_default-clause-judged

@@ -1,6 +1,4 @@
-use Rattle.scenario.proofs.Words.{◌≡◌, take, false, crash_tick, are_bad_crashes, tables_in}
-use Rattle.scenario.proofs.KeyFacts.{process_keys}
-use Rattle.scenario.proofs.Slots.{AreHeld, once}
+use Rattle.scenario.proofs.{Words.{◌≡◌, take, false, crash_tick, are_bad_crashes, tables_in}, KeyFacts.{process_keys}, Slots.{AreHeld, once}}
 use Rattle.scenario.proofs.crashes.read_crashes.Given as goal
 
 abbrev pub invariant-loop-i : goal.invariant-loop-i

@@ -1,6 +1,5 @@
-use Rattle.scenario.proofs.Words.{refl, table_view, IsFoundBy}
+use Rattle.scenario.proofs.{Words.{refl, table_view, IsFoundBy}, Findings.{value_fault}}
 use Rattle.scenario.specs.declared.place.Place.TheVariants as place
-use Rattle.scenario.proofs.Findings.{value_fault}
 use Rattle.scenario.proofs.found.at_top.Goals as goal
 
 pub returns : goal.returns

@@ -1,6 +1,5 @@
-use Rattle.scenario.proofs.Words.{rules, sym, table_view, section_error, IsFoundBy}
+use Rattle.scenario.proofs.{Words.{rules, sym, table_view, section_error, IsFoundBy}, Findings.{value_fault}}
 use Rattle.scenario.specs.declared.place.Place.TheVariants as place
-use Rattle.scenario.proofs.Findings.{value_fault}
 use Rattle.scenario.proofs.found.in_section.Goals as goal
 
 pub returns : goal.returns

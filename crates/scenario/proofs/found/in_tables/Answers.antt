@@ -1,6 +1,4 @@
-use Rattle.scenario.proofs.Words.{◌+◌, array_error, table_view, array_key, IsFoundBy}
-use Rattle.scenario.proofs.Elements.{IsAt, numbered_table}
-use Rattle.scenario.proofs.Findings.{value_fault}
+use Rattle.scenario.proofs.{Words.{◌+◌, array_error, table_view, array_key, IsFoundBy}, Elements.{IsAt, numbered_table}, Findings.{value_fault}}
 use Rattle.scenario.proofs.found.in_tables.Goals as goal
 
 pub returns-in-Some : goal.returns-in-Some

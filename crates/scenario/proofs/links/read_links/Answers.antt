@@ -1,5 +1,4 @@
-use Rattle.scenario.proofs.Words.{◌≡◌, ◌∙◌, map, ap, length, rules, codes, unwrap_or, table_view, tables_at, processes_of}
-use Rattle.scenario.proofs.Taking.{links_length}
+use Rattle.scenario.proofs.{Words.{◌≡◌, ◌∙◌, map, ap, length, rules, codes, unwrap_or, table_view, tables_at, processes_of}, Taking.{links_length}}
 use Rattle.scenario.proofs.links.read_links.Goals as goal
 
 pub returns-clause-all : goal.returns-clause-all

@@ -1,9 +1,5 @@
-use Rattle.scenario.proofs.Words.{◌≡◌, ◌∙◌, ◌<◌, ℕ, ap, sym, length, get_or, take, is_some, None, rules, arith, true, false, subst, take_all, table_view, delays_of, is_bad_pair, tables_in}
-use Rattle.scenario.proofs.Elements.{IsAt}
-use Rattle.scenario.proofs.Slots.{at_place, bad_among, again, clean, kept}
-use Rattle.scenario.proofs.Firsts.{applies}
-use Rattle.scenario.proofs.KeyFacts.{pair_keys, pair_place}
-use Rattle.scenario.proofs.Taking.{links_whole}
+use Rattle.scenario.proofs.{Words.{◌≡◌, ◌∙◌, ◌<◌, ℕ, ap, sym, length, get_or, take, is_some, None, rules, arith, true, false, subst, take_all, table_view, delays_of, is_bad_pair, tables_in}, Elements.{IsAt}}
+use Rattle.scenario.proofs.{Slots.{at_place, bad_among, again, clean, kept}, Firsts.{applies}, KeyFacts.{pair_keys, pair_place}, Taking.{links_whole}}
 use Rattle.scenario.proofs.links.read_pairs.Goals as goal
 
 pub returns-in_default-clause-judged : goal.returns-in_default-clause-judged

@@ -1,6 +1,4 @@
-use Rattle.scenario.proofs.Words.{◌≡◌, take, false, delays_of, are_bad_pairs, tables_in}
-use Rattle.scenario.proofs.KeyFacts.{pair_keys}
-use Rattle.scenario.proofs.Slots.{AreHeld, once}
+use Rattle.scenario.proofs.{Words.{◌≡◌, take, false, delays_of, are_bad_pairs, tables_in}, KeyFacts.{pair_keys}, Slots.{AreHeld, once}}
 use Rattle.scenario.proofs.links.read_pairs.Given as goal
 
 abbrev pub invariant-loop-i : goal.invariant-loop-i

@@ -1,5 +1,4 @@
-use Rattle.scenario.proofs.Words.{◌∙◌, ℕ, Result, Ok, Err, OnOk, outages_in}
-use Rattle.scenario.proofs.Cuts.{one_added}
+use Rattle.scenario.proofs.{Words.{◌∙◌, ℕ, Result, Ok, Err, OnOk, outages_in}, Cuts.{one_added}}
 use Rattle.scenario.proofs.outages.add.Goals as goal
 
 on_ok : {T E : Type 0} (r : Result T E) (A B : Type 0) → (A → B) → OnOk r A → OnOk r B

@@ -1,6 +1,4 @@
-use Rattle.scenario.proofs.Words.{◌∙◌, ◌++◌, ◌∷◌, [], ap, sym, map, take, append_assoc, each_pairs_outages, outage_table, is_bad_outage}
-use Rattle.scenario.proofs.Firsts.{applies}
-use Rattle.scenario.proofs.DrawnTables.{drawn_more, bad_among, good_more}
+use Rattle.scenario.proofs.{Words.{◌∙◌, ◌++◌, ◌∷◌, [], ap, sym, map, take, append_assoc, each_pairs_outages, outage_table, is_bad_outage}, Firsts.{applies}, DrawnTables.{drawn_more, bad_among, good_more}}
 use Rattle.scenario.proofs.outages.add_drawn.Goals as goal
 
 pub loop-outage-preserved : goal.loop-outage-preserved

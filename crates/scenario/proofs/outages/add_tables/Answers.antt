@@ -1,8 +1,4 @@
-use Rattle.scenario.proofs.Words.{◌≡◌, ◌∙◌, sym, take, rules, true, length-map, table_view, is_bad_outage, outages_in, tables_in}
-use Rattle.scenario.proofs.Elements.{IsAt}
-use Rattle.scenario.proofs.Slots.{bad_one}
-use Rattle.scenario.proofs.Firsts.{applies}
-use Rattle.scenario.proofs.Cuts.{pairs_length}
+use Rattle.scenario.proofs.{Words.{◌≡◌, ◌∙◌, sym, take, rules, true, length-map, table_view, is_bad_outage, outages_in, tables_in}, Elements.{IsAt}, Slots.{bad_one}, Firsts.{applies}, Cuts.{pairs_length}}
 use Rattle.scenario.proofs.outages.add_tables.Goals as goal
 
 pub returns-in_default-clause-judged : goal.returns-in_default-clause-judged

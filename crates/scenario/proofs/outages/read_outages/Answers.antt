@@ -1,7 +1,6 @@
-use Rattle.scenario.proofs.Words.{◌≡◌, ◌∙◌, ◌≤◌, ◌+◌, ◌++◌, [], sym, map, length, rules, arith, length-append, take_all, length-map, outages_among, outage_table, outages_in, tables_in}
-use Rattle.scenario.proofs.Cuts.{pairs_all, pairs_length}
-use Rattle.scenario.proofs.outages.read_outages.Goals as goal
+use Rattle.scenario.proofs.{Words.{◌≡◌, ◌∙◌, ◌≤◌, ◌+◌, ◌++◌, [], sym, map, length, rules, arith, length-append, take_all, length-map, outages_among, outage_table, outages_in, tables_in}, Cuts.{pairs_all, pairs_length}}
 use Rattle.scenario.proofs.outages.read_outages.Goals.{else-is_empty-via-then-is_empty+else-is_empty-2, else-is_empty-via-else-is_empty}
+use Rattle.scenario.proofs.outages.read_outages.Goals as goal
 
 pub returns-then-is_empty-2-clause-value : goal.returns-then-is_empty-2-clause-value
 unfolding outages_among

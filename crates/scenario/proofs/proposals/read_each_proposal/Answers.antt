@@ -1,5 +1,4 @@
-use Rattle.scenario.proofs.Words.{◌≡◌, ◌==◌, rules, true, false, map, length, Some, codes, list_any, items_view, table_view, array_in, the_integers, natural, is_bad_proposal}
-use Rattle.scenario.proofs.Firsts.{applies, passes}
+use Rattle.scenario.proofs.{Words.{◌≡◌, ◌==◌, rules, true, false, map, length, Some, codes, list_any, items_view, table_view, array_in, the_integers, natural, is_bad_proposal}, Firsts.{applies, passes}}
 use Rattle.scenario.proofs.ProposalFacts.{other_count, right_count}
 use Rattle.scenario.proofs.proposals.read_each_proposal.Goals as goal
 

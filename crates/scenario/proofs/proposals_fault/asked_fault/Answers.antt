@@ -1,5 +1,4 @@
-use Rattle.scenario.proofs.Words.{◌≡◌, ◌∙◌, length, sym, rules, array_view}
-use Rattle.scenario.proofs.Items.{count_view}
+use Rattle.scenario.proofs.{Words.{◌≡◌, ◌∙◌, length, sym, rules, array_view}, Items.{count_view}}
 use Rattle.scenario.proofs.proposals_fault.asked_fault.Goals as goal
 
 pub returns-then-len-from : goal.returns-then-len-from

@@ -1,6 +1,4 @@
-use Rattle.scenario.proofs.Words.{◌∙◌, Some, ap, rules, sym, items_view, view}
-use Rattle.scenario.proofs.Items.{item_view}
-use Rattle.scenario.proofs.Findings.{integer_is}
+use Rattle.scenario.proofs.{Words.{◌∙◌, Some, ap, rules, sym, items_view, view}, Items.{item_view}, Findings.{integer_is}}
 use Rattle.scenario.proofs.proposals_fault.bad_proposal.Goals as goal
 
 pub returns-then-not-lies_within : goal.returns-then-not-lies_within

@@ -1,5 +1,4 @@
-use Rattle.scenario.proofs.Words.{rules, table_view}
-use Rattle.scenario.proofs.Reading.{refused}
+use Rattle.scenario.proofs.{Words.{rules, table_view}, Reading.{refused}}
 use Rattle.scenario.proofs.read.read_scenario.Goals as goal
 
 pub returns-in-Ok-clause-err : goal.returns-in-Ok-clause-err

@@ -1,6 +1,4 @@
-use Rattle.scenario.proofs.Words.{◌∙◌, sym, table_view}
-use Rattle.scenario.proofs.Firsts.{answered}
-use Rattle.scenario.proofs.Rereading.{no_key_refused, keys_refused, numbers_refused, parts_refused, drawn_refused, none_refused, same_record, read_in_range}
+use Rattle.scenario.proofs.{Words.{◌∙◌, sym, table_view}, Firsts.{answered}, Rereading.{no_key_refused, keys_refused, numbers_refused, parts_refused, drawn_refused, none_refused, same_record, read_in_range}}
 use Rattle.scenario.proofs.read.read_with_outages.Goals as goal
 
 pub returns-then-lacks_key-clause-judged : goal.returns-then-lacks_key-clause-judged

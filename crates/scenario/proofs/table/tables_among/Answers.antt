@@ -1,5 +1,4 @@
-use Rattle.scenario.proofs.Words.{◌≡◌, ◌∙◌, ◌++◌, [], ◌∷◌, ap, sym, take, arith, map-append, take_all, as_table, view, table_view, tables_in}
-use Rattle.scenario.proofs.Among.{tables_of, one_there, none_there}
+use Rattle.scenario.proofs.{Words.{◌≡◌, ◌∙◌, ◌++◌, [], ◌∷◌, ap, sym, take, arith, map-append, take_all, as_table, view, table_view, tables_in}, Among.{tables_of, one_there, none_there}}
 use Rattle.scenario.proofs.table.tables_among.Goals as goal
 
 pub loop-value-preserved-in_default : goal.loop-value-preserved-in_default

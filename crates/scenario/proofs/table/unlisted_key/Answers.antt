@@ -1,8 +1,6 @@
-use Rattle.scenario.proofs.Words.{◌∙◌, ◌∷◌, sym, ap, map, subst, rules, string_bytes, true, Contains, All-head, All-rest, All-same, table_view, keys_of, fields_of}
-use Rattle.std.specs.Map.Iter.{deref}
+use Rattle.scenario.proofs.{Words.{◌∙◌, ◌∷◌, sym, ap, map, subst, rules, string_bytes, true, Contains, All-head, All-rest, All-same, table_view, keys_of, fields_of}, Elements.{keys_there}}
+use Rattle.{scenario.proofs.FieldFacts.{any_unlisted, unlisted_view, unlisted_step}, std.specs.Map.Iter.{deref}}
 use Rattle.std.proofs.lemmas.Map.Iter.{rest_more}
-use Rattle.scenario.proofs.Elements.{keys_there}
-use Rattle.scenario.proofs.FieldFacts.{any_unlisted, unlisted_view, unlisted_step}
 use Rattle.scenario.proofs.table.unlisted_key.Goals as goal
 
 pub loop-key-init : goal.loop-key-init

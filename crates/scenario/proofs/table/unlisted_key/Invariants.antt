@@ -1,5 +1,4 @@
-use Rattle.scenario.proofs.Words.{◌≡◌, string_bytes, All, Contains, table_view, has_unlisted, keys_of, fields_of}
-use Rattle.scenario.proofs.FieldFacts.{any_unlisted}
+use Rattle.scenario.proofs.{Words.{◌≡◌, string_bytes, All, Contains, table_view, has_unlisted, keys_of, fields_of}, FieldFacts.{any_unlisted}}
 use Rattle.scenario.proofs.table.unlisted_key.Given as goal
 
 abbrev pub invariant-loop-key : goal.invariant-loop-key

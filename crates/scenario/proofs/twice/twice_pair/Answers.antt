@@ -1,6 +1,4 @@
-use Rattle.scenario.proofs.Words.{refl, rules, arith, codes, to_z, of_z, w64, table_view}
-use Rattle.scenario.proofs.Elements.{numbered_table}
-use Rattle.scenario.proofs.Findings.{both_it}
+use Rattle.scenario.proofs.{Words.{refl, rules, arith, codes, to_z, of_z, w64, table_view}, Elements.{numbered_table}, Findings.{both_it}}
 use Rattle.scenario.proofs.twice.twice_pair.Goals as goal
 
 pub returns-then-is_of_pair : goal.returns-then-is_of_pair

@@ -1,6 +1,4 @@
-use Rattle.scenario.proofs.Words.{refl, rules, arith, codes, to_z, of_z, w64, table_view}
-use Rattle.scenario.proofs.Elements.{numbered_table}
-use Rattle.scenario.proofs.Findings.{has_it}
+use Rattle.scenario.proofs.{Words.{refl, rules, arith, codes, to_z, of_z, w64, table_view}, Elements.{numbered_table}, Findings.{has_it}}
 use Rattle.scenario.proofs.twice.twice_process.Goals as goal
 
 pub returns-then-has_integer_at : goal.returns-then-has_integer_at

@@ -1,5 +1,4 @@
-use Rattle.std.proofs.Common.{get_or}
-use Rattle.std.proofs.lemmas.List.{get_or_default}
+use Rattle.std.proofs.{Common.{get_or}, lemmas.List.{get_or_default}}
 use Rattle.scenario_record.specs.declared.outage.Outage.{Outage}
 use Rattle.scenario_record.proofs.Stretches.{none_lengthened, one_lengthened, all_lengthened}
 use Rattle.scenario_record.proofs.link_outages.lengthened.Goals as goal

@@ -1,6 +1,4 @@
-use Rattle.std.proofs.Common.{string_bytes, rules, tests}
-use Rattle.std.proofs.lemmas.Iterator.{YieldsList-from_slice, YieldsList-from_map_by}
-use Rattle.std.proofs.lemmas.Iterator.Consumers.{map_from_collect}
+use Rattle.std.proofs.{Common.{string_bytes, rules, tests}, lemmas.Iterator.{YieldsList-from_slice, YieldsList-from_map_by, Consumers.{map_from_collect}}}
 use Rattle.shell.proofs.words.lent.Goals as goal
 
 pub returns : goal.returns

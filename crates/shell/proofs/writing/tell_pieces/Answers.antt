@@ -1,6 +1,5 @@
 use Rattle.shell.proofs.Basics.{◌≡◌, ◌∙◌, ◌<◌, ap, sym, refl, inr, ℕ, suc, List, [], ◌++◌, flat_map, length, take, drop, get_or, Bor, flat_map-append, take-append-drop}
-use Rattle.std.proofs.Math.Seq.{drop-cons}
-use Rattle.reporting.proofs.Written.{part_of_more, wrote_then_part}
+use Rattle.{std.proofs.Math.Seq.{drop-cons}, reporting.proofs.Written.{part_of_more, wrote_then_part}}
 use Rattle.shell.proofs.writing.tell_pieces.Goals as goal
 
 -- the whole text, about one piece

@@ -1,5 +1,4 @@
-use Rattle.study.proofs.Basics.{◌∙◌, [], ◌∷◌, map, ap, w64, rules, to_z-of_z, map_push, FitsSigned, number, settings_in, range_of}
-use Rattle.study.proofs.Pieces.{number_pushed}
+use Rattle.study.proofs.{Basics.{◌∙◌, [], ◌∷◌, map, ap, w64, rules, to_z-of_z, map_push, FitsSigned, number, settings_in, range_of}, Pieces.{number_pushed}}
 use Rattle.study.proofs.axis_words.push_numbers.Goals as goal
 
 pub loop-step-preserved : goal.loop-step-preserved

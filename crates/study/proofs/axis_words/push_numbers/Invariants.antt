@@ -1,5 +1,4 @@
-use Rattle.study.proofs.Basics.{◌≡◌, ◌++◌, map, settings_in, range_of}
-use Rattle.study.proofs.Pieces.{numbered}
+use Rattle.study.proofs.{Basics.{◌≡◌, ◌++◌, map, settings_in, range_of}, Pieces.{numbered}}
 use Rattle.study.proofs.axis_words.push_numbers.Given as goal
 
 abbrev pub invariant-loop-step : goal.invariant-loop-step

@@ -1,5 +1,4 @@
-use Rattle.study.proofs.Basics.{map, arith, length-map, settings_in, range_of, range_by}
-use Rattle.study.proofs.Pieces.{range_added, range_many}
+use Rattle.study.proofs.{Basics.{map, arith, length-map, settings_in, range_of, range_by}, Pieces.{range_added, range_many}}
 use Rattle.study.proofs.axis_words.push_range.Goals as goal
 
 pub returns-then-steps-len-clause-err : goal.returns-then-steps-len-clause-err

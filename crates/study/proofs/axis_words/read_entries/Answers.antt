@@ -1,6 +1,4 @@
-use Rattle.study.proofs.Basics.{arith, map, length-map, settings_in, IsFault, first_fault, entries_said}
-use Rattle.study.proofs.KeyNames.{carried}
-use Rattle.study.proofs.Pieces.{fault_at, read_more, all_read}
+use Rattle.study.proofs.{Basics.{arith, map, length-map, settings_in, IsFault, first_fault, entries_said}, KeyNames.{carried}, Pieces.{fault_at, read_more, all_read}}
 use Rattle.study.proofs.axis_words.read_entries.Goals as goal
 
 pub returns-in_err-push_entry-clause-err : goal.returns-in_err-push_entry-clause-err

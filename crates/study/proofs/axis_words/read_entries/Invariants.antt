@@ -1,5 +1,4 @@
-use Rattle.study.proofs.Basics.{◌≤◌, map, length, settings_in}
-use Rattle.study.proofs.Pieces.{AreRead}
+use Rattle.study.proofs.{Basics.{◌≤◌, map, length, settings_in}, Pieces.{AreRead}}
 use Rattle.study.proofs.axis_words.read_entries.Given as goal
 
 abbrev pub invariant-loop-word : goal.invariant-loop-word

@@ -1,5 +1,4 @@
-use Rattle.study.proofs.Basics.{◌≡◌, [], ◌∷◌, ◌++◌, ap, false, map, length, length-append, arith, rules, path_of}
-use Rattle.study.proofs.KeyNames.{carried, key_more, key_fails}
+use Rattle.study.proofs.{Basics.{◌≡◌, [], ◌∷◌, ◌++◌, ap, false, map, length, length-append, arith, rules, path_of}, KeyNames.{carried, key_more, key_fails}}
 use Rattle.study.specs.KeyWords.{SayNoKeys, is_memory}
 use Rattle.study.proofs.axis_words.read_key_words.Goals as goal
 

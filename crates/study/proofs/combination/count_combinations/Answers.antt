@@ -1,5 +1,4 @@
-use Rattle.study.proofs.Basics.{◌≡◌, ◌∙◌, ap, sym, ◌+◌, ◌*◌, ◌-◌, ◌^◌, ◌≤◌, min, length, drop, arith, one-le-mul}
-use Rattle.study.proofs.Points.{ways, length_from, axis_some, some_ways, counted}
+use Rattle.study.proofs.{Basics.{◌≡◌, ◌∙◌, ap, sym, ◌+◌, ◌*◌, ◌-◌, ◌^◌, ◌≤◌, min, length, drop, arith, one-le-mul}, Points.{ways, length_from, axis_some, some_ways, counted}}
 use Rattle.study.proofs.combination.count_combinations.Goals as goal
 
 pub loop-axis-preserved : goal.loop-axis-preserved

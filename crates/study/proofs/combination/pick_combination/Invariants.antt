@@ -1,5 +1,4 @@
-use Rattle.study.proofs.Basics.{◌≡◌, ◌<◌, ◌++◌, [], length, map, drop, get_or, chosen}
-use Rattle.study.proofs.Points.{ways}
+use Rattle.study.proofs.{Basics.{◌≡◌, ◌<◌, ◌++◌, [], length, map, drop, get_or, chosen}, Points.{ways}}
 use Rattle.study.proofs.combination.pick_combination.Given as goal
 
 abbrev pub invariant-loop-axis : goal.invariant-loop-axis

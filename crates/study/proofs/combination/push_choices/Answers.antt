@@ -1,6 +1,5 @@
-use Rattle.study.proofs.Basics.{◌≡◌, ◌++◌, [], map, drop, length, min, sym, ap, ◌∙◌, rules, arith, length-drop, length-map, append-nil, chosen, path_of, given_by, set_to}
+use Rattle.study.proofs.{Basics.{◌≡◌, ◌++◌, [], map, drop, length, min, sym, ap, ◌∙◌, rules, arith, length-drop, length-map, append-nil, chosen, path_of, given_by, set_to}, Points.{none_set}}
 use Rattle.std.proofs.lemmas.Slice.Zip.{zip_end}
-use Rattle.study.proofs.Points.{none_set}
 use Rattle.study.proofs.combination.push_choices.Goals as goal
 
 pub returns : goal.returns

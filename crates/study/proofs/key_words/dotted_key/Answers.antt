@@ -1,7 +1,6 @@
-use Rattle.study.proofs.Basics.{◌≡◌, ◌≢◌, false, Some, ◌∙◌, sym, codes, rules, lit<, false≢true, split_parts, file_path_of}
-use Rattle.study.specs.KeyWords.{is_name, IsOwner, IsNetworkText, is_memory}
+use Rattle.study.proofs.{Basics.{◌≡◌, ◌≢◌, false, Some, ◌∙◌, sym, codes, rules, lit<, false≢true, split_parts, file_path_of}, KeyNames.{carried, dotted, no_network, network_parts, network_text}}
+use Rattle.study.specs.{KeyWords.{is_name, is_memory}, Inside.Private.{IsOwner, IsNetworkText}}
 use Rattle.study.specs.declared.error.KeyError.TheVariants as error
-use Rattle.study.proofs.KeyNames.{carried, dotted, no_network, network_parts, network_text}
 use Rattle.study.proofs.key_words.dotted_key.Goals as goal
 
 pub returns-in_err-key-in-None-clause-no_network : goal.returns-in_err-key-in-None-clause-no_network

@@ -1,5 +1,4 @@
-use Rattle.std.proofs.Common.{refl}
-use Rattle.study.proofs.KeyNames.{refused_by, no_list, in_list}
+use Rattle.{std.proofs.Common.{refl}, study.proofs.KeyNames.{refused_by, no_list, in_list}}
 use Rattle.study.proofs.key_words.network_key.Goals as goal
 
 pub returns-in-None-clause-err : goal.returns-in-None-clause-err

@@ -1,5 +1,5 @@
 use Rattle.std.proofs.Common.{◌≡◌, false}
-use Rattle.study.specs.KeyWords.{is_name, IsOwner, is_memory}
+use Rattle.study.specs.{KeyWords.{is_name, is_memory}, Inside.Private.{IsOwner}}
 use Rattle.study.specs.declared.error.KeyError.TheVariants as error
 use Rattle.study.proofs.KeyNames.{carried, refused_by, no_table, in_owner}
 use Rattle.study.proofs.key_words.owned_key.Goals as goal

@@ -1,5 +1,4 @@
-use Rattle.study.proofs.Basics.{None, Some, decimal, lit<, ◌∙◌, sym, strip_suffix_char}
-use Rattle.study.proofs.KeyNames.{read_place, place_none}
+use Rattle.study.proofs.{Basics.{None, Some, decimal, lit<, ◌∙◌, sym, strip_suffix_char}, KeyNames.{read_place, place_none}}
 use Rattle.study.proofs.key_words.place_in.Goals as goal
 
 pub returns-in_err-digits : goal.returns-in_err-digits

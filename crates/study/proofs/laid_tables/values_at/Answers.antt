@@ -1,5 +1,4 @@
-use Rattle.study.proofs.Basics.{◌≡◌, ◌∙◌, None, Some, option_map, map, ap, sym, subst, get_member, view, table_view, view-Array, HasValues}
-use Rattle.study.proofs.LaidTables.{nothing_there, no_tables, tables_there}
+use Rattle.study.proofs.{Basics.{◌≡◌, ◌∙◌, None, Some, option_map, map, ap, sym, subst, get_member, view, table_view, view-Array, HasValues}, LaidTables.{nothing_there, no_tables, tables_there}}
 use Rattle.study.proofs.laid_tables.values_at.Goals as goal
 
 pub returns-in_default-clause-some : goal.returns-in_default-clause-some

@@ -1,6 +1,5 @@
-use Rattle.study.proofs.Basics.{◌≡◌, ◌∙◌, ◌<◌, ◌≤◌, false, length, ap, sym, subst, rules, table_view, with_outages, drawn_of, most_outages, laid_links, laid_in, drawn_in, lay_links, CantBeLaid, too_many}
+use Rattle.study.proofs.{Basics.{◌≡◌, ◌∙◌, ◌<◌, ◌≤◌, false, length, ap, sym, subst, rules, table_view, with_outages, drawn_of, most_outages, laid_links, laid_in, drawn_in, lay_links, CantBeLaid, too_many}, KeyNames.{carried}}
 use Rattle.study.specs.Placed.{is_memory}
-use Rattle.study.proofs.KeyNames.{carried}
 use Rattle.study.proofs.laying.lay_over.Goals as goal
 
 pub returns-in_err-drawn-clause-err : goal.returns-in_err-drawn-clause-err

@@ -1,6 +1,5 @@
-use Rattle.study.proofs.Basics.{◌≡◌, ◌∙◌, ◌+◌, ap, sym, subst, drop, [], ◌∷◌, ◌++◌, rules, table, view, table_view, items_view, view-Table, put_in_each}
+use Rattle.study.proofs.{Basics.{◌≡◌, ◌∙◌, ◌+◌, ap, sym, subst, drop, [], ◌∷◌, ◌++◌, rules, table, view, table_view, items_view, view-Table, put_in_each}, Placing.{after, put_more, put_all}}
 use Rattle.toml.specs.declared.value.Value.TheVariants.{Table}
-use Rattle.study.proofs.Placing.{after, put_more, put_all}
 use Rattle.study.proofs.placed.changed_items.Goals as goal
 
 pub loop-item-preserved : goal.loop-item-preserved

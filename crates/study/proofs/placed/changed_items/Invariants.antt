@@ -1,5 +1,4 @@
-use Rattle.study.proofs.Basics.{◌≡◌, drop, view, items_view, put_in_each}
-use Rattle.study.proofs.Placing.{after}
+use Rattle.study.proofs.{Basics.{◌≡◌, drop, view, items_view, put_in_each}, Placing.{after}}
 use Rattle.study.proofs.placed.changed_items.Given as goal
 
 abbrev pub invariant-loop-item : goal.invariant-loop-item

@@ -1,5 +1,4 @@
-use Rattle.study.proofs.Basics.{◌≡◌, ◌≢◌, ◌∙◌, ◌≤◌, Ok, ap, sym, subst, length, vec_len, arith, eqb-false, on_ok_weaker, view, table_view, items_view, view-Array, put, put_in_each}
-use Rattle.study.proofs.Placing.{every_set}
+use Rattle.study.proofs.{Basics.{◌≡◌, ◌≢◌, ◌∙◌, ◌≤◌, Ok, ap, sym, subst, length, vec_len, arith, eqb-false, on_ok_weaker, view, table_view, items_view, view-Array, put, put_in_each}, Placing.{every_set}}
 use Rattle.study.proofs.placed.set_in_every.Goals as goal
 
 pub returns-clause-ok : goal.returns-clause-ok

@@ -1,6 +1,5 @@
-use Rattle.study.proofs.Basics.{None, if◌then◌else◌, codes, sym, ap, lit<, split_parts}
+use Rattle.study.proofs.{Basics.{None, if◌then◌else◌, codes, sym, ap, lit<, split_parts}, Parts.{has_not}}
 use Rattle.study.specs.Words.{after}
-use Rattle.study.proofs.Parts.{has_not}
 use Rattle.study.proofs.range_words.end_and_step.Goals as goal
 
 pub returns-in-None-clause-step : goal.returns-in-None-clause-step

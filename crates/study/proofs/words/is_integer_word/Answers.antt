@@ -1,5 +1,4 @@
-use Rattle.study.proofs.Basics.{◌∙◌, sym, None, lit<, strip_prefix_char}
-use Rattle.study.proofs.Numerals.{plain_integer}
+use Rattle.study.proofs.{Basics.{◌∙◌, sym, None, lit<, strip_prefix_char}, Numerals.{plain_integer}}
 use Rattle.study.proofs.words.is_integer_word.Goals as goal
 
 pub returns-in-None : goal.returns-in-None

@@ -1,5 +1,4 @@
-use Rattle.study_commands.proofs.Words.{◌≡◌, ◌∙◌, sym, true, IfOk-weaker, is_alone}
-use Rattle.study_commands.proofs.Standing.{own_scenario}
+use Rattle.study_commands.proofs.{Words.{◌≡◌, ◌∙◌, sym, true, IfOk-weaker, is_alone}, Standing.{own_scenario}}
 use Rattle.study_commands.proofs.alone.scenario_at.Goals as goal
 
 pub returns-then-is_alone-clause-scenario : goal.returns-then-is_alone-clause-scenario

@@ -1,6 +1,4 @@
-use Rattle.study_commands.proofs.Words.{rules, Bor, List, ℕ, [], get_or, contains_image}
-use Rattle.study_commands.proofs.Axes.{one_set_more}
-use Rattle.study_commands.proofs.Reasons.{words_as}
+use Rattle.study_commands.proofs.{Words.{rules, Bor, List, ℕ, [], get_or, contains_image}, Axes.{one_set_more}, Reasons.{words_as}}
 use Rattle.study_commands.proofs.assigned.assignments_of.Goals as goal
 
 abbrev nothing : Bor (List ℕ)

@@ -1,6 +1,4 @@
-use Rattle.study_commands.proofs.Words.{◌≡◌, AcceptsAs, Describes, Accepts, promised, bounds_text}
-use Rattle.study_commands.proofs.Accepted.{same_scenario, told_more}
-use Rattle.study_commands.proofs.Reasons.{bytes_file}
+use Rattle.study_commands.proofs.{Words.{◌≡◌, AcceptsAs, Describes, Accepts, promised, bounds_text}, Accepted.{same_scenario, told_more}, Reasons.{bytes_file}}
 use Rattle.study_commands.proofs.checking.check_own.Goals as goal
 
 pub returns-in-Accepted-clause-text : goal.returns-in-Accepted-clause-text

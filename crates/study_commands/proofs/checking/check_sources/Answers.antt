@@ -1,6 +1,5 @@
-use Rattle.study_commands.proofs.Words.{◌∙◌, ◌++◌, ap, refl, AcceptsTableAs, RefusesTableFor, promised, record_of, Record, table_view, bounds_text, accepted_line}
+use Rattle.study_commands.proofs.{Words.{◌∙◌, ◌++◌, ap, refl, AcceptsTableAs, RefusesTableFor, promised, record_of, Record, table_view, bounds_text, accepted_line}, Accepted.{told_more}}
 use Rattle.study.specs.declared.error.ReadError.TheVariants as error
-use Rattle.study_commands.proofs.Accepted.{told_more}
 use Rattle.study_commands.proofs.checking.check_sources.Goals as goal
 
 pub returns-in-Accepted-clause-text : goal.returns-in-Accepted-clause-text

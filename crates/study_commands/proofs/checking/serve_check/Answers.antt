@@ -1,5 +1,4 @@
-use Rattle.study_commands.proofs.Words.{◌≡◌, ◌∙◌, sym, true, IfOk-weaker, on_ok_weaker, sources_of, is_alone}
-use Rattle.study_commands.proofs.Standing.{own_scenario}
+use Rattle.study_commands.proofs.{Words.{◌≡◌, ◌∙◌, sym, true, IfOk-weaker, on_ok_weaker, sources_of, is_alone}, Standing.{own_scenario}}
 use Rattle.study_commands.proofs.checking.serve_check.Goals as goal
 
 pub returns-then-is_alone-clause-text : goal.returns-then-is_alone-clause-text

@@ -1,5 +1,4 @@
-use Rattle.study_commands.proofs.Words.{rules, ◌≡◌, ◌+◌, ◌<◌, false, sends_by_link}
-use Rattle.study_commands.proofs.CommonLink.{one_fails}
+use Rattle.study_commands.proofs.{Words.{rules, ◌≡◌, ◌+◌, ◌<◌, false, sends_by_link}, CommonLink.{one_fails}}
 use Rattle.study_commands.proofs.common_link.do_any_send.Goals as goal
 
 pub loop-from-preserved : goal.loop-from-preserved

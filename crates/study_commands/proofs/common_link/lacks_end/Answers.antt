@@ -1,5 +1,4 @@
-use Rattle.study_commands.proofs.Words.{rules, ◌≡◌, ◌+◌, ◌<◌, false, is_no_end}
-use Rattle.study_commands.proofs.CommonLink.{one_fails}
+use Rattle.study_commands.proofs.{Words.{rules, ◌≡◌, ◌+◌, ◌<◌, false, is_no_end}, CommonLink.{one_fails}}
 use Rattle.study_commands.proofs.common_link.lacks_end.Goals as goal
 
 pub loop-to-preserved : goal.loop-to-preserved

@@ -1,6 +1,5 @@
 use Rattle.std.proofs.Common.{◌≡◌, ◌∙◌, Some, None, ap, codes, option_map, sym}
-use Rattle.study_commands.proofs.Words.{get_member, table_view, view}
-use Rattle.study_commands.proofs.CommonLink.{tables_nowhere, tables_there}
+use Rattle.study_commands.proofs.{Words.{get_member, table_view, view}, CommonLink.{tables_nowhere, tables_there}}
 use Rattle.study_commands.proofs.common_link.link_values.Goals as goal
 
 pub returns-in-Some : goal.returns-in-Some

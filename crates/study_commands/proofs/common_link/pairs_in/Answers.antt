@@ -1,5 +1,4 @@
-use Rattle.study_commands.proofs.Words.{◌∙◌, ◌++◌, ℕ, ap, sym, take, Option, option_to_list, filter_map, pair_in, view, Value}
-use Rattle.study_commands.proofs.AddedItems.{filter_map_more}
+use Rattle.study_commands.proofs.{Words.{◌∙◌, ◌++◌, ℕ, ap, sym, take, Option, option_to_list, filter_map, pair_in, view, Value}, AddedItems.{filter_map_more}}
 use Rattle.study_commands.proofs.common_link.pairs_in.Goals as goal
 
 pub loop-value-preserved : goal.loop-value-preserved

@@ -1,5 +1,4 @@
-use Rattle.study_commands.proofs.Words.{◌∙◌, ap, list_any, range_with_len, is_no_end}
-use Rattle.study_commands.proofs.CommonLink.{sends_where}
+use Rattle.study_commands.proofs.{Words.{◌∙◌, ap, list_any, range_with_len, is_no_end}, CommonLink.{sends_where}}
 use Rattle.study_commands.proofs.common_link.sends_by_link.Goals as goal
 
 pub returns : goal.returns

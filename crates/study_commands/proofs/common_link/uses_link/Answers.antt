@@ -1,5 +1,4 @@
-use Rattle.study_commands.proofs.Words.{◌≡◌, ◌∙◌, ℕ, ap, map, IfOk-weaker, list_any, range_with_len, pair_of, linked_pairs, sends_by_link, table_view}
-use Rattle.study_commands.proofs.CommonLink.{pairs_are}
+use Rattle.study_commands.proofs.{Words.{◌≡◌, ◌∙◌, ℕ, ap, map, IfOk-weaker, list_any, range_with_len, pair_of, linked_pairs, sends_by_link, table_view}, CommonLink.{pairs_are}}
 use Rattle.study_commands.proofs.common_link.uses_link.Goals as goal
 
 pub returns : goal.returns

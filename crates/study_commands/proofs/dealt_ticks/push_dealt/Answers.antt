@@ -1,6 +1,4 @@
-use Rattle.study_commands.proofs.Words.{◌∙◌, ◌++◌, ap, sym, append_assoc, map, option_to_list, take, filter_map, option_map, choices, dealt_of, dealt_to}
-use Rattle.study_commands.proofs.AddedItems.{map_option}
-use Rattle.study_commands.proofs.Dealt.{all_dealt, dealt_more, keyed}
+use Rattle.study_commands.proofs.{Words.{◌∙◌, ◌++◌, ap, sym, append_assoc, map, option_to_list, take, filter_map, option_map, choices, dealt_of, dealt_to}, AddedItems.{map_option}, Dealt.{all_dealt, dealt_more, keyed}}
 use Rattle.study_commands.proofs.dealt_ticks.push_dealt.Goals as goal
 
 pub loop-place-preserved : goal.loop-place-preserved

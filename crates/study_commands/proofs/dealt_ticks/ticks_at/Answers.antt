@@ -1,5 +1,4 @@
-use Rattle.study_commands.proofs.Words.{◌≡◌, ◌∙◌, ◌++◌, ap, sym, rules, option_to_list, take, filter_map, choices, settings_in, tick_said, tick_in}
-use Rattle.study_commands.proofs.Dealt.{ticks_more}
+use Rattle.study_commands.proofs.{Words.{◌≡◌, ◌∙◌, ◌++◌, ap, sym, rules, option_to_list, take, filter_map, choices, settings_in, tick_said, tick_in}, Dealt.{ticks_more}}
 use Rattle.study_commands.proofs.dealt_ticks.ticks_at.Goals as goal
 
 pub loop-value-preserved : goal.loop-value-preserved

@@ -1,5 +1,4 @@
-use Rattle.study_commands.proofs.Words.{ap, Err, absent, unreadable, too_long}
-use Rattle.study_commands.proofs.Reasons.{unread_told}
+use Rattle.study_commands.proofs.{Words.{ap, Err, absent, unreadable, too_long}, Reasons.{unread_told}}
 use Rattle.study_commands.proofs.file.bytes_of.Goals as goal
 
 pub returns-in-Err-NoSuchFile-clause-why : goal.returns-in-Err-NoSuchFile-clause-why

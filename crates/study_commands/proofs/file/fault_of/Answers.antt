@@ -1,5 +1,4 @@
-use Rattle.study_commands.proofs.Words.{rules, Says, line_with}
-use Rattle.diagnosis.specs.Text.{refused_text}
+use Rattle.{study_commands.proofs.Words.{rules, Says, line_with}, diagnosis.specs.Text.{refused_text}}
 use Rattle.study_commands.proofs.file.fault_of.Goals as goal
 
 pub returns : goal.returns

@@ -1,5 +1,4 @@
-use Rattle.study_commands.proofs.Naming.{network_read, network_refused, stays_once, taken_once}
-use Rattle.study_commands.proofs.Words.{rules, IsOfFiles}
+use Rattle.study_commands.proofs.{Naming.{network_read, network_refused, stays_once, taken_once}, Words.{rules, IsOfFiles}}
 use Rattle.study_commands.proofs.file.files_of.Goals as goal
 
 pub returns-in_err-network-clause-why : goal.returns-in_err-network-clause-why

@@ -1,5 +1,4 @@
-use Rattle.study_commands.proofs.Words.{subst, ℕ, List, IsOfBytes}
-use Rattle.study_commands.proofs.Reasons.{bytes_file}
+use Rattle.study_commands.proofs.{Words.{subst, ℕ, List, IsOfBytes}, Reasons.{bytes_file}}
 use Rattle.study_commands.proofs.file.own_scenario_at.Goals as goal
 
 pub returns-clause-why : goal.returns-clause-why

@@ -1,5 +1,4 @@
-use Rattle.study_commands.proofs.Words.{◌≡◌, false, true, subst, ℕ, List, None, IsDocumentOf, IsOfBytes}
-use Rattle.study_commands.proofs.Reasons.{bytes_table}
+use Rattle.study_commands.proofs.{Words.{◌≡◌, false, true, subst, ℕ, List, None, IsDocumentOf, IsOfBytes}, Reasons.{bytes_table}}
 use Rattle.study_commands.proofs.file.table_of.Goals as goal
 
 pub returns-clause-why : goal.returns-clause-why

@@ -1,5 +1,4 @@
-use Rattle.study_commands.proofs.Words.{◌≡◌, ◌<◌, rules, length, get_or, Some, is_some, position}
-use Rattle.study_commands.proofs.Findings.{found_is}
+use Rattle.study_commands.proofs.{Words.{◌≡◌, ◌<◌, rules, length, get_or, Some, is_some, position}, Findings.{found_is}}
 use Rattle.study_commands.proofs.found.first_of.Goals as goal
 
 pub returns : goal.returns

@@ -1,6 +1,4 @@
-use Rattle.study_commands.proofs.Words.{◌≡◌, rules, Bor, List, ℕ, [], None, get_or, contains_image, process_said}
-use Rattle.study_commands.proofs.Axes.{one_said}
-use Rattle.study_commands.proofs.Reasons.{words_as}
+use Rattle.study_commands.proofs.{Words.{◌≡◌, rules, Bor, List, ℕ, [], None, get_or, contains_image, process_said}, Axes.{one_said}, Reasons.{words_as}}
 use Rattle.study_commands.proofs.picturing.named_by.Goals as goal
 
 abbrev nothing : Bor (List ℕ)

@@ -1,5 +1,4 @@
-use Rattle.study_commands.proofs.Words.{rules, IfErr-weaker, IfOk-weaker, IsOfPicture}
-use Rattle.study_commands.proofs.Refusing.{picture_stops}
+use Rattle.study_commands.proofs.{Words.{rules, IfErr-weaker, IfOk-weaker, IsOfPicture}, Refusing.{picture_stops}}
 use Rattle.study_commands.proofs.picturing.serve_draw.Goals as goal
 
 pub returns-in-Ok-clause-text : goal.returns-in-Ok-clause-text

@@ -1,6 +1,5 @@
-use Rattle.study_commands.proofs.Words.{refl, rules, sources_of, Memory}
+use Rattle.study_commands.proofs.{Words.{refl, rules, sources_of, Memory}, Swept.{cant_of_run, if_err}}
 use Rattle.sweep.specs.declared.error.SweepError.TheVariants as error
-use Rattle.study_commands.proofs.Swept.{cant_of_run, if_err}
 use Rattle.study_commands.proofs.ready.make_ready.Goals as goal
 
 pub fault_of-requires : goal.fault_of-requires

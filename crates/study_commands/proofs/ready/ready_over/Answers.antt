@@ -1,5 +1,4 @@
-use Rattle.study_commands.proofs.Words.{rules, IsBefore, StopsSweep}
-use Rattle.study_commands.proofs.Swept.{cant_stop}
+use Rattle.study_commands.proofs.{Words.{rules, IsBefore, StopsSweep}, Swept.{cant_stop}}
 use Rattle.study_commands.proofs.ready.ready_over.Goals as goal
 
 pub returns-in_err-make_ready-clause-why : goal.returns-in_err-make_ready-clause-why

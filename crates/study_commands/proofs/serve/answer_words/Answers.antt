@@ -1,5 +1,4 @@
-use Rattle.study_commands.proofs.Words.{map, inl, inr, refl, IfErr-weaker, on_ok_weaker, Answers, Leaves, Writes, end_of, AreAnswered, IsNoFault, States, for_help, for_order}
-use Rattle.study_commands.proofs.Stopping.{answered, telling_asked}
+use Rattle.study_commands.proofs.{Words.{map, inl, inr, refl, IfErr-weaker, on_ok_weaker, Answers, Leaves, Writes, end_of, AreAnswered, IsNoFault, States, for_help, for_order}, Stopping.{answered, telling_asked}}
 use Rattle.study_commands.proofs.serve.answer_words.Goals as goal
 
 pub returns-in-Ok-clause-text : goal.returns-in-Ok-clause-text

@@ -1,5 +1,4 @@
-use Rattle.study_commands.proofs.Words.{rules, IfErr-weaker, on_ok_weaker}
-use Rattle.study_commands.proofs.Stopping.{no_sweep, stops_at_write, text_goes}
+use Rattle.study_commands.proofs.{Words.{rules, IfErr-weaker, on_ok_weaker}, Stopping.{no_sweep, stops_at_write, text_goes}}
 use Rattle.study_commands.proofs.serve.carry_out.Goals as goal
 
 pub text_of-requires : goal.text_of-requires

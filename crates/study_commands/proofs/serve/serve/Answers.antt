@@ -1,8 +1,5 @@
-use Rattle.study_commands.proofs.Words.{map, Answers, Leaves, Writes, end_of, line_of, status_of, StopsFor, Explains, States}
-use Rattle.study_commands.specs.Inside.Statuses.{has_status}
-use Rattle.study_commands.specs.Serve.{AreAnswered, TellsOf}
-use Rattle.study_commands.specs.WarningText.{IsToldFor}
-use Rattle.study_commands.proofs.Stopping.{unasked_status}
+use Rattle.study_commands.proofs.{Words.{map, Answers, Leaves, Writes, end_of, line_of, status_of, StopsFor, Explains, States}, Stopping.{unasked_status}}
+use Rattle.study_commands.specs.{Inside.Statuses.{has_status}, Serve.{AreAnswered, TellsOf}, WarningText.{IsToldFor}}
 use Rattle.shell.proofs.Serving.{at_zero, ends}
 use Rattle.study_commands.proofs.serve.serve.Goals as goal
 

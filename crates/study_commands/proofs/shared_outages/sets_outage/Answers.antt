@@ -1,5 +1,4 @@
-use Rattle.study_commands.proofs.Words.{◌≡◌, ◌∙◌, ap, sym, rules, true, list_any, path_of, is_of_outage}
-use Rattle.study_commands.proofs.Dealt.{any_here, keys_are, none_there}
+use Rattle.study_commands.proofs.{Words.{◌≡◌, ◌∙◌, ap, sym, rules, true, list_any, path_of, is_of_outage}, Dealt.{any_here, keys_are, none_there}}
 use Rattle.study_commands.proofs.shared_outages.sets_outage.Goals as goal
 
 pub returns-then-is_of_outage : goal.returns-then-is_of_outage

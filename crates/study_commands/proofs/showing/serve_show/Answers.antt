@@ -1,5 +1,4 @@
-use Rattle.study_commands.proofs.Words.{rules, inl, inr, length, points, runs, sources_of, IsBefore, IsOfWordsFor, IsOutside, StopsShow}
-use Rattle.study_commands.proofs.Reasons.{sources_stop, study_text, words_stop}
+use Rattle.study_commands.proofs.{Words.{rules, inl, inr, length, points, runs, sources_of, IsBefore, IsOfWordsFor, IsOutside, StopsShow}, Reasons.{sources_stop, study_text, words_stop}}
 use Rattle.study_commands.proofs.showing.serve_show.Goals as goal
 
 pub returns-clause-text : goal.returns-clause-text

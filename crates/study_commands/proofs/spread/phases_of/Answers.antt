@@ -1,5 +1,4 @@
-use Rattle.std.proofs.Common.{rules, ◌≡◌, ◌%◌, ◌<◌, All, map, eqb, subst, sym, ℕ}
-use Rattle.std.proofs.lemmas.List.Filters.{dedup_is}
+use Rattle.std.proofs.{Common.{rules, ◌≡◌, ◌%◌, ◌<◌, All, map, eqb, subst, sym, ℕ}, lemmas.List.Filters.{dedup_is}}
 use Rattle.study_commands.proofs.Phases.{are_phases, phases_low}
 use Rattle.study_commands.proofs.spread.phases_of.Goals as goal
 

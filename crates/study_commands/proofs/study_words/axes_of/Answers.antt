@@ -1,6 +1,4 @@
-use Rattle.study_commands.proofs.Words.{rules, Bor, List, ℕ, [], get_or, contains_image}
-use Rattle.study_commands.proofs.Axes.{one_more}
-use Rattle.study_commands.proofs.Reasons.{words_as}
+use Rattle.study_commands.proofs.{Words.{rules, Bor, List, ℕ, [], get_or, contains_image}, Axes.{one_more}, Reasons.{words_as}}
 use Rattle.study_commands.proofs.study_words.axes_of.Goals as goal
 
 abbrev nothing : Bor (List ℕ)

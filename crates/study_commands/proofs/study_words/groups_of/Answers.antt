@@ -1,6 +1,4 @@
-use Rattle.study_commands.proofs.Words.{◌≡◌, ◌≢◌, rules, false, Bor, List, ℕ, [], get_or, contains_image, is_group_memory}
-use Rattle.study_commands.proofs.Axes.{one_group_more}
-use Rattle.study_commands.proofs.Reasons.{words_as}
+use Rattle.study_commands.proofs.{Words.{◌≡◌, ◌≢◌, rules, false, Bor, List, ℕ, [], get_or, contains_image, is_group_memory}, Axes.{one_group_more}, Reasons.{words_as}}
 use Rattle.study_commands.proofs.study_words.groups_of.Goals as goal
 use Rattle.sweep.specs.declared.error.GroupError.{GroupError}
 use Rattle.sweep.specs.declared.error.GroupError.TheVariants as group

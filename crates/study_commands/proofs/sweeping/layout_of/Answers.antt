@@ -1,5 +1,4 @@
-use Rattle.study_commands.proofs.Words.{inl, map, rules, option_map, IsOfWordsFor, SaysNoLayout}
-use Rattle.study_commands.proofs.Reasons.{words_as}
+use Rattle.study_commands.proofs.{Words.{inl, map, rules, option_map, IsOfWordsFor, SaysNoLayout}, Reasons.{words_as}}
 use Rattle.study_commands.proofs.sweeping.layout_of.Goals as goal
 
 pub returns-in_err-groups-clause-refused : goal.returns-in_err-groups-clause-refused

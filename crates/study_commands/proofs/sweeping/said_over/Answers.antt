@@ -1,5 +1,4 @@
-use Rattle.study_commands.proofs.Words.{inl, inr, map, rules, subst, Bor, List, ℕ, IsBefore, IsOfWordsFor, StopsSweep, SaysNoLayout}
-use Rattle.study_commands.proofs.Reasons.{sources_stop, words_stop}
+use Rattle.study_commands.proofs.{Words.{inl, inr, map, rules, subst, Bor, List, ℕ, IsBefore, IsOfWordsFor, StopsSweep, SaysNoLayout}, Reasons.{sources_stop, words_stop}}
 use Rattle.study_commands.proofs.sweeping.said_over.Goals as goal
 use Rattle.study_commands.specs.Study.{columns_word}
 

@@ -1,5 +1,4 @@
-use Rattle.study_commands.proofs.Words.{◌≡◌, ◌∙◌, ap, length, map, length-map, option_map, path_of, period_of, uneven_in, unevens}
-use Rattle.study_commands.proofs.FirstRuns.{found_at, same_unevens}
+use Rattle.study_commands.proofs.{Words.{◌≡◌, ◌∙◌, ap, length, map, length-map, option_map, path_of, period_of, uneven_in, unevens}, FirstRuns.{found_at, same_unevens}}
 use Rattle.study_commands.proofs.warning.dealt_warning.Goals as goal
 
 pub returns : goal.returns

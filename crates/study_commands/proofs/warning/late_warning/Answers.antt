@@ -1,5 +1,4 @@
-use Rattle.study_commands.proofs.Words.{◌≡◌, ◌∙◌, ap, length, map, length-map, option_map, late_with, lates}
-use Rattle.study_commands.proofs.FirstRuns.{found_at, same_lates}
+use Rattle.study_commands.proofs.{Words.{◌≡◌, ◌∙◌, ap, length, map, length-map, option_map, late_with, lates}, FirstRuns.{found_at, same_lates}}
 use Rattle.study_commands.proofs.warning.late_warning.Goals as goal
 
 pub returns : goal.returns

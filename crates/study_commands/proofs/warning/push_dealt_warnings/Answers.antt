@@ -1,5 +1,4 @@
-use Rattle.study_commands.proofs.Words.{length, range_with_len, dealt_of, warning_of, warning_of_dealt}
-use Rattle.study_commands.proofs.AddedItems.{added}
+use Rattle.study_commands.proofs.{Words.{length, range_with_len, dealt_of, warning_of, warning_of_dealt}, AddedItems.{added}}
 use Rattle.study_commands.proofs.warning.push_dealt_warnings.Goals as goal
 
 pub loop-each-preserved : goal.loop-each-preserved

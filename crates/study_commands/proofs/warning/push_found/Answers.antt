@@ -1,5 +1,4 @@
-use Rattle.study_commands.proofs.Words.{option_map, path_of, warning_of, unused}
-use Rattle.study_commands.proofs.AddedItems.{added}
+use Rattle.study_commands.proofs.{Words.{option_map, path_of, warning_of, unused}, AddedItems.{added}}
 use Rattle.study_commands.proofs.warning.push_found.Goals as goal
 
 pub loop-key-preserved : goal.loop-key-preserved

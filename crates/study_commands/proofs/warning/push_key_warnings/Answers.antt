@@ -1,5 +1,4 @@
-use Rattle.study_commands.proofs.Words.{◌≡◌, ◌∙◌, ◌++◌, ap, length, map, length-map, on_ok_weaker, filter_map, option_map, paths_said, warning_of, unlinked_where, unused}
-use Rattle.study_commands.proofs.FirstRuns.{found_at, same_unlinked}
+use Rattle.study_commands.proofs.{Words.{◌≡◌, ◌∙◌, ◌++◌, ap, length, map, length-map, on_ok_weaker, filter_map, option_map, paths_said, warning_of, unlinked_where, unused}, FirstRuns.{found_at, same_unlinked}}
 use Rattle.study_commands.proofs.warning.push_key_warnings.Goals as goal
 
 pub returns : goal.returns

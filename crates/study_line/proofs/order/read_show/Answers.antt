@@ -1,5 +1,4 @@
-use Rattle.study_line.proofs.Basics.{rules, codes, found_of, rows_of, IsNumberAt, StatesIn}
-use Rattle.study_line.proofs.Words.{lacks_part, show_has_numbers}
+use Rattle.study_line.proofs.{Basics.{rules, codes, found_of, rows_of, IsNumberAt, StatesIn}, Words.{lacks_part, show_has_numbers}}
 use Rattle.study_line.proofs.order.read_show.Goals as goal
 
 pub returns-in_err-number_at : goal.returns-in_err-number_at

@@ -1,5 +1,4 @@
-use Rattle.std.proofs.Common.{map}
-use Rattle.study_line.proofs.Words.{kind_by_words, nothing_by_words, stated_by_words}
+use Rattle.{std.proofs.Common.{map}, study_line.proofs.Words.{kind_by_words, nothing_by_words, stated_by_words}}
 use Rattle.study_line.proofs.order.read_words.Goals as goal
 
 pub returns-in-Ok-try_get_matches_from-clause-stated : goal.returns-in-Ok-try_get_matches_from-clause-stated

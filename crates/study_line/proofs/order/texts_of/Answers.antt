@@ -1,5 +1,4 @@
-use Rattle.study_line.proofs.Basics.{◌∙◌, ap, map, ◌++◌, Bor, List, refl, ℕ, found_of, raw_values-rows}
-use Rattle.study_line.proofs.Words.{all_texts}
+use Rattle.study_line.proofs.{Basics.{◌∙◌, ap, map, ◌++◌, Bor, List, refl, ℕ, found_of, raw_values-rows}, Words.{all_texts}}
 use Rattle.study_line.proofs.order.texts_of.Goals as goal
 
 pub returns-in-Ok-clause-stated : goal.returns-in-Ok-clause-stated

@@ -1,5 +1,4 @@
-use Rattle.std.proofs.Common.{append_assoc}
-use Rattle.svg.specs.Document.{head_text}
+use Rattle.{std.proofs.Common.{append_assoc}, svg.specs.Document.{head_text}}
 use Rattle.svg.proofs.document.svg_text.Goals as goal
 
 pub returns : goal.returns

@@ -1,6 +1,4 @@
-use Rattle.std.proofs.Common.{append_assoc}
-use Rattle.std.proofs.lemmas.List.Folds.{flat_map-map}
-use Rattle.svg.specs.Document.{attribute}
+use Rattle.{std.proofs.{Common.{append_assoc}, lemmas.List.Folds.{flat_map-map}}, svg.specs.Document.{attribute}}
 use Rattle.svg.proofs.elements.push_opening.Goals as goal
 
 pub returns : goal.returns

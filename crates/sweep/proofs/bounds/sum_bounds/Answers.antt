@@ -1,5 +1,4 @@
-use Rattle.sweep.proofs.Words.{◌≡◌, ◌+◌, take, sym, ap, ◌∙◌, subst, PairMeasures, trusts_of, AreBounds, bounds_plus, of_bound, IsPair, bound_after, bounds_of, DetectionBounds}
-use Rattle.sweep.proofs.Bounding.{bound_more, bound_same}
+use Rattle.sweep.proofs.{Words.{◌≡◌, ◌+◌, take, sym, ap, ◌∙◌, subst, PairMeasures, trusts_of, AreBounds, bounds_plus, of_bound, IsPair, bound_after, bounds_of, DetectionBounds}, Bounding.{bound_more, bound_same}}
 use Rattle.sweep.proofs.bounds.sum_bounds.Goals.{then-is_to_detect+then-is_pair, else-is_to_detect, else-is_to_detect-via-then-is_to_detect+else-is_pair, else-is_to_detect-via-else-is_to_detect}
 use Rattle.sweep.proofs.bounds.sum_bounds.Goals as goal
 

@@ -1,5 +1,4 @@
-use Rattle.sweep.proofs.Words.{rules, ◌≡◌, ◌≤◌, ◌<◌, ◌+◌, ◌*◌, ℕ, [], Bool, true, length, arith, subst, slice_index_or, mul-le-mul_right, sources_of, points, runs, IsReadyAt, IsFirstRefusal, joined_then}
-use Rattle.sweep.proofs.Numbered.{number_below}
+use Rattle.sweep.proofs.{Words.{rules, ◌≡◌, ◌≤◌, ◌<◌, ◌+◌, ◌*◌, ℕ, [], Bool, true, length, arith, subst, slice_index_or, mul-le-mul_right, sources_of, points, runs, IsReadyAt, IsFirstRefusal, joined_then}, Numbered.{number_below}}
 use Rattle.sweep.proofs.Reading.{read_more, first_refusal}
 use Rattle.sweep.proofs.checking.check_runs.Goals as goal
 

@@ -1,5 +1,4 @@
-use Rattle.sweep.proofs.Words.{◌≤◌, [], length, arith, joined_then, IfOk-weaker, MatchResult-weaker, sources_of, runs}
-use Rattle.sweep.proofs.Ending.{cant_be_run, are_ready}
+use Rattle.sweep.proofs.{Words.{◌≤◌, [], length, arith, joined_then, IfOk-weaker, MatchResult-weaker, sources_of, runs}, Ending.{cant_be_run, are_ready}}
 use Rattle.sweep.proofs.checking.check_study.Goals as goal
 
 pub returns-clause-ok : goal.returns-clause-ok

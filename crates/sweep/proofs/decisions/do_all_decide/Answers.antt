@@ -1,5 +1,4 @@
-use Rattle.sweep.proofs.Words.{ap, ◌∙◌, ◌==◌, count_by, has_decided}
-use Rattle.sweep.proofs.Single.{all_counted}
+use Rattle.sweep.proofs.{Words.{ap, ◌∙◌, ◌==◌, count_by, has_decided}, Single.{all_counted}}
 use Rattle.sweep.proofs.decisions.do_all_decide.Goals as goal
 
 pub returns : goal.returns

@@ -1,5 +1,4 @@
-use Rattle.sweep.proofs.Words.{◌≡◌, ◌++◌, None, list_any, Outcome, decided_value, differ, [], cons_option, ap, ◌∙◌, rules}
-use Rattle.sweep.proofs.Single.{first_differs, gathered_more}
+use Rattle.sweep.proofs.{Words.{◌≡◌, ◌++◌, None, list_any, Outcome, decided_value, differ, [], cons_option, ap, ◌∙◌, rules}, Single.{first_differs, gathered_more}}
 use Rattle.sweep.proofs.decisions.do_disagree.Goals as goal
 
 pub loop-one-preserved : goal.loop-one-preserved

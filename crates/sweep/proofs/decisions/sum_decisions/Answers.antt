@@ -1,5 +1,4 @@
-use Rattle.sweep.proofs.Words.{◌^◌, ◌<◌, length, ap, ◌∙◌, subst, arith, decisions_plus, of_outcome, AreDecisionsWithin}
-use Rattle.sweep.proofs.Single.{outcome_added, outcome_within}
+use Rattle.sweep.proofs.{Words.{◌^◌, ◌<◌, length, ap, ◌∙◌, subst, arith, decisions_plus, of_outcome, AreDecisionsWithin}, Single.{outcome_added, outcome_within}}
 use Rattle.sweep.proofs.decisions.sum_decisions.Goals as goal
 
 pub loop-outcome-preserved : goal.loop-outcome-preserved

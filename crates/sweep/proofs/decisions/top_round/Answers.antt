@@ -1,6 +1,4 @@
-use Rattle.sweep.proofs.Words.{[], take, sym, ap, ◌∙◌, cons_option, filter_map, noted_round, greater, greatest}
-use Rattle.sweep.proofs.Greatest.{greatest_both, greatest_one}
-use Rattle.sweep.proofs.Single.{gathered_more}
+use Rattle.sweep.proofs.{Words.{[], take, sym, ap, ◌∙◌, cons_option, filter_map, noted_round, greater, greatest}, Greatest.{greatest_both, greatest_one}, Single.{gathered_more}}
 use Rattle.sweep.proofs.decisions.top_round.Goals as goal
 
 pub loop-outcome-preserved : goal.loop-outcome-preserved

@@ -1,6 +1,5 @@
 use Rattle.sweep.proofs.Words.{Err, None, cond, sym, ap, lit<, before, after, block_of, side_said}
-use Rattle.std.proofs.lemmas.Str.Pattern.{split_parts}
-use Rattle.study.proofs.Parts.{has_not}
+use Rattle.{std.proofs.lemmas.Str.Pattern.{split_parts}, study.proofs.Parts.{has_not}}
 use Rattle.sweep.specs.declared.error.GroupError.TheVariants.{NoGroup}
 use Rattle.sweep.proofs.group_words.block_in.Goals as goal
 

@@ -1,7 +1,4 @@
-use Rattle.sweep.proofs.Words.{rules, ◌≡◌, ◌++◌, ◌∷◌, [], Ok, Err, true, map, get_or, length, sym, ap, ◌∙◌, arith, length-map, is_ok, block_said}
-use Rattle.sweep.proofs.Blocks.{one_more, none_said}
-use Rattle.sweep.proofs.Places.{word_at}
-use Rattle.sweep.proofs.Reading.{if_err}
+use Rattle.sweep.proofs.{Words.{rules, ◌≡◌, ◌++◌, ◌∷◌, [], Ok, Err, true, map, get_or, length, sym, ap, ◌∙◌, arith, length-map, is_ok, block_said}, Blocks.{one_more, none_said}, Places.{word_at}, Reading.{if_err}}
 use Rattle.sweep.proofs.group_words.blocks_in.Goals as goal
 
 pub returns-in_err-block-clause-err : goal.returns-in_err-block-clause-err

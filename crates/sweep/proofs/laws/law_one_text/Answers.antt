@@ -1,5 +1,4 @@
-use Rattle.sweep.proofs.Words.{sources_of}
-use Rattle.sweep.proofs.OneText.{one_text}
+use Rattle.sweep.proofs.{Words.{sources_of}, OneText.{one_text}}
 use Rattle.sweep.proofs.laws.law_one_text.Goals as goal
 
 pub returns : goal.returns

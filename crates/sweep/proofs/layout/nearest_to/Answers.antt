@@ -1,7 +1,5 @@
-use Rattle.sweep.proofs.Words.{◌≡◌, ◌≤◌, [], map, get_or, string_bytes, length, sym, ap, ◌∙◌, arith, below_more, length-map, edits}
-use Rattle.sweep.proofs.Places.{named, nearest_is}
+use Rattle.sweep.proofs.{Words.{◌≡◌, ◌≤◌, [], map, get_or, string_bytes, length, sym, ap, ◌∙◌, arith, below_more, length-map, edits}, Places.{named, nearest_is}, layout.nearest_to.Goals.{then-edits-least, else-edits-least}}
 use Rattle.sweep.proofs.layout.nearest_to.Goals as goal
-use Rattle.sweep.proofs.layout.nearest_to.Goals.{then-edits-least, else-edits-least}
 
 pub loop-place-init : goal.loop-place-init
 loop-place-init c = record {

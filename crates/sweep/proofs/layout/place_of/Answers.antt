@@ -1,7 +1,5 @@
-use Rattle.sweep.proofs.Words.{◌∙◌, rules, string_bytes, sym, tests, YieldsList-from_slice}
-use Rattle.std.proofs.lemmas.Iterator.Search.{position_from_yields_List}
-use Rattle.scenario.specs.Table.{same_text}
-use Rattle.sweep.proofs.Places.{position_map}
+use Rattle.sweep.proofs.{Words.{◌∙◌, rules, string_bytes, sym, tests, YieldsList-from_slice}, Places.{position_map}}
+use Rattle.{std.proofs.lemmas.Iterator.Search.{position_from_yields_List}, scenario.specs.Table.{same_text}}
 use Rattle.sweep.proofs.layout.place_of.Goals as goal
 
 pub returns : goal.returns

@@ -1,5 +1,4 @@
-use Rattle.sweep.proofs.Words.{rules, ◌≡◌, ◌++◌, ◌∷◌, [], Some, None, true, map, get_or, length, string_bytes, sym, ap, ◌∙◌, subst, arith, length-map, place_of, TellsOf, is_ok}
-use Rattle.sweep.proofs.Places.{word_at, one_more, refusal_of}
+use Rattle.sweep.proofs.{Words.{rules, ◌≡◌, ◌++◌, ◌∷◌, [], Some, None, true, map, get_or, length, string_bytes, sym, ap, ◌∙◌, subst, arith, length-map, place_of, TellsOf, is_ok}, Places.{word_at, one_more, refusal_of}}
 use Rattle.sweep.proofs.layout.places_of.Goals as goal
 
 pub returns-in_default-clause-err : goal.returns-in_default-clause-err

@@ -1,5 +1,4 @@
-use Rattle.sweep.proofs.Words.{rules, IfOk-weaker, sources_of}
-use Rattle.sweep.proofs.Limiting.{numbers_from}
+use Rattle.sweep.proofs.{Words.{rules, IfOk-weaker, sources_of}, Limiting.{numbers_from}}
 use Rattle.sweep.proofs.measuring.measure_batch.Goals as goal
 
 pub returns-clause-numbers : goal.returns-clause-numbers

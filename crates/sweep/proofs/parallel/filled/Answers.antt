@@ -1,6 +1,4 @@
-use Rattle.sweep.proofs.Words.{rules, ◌≡◌, ◌+◌, ℕ, suc, ◌∷◌, None, ap, subst, ◌∙◌, vec_len, arith, slice_index_or, FnReturns, into_iter_items}
-use Rattle.sweep.proofs.Placed.{one_more}
-use Rattle.sweep.proofs.parallel.filled.Goals.{in-Some-place, in-None-place}
+use Rattle.sweep.proofs.{Words.{rules, ◌≡◌, ◌+◌, ℕ, suc, ◌∷◌, None, ap, subst, ◌∙◌, vec_len, arith, slice_index_or, FnReturns, into_iter_items}, Placed.{one_more}, parallel.filled.Goals.{in-Some-place, in-None-place}}
 use Rattle.sweep.proofs.parallel.filled.Goals as goal
 
 pub loop-place-preserved : goal.loop-place-preserved

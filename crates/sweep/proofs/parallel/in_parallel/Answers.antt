@@ -1,5 +1,4 @@
-use Rattle.sweep.proofs.Words.{rules, ◌≡◌, ◌<◌, ℕ, Ok, IfOk, length, sym, ap, subst, ◌∙◌, vec_len, arith, slice_index_or, All, length-map, IsPlaced, ArePlaces, AreAnswers}
-use Rattle.sweep.proofs.Placed.{all_columns, columns_put, nothing_at, length_columns}
+use Rattle.sweep.proofs.{Words.{rules, ◌≡◌, ◌<◌, ℕ, Ok, IfOk, length, sym, ap, subst, ◌∙◌, vec_len, arith, slice_index_or, All, length-map, IsPlaced, ArePlaces, AreAnswers}, Placed.{all_columns, columns_put, nothing_at, length_columns}}
 use Rattle.sweep.proofs.parallel.in_parallel.Goals as goal
 
 pub put_columns-requires : goal.put_columns-requires

@@ -1,5 +1,4 @@
-use Rattle.sweep.proofs.Words.{◌≡◌, ◌<◌, ◌∷◌, length, sym, ap, ◌∙◌, vec_len, All, into_iter_items, All-rest, with_columns}
-use Rattle.sweep.proofs.Placed.{length_answers}
+use Rattle.sweep.proofs.{Words.{◌≡◌, ◌<◌, ◌∷◌, length, sym, ap, ◌∙◌, vec_len, All, into_iter_items, All-rest, with_columns}, Placed.{length_answers}}
 use Rattle.sweep.proofs.parallel.put_columns.Goals as goal
 
 pub loop-answers-preserved : goal.loop-answers-preserved

@@ -1,5 +1,4 @@
-use Rattle.sweep.proofs.Words.{fields_of}
-use Rattle.sweep.proofs.Places.{at_some, at_none}
+use Rattle.sweep.proofs.{Words.{fields_of}, Places.{at_some, at_none}}
 use Rattle.sweep.proofs.picking.field_of.Goals as goal
 
 pub returns-in-Some : goal.returns-in-Some

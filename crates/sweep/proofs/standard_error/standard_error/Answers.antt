@@ -1,6 +1,5 @@
 use Rattle.sweep.proofs.Words.{◌≡◌, ℕ, ◌+◌, ◌-◌, ◌*◌, ◌/◌, ◌%◌, ◌<◌, ◌≤◌, Bool, true, false, Some, None, ⊎_elim, zero-add, cond, nat_le, nat_lt, get_or, ap, ◌∙◌, sym, subst, refl, rules, arith, position, position_or_len, range_with_len, cases_lt, le-ltb, lt-leb, lt-ltb, get_or-range_with_len, length-range_with_len, mod_below, div-add-mod', mul-le-mul_left, position_or_len_is, reaches, standard_error}
-use Rattle.std.proofs.lemmas.Bool.{le-leb}
-use Rattle.std.specs.Int.{from_bool}
+use Rattle.{std.proofs.lemmas.Bool.{le-leb}, std.specs.Int.{from_bool}}
 use Rattle.sweep.proofs.standard_error.standard_error.Goals as goal
 
 -- of n + 1 numbers, whose sum is S and whose squares add up to Q, q is the mean and r the rest

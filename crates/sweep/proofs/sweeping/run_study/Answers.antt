@@ -1,6 +1,4 @@
-use Rattle.sweep.proofs.Words.{rules, take, IfOk-weaker, MatchResult-weaker, none_joined, numbers_of, sources_of, numbers_in}
-use Rattle.sweep.proofs.Reading.{if_err, if_any_err}
-use Rattle.sweep.proofs.Heard.{heard_none, heard_same}
+use Rattle.sweep.proofs.{Words.{rules, take, IfOk-weaker, MatchResult-weaker, none_joined, numbers_of, sources_of, numbers_in}, Reading.{if_err, if_any_err}, Heard.{heard_none, heard_same}}
 use Rattle.sweep.proofs.Ending.{breaks_at_header, wrote_study, breaks_at_points, header_refuses_none, points_refuse_none}
 use Rattle.sweep.proofs.sweeping.run_study.Goals as goal
 

@@ -1,7 +1,4 @@
-use Rattle.sweep.proofs.Words.{rules, take, IfOk-weaker, MatchResult-weaker, numbers_of, sources_of}
-use Rattle.sweep.proofs.Reading.{if_err, if_any_err}
-use Rattle.sweep.proofs.Heard.{heard_after, heard_none}
-use Rattle.sweep.proofs.Ending.{breaks_at_check}
+use Rattle.sweep.proofs.{Words.{rules, take, IfOk-weaker, MatchResult-weaker, numbers_of, sources_of}, Reading.{if_err, if_any_err}, Heard.{heard_after, heard_none}, Ending.{breaks_at_check}}
 use Rattle.sweep.proofs.sweeping.sweep.Goals as goal
 
 pub returns-in_err-check_study-clause-breaks_off : goal.returns-in_err-check_study-clause-breaks_off

@@ -1,9 +1,5 @@
 use Rattle.sweep.proofs.Words.{rules, ◌≡◌, ℕ, ◌+◌, ◌-◌, ◌*◌, ◌≤◌, length, arith, sym, ap, ◌∙◌, subst, range_with_len, mul-le-mul_right, sources_of, wrote_nothing, points, runs, runs_each, unit_count, WroteUpTo, HeardLimits, numbers_in, Memory}
-use Rattle.sweep.proofs.Reading.{if_err, if_any_err}
-use Rattle.sweep.proofs.Numbered.{point_at_end, point_below, count_each, count_order, some_each}
-use Rattle.sweep.proofs.Advancing.{wrote_none}
-use Rattle.sweep.proofs.Heard.{heard_none}
-use Rattle.sweep.proofs.Limiting.{way_begin, way_same, heard_up_to}
+use Rattle.sweep.proofs.{Reading.{if_err, if_any_err}, Numbered.{point_at_end, point_below, count_each, count_order, some_each}, Advancing.{wrote_none}, Heard.{heard_none}, Limiting.{way_begin, way_same, heard_up_to}}
 use Rattle.sweep.proofs.sweeping.write_points.Goals as goal
 
 pub loop-next-init : goal.loop-next-init

@@ -1,6 +1,5 @@
 use Rattle.trace_merge.proofs.Words.{◌≡◌, ◌<◌, ◌++◌, [], Some, map, take, ap, ◌∙◌, sym, subst, arith, min, length, All, MatchOption, unwrap_or, IsPermutation-trans, all_of, ◌+◌, slice_set, length-set, take_more_set, All-append}
-use Rattle.trace_merge.proofs.Gathering.{rest_of, one_moved, all_of-more, later_least, later_same}
-use Rattle.trace_merge.proofs.by_tick.take_tick.Goals.{in-Some, in_default}
+use Rattle.trace_merge.proofs.{Gathering.{rest_of, one_moved, all_of-more, later_least, later_same}, by_tick.take_tick.Goals.{in-Some, in_default}}
 use Rattle.trace_merge.proofs.by_tick.take_tick.Goals as goal
 
 pub loop-at-preserved : goal.loop-at-preserved

@@ -1,6 +1,4 @@
-use Rattle.trace_merge.proofs.Words.{◌≡◌, [], subst, arith, map, all_of, ⊎_elim, append-nil, IsMergeOf}
-use Rattle.trace_merge.proofs.Exists.{nothing_merges}
-use Rattle.trace_merge.proofs.Gathering.{items_of}
+use Rattle.trace_merge.proofs.{Words.{◌≡◌, [], subst, arith, map, all_of, ⊎_elim, append-nil, IsMergeOf}, Exists.{nothing_merges}, Gathering.{items_of}}
 use Rattle.trace_merge.proofs.pieces.merge.Goals as goal
 
 -- nothing is left, since no list has so many entries

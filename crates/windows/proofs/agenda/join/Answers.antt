@@ -1,5 +1,4 @@
-use Rattle.windows.proofs.Words.{◌∙◌, ◌∷◌, [], ◌<◌, ◌≤◌, ap, sym, subst, arith, Some, both, Event, Has, joined, joined_one, earlier_of, AreFrom, first_tick}
-use Rattle.windows.proofs.Agendas.{insert_past, of_joined, tick_more}
+use Rattle.windows.proofs.{Words.{◌∙◌, ◌∷◌, [], ◌<◌, ◌≤◌, ap, sym, subst, arith, Some, both, Event, Has, joined, joined_one, earlier_of, AreFrom, first_tick}, Agendas.{insert_past, of_joined, tick_more}}
 use Rattle.windows.proofs.agenda.join.Goals as goal
 
 early : (c : goal.In_ok-join) → c.args.event.0.tick < c.args.lists.now.end

@@ -1,7 +1,5 @@
-use Rattle.windows.proofs.Words.{◌∙◌, ◌++◌, [], ◌<◌, ap, append-nil, map, sym, subst, key_cmp, event_of, Has, joined, not_None, all_in, in_box, IsParted}
+use Rattle.windows.proofs.{Words.{◌∙◌, ◌++◌, [], ◌<◌, ap, append-nil, map, sym, subst, key_cmp, event_of, Has, joined, not_None, all_in, in_box, IsParted}, Agendas.{joined_moved, of_joined}, Letters.{joined_both}}
 use Rattle.std.specs.FinMap as events
-use Rattle.windows.proofs.Agendas.{joined_moved, of_joined}
-use Rattle.windows.proofs.Letters.{joined_both}
 use Rattle.windows.proofs.agenda.part.Goals as goal
 
 -- all were filed

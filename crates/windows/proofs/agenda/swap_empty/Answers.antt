@@ -1,5 +1,4 @@
-use Rattle.windows.proofs.Words.{ap, not, sym, ◌∙◌, is_some}
-use Rattle.windows.proofs.Agendas.{none_same}
+use Rattle.windows.proofs.{Words.{ap, not, sym, ◌∙◌, is_some}, Agendas.{none_same}}
 use Rattle.windows.proofs.agenda.swap_empty.Goals as goal
 
 pub returns-then-is_none : goal.returns-then-is_none

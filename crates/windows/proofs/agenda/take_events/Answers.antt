@@ -1,6 +1,5 @@
-use Rattle.windows.proofs.Words.{◌∙◌, ap, sym, joined}
+use Rattle.windows.proofs.{Words.{◌∙◌, ap, sym, joined}, Letters.{joined_both}}
 use Rattle.std.specs.FinMap as events
-use Rattle.windows.proofs.Letters.{joined_both}
 use Rattle.windows.proofs.agenda.take_events.Goals as goal
 
 pub returns : goal.returns

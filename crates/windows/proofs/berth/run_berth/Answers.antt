@@ -1,5 +1,4 @@
-use Rattle.windows.proofs.Words.{ap, ◌∙◌, with_letters}
-use Rattle.windows.proofs.Posting.{posting_opens, posted_more}
+use Rattle.windows.proofs.{Words.{ap, ◌∙◌, with_letters}, Posting.{posting_opens, posted_more}}
 use Rattle.windows.proofs.berth.run_berth.Goals as goal
 
 pub returns-clause-ran : goal.returns-clause-ran

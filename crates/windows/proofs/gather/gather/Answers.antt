@@ -1,6 +1,5 @@
 use Rattle.windows.proofs.Words.{length-append, ◌≡◌, ◌∷◌, ◌++◌, [], length, map, refl, sym, ap, ◌∙◌, subst, vec_len, arith, All, flat_map, into_iter_items, All-nil, All-push, All-same, All-head, All-tail, HandView, deques_of, IsWork, AreRun, Work, map_turn, flat_push}
-use Rattle.windows.proofs.Places.{ends}
-use Rattle.windows.proofs.Gathered.{run_none, run_joined, run_taken_as}
+use Rattle.windows.proofs.{Places.{ends}, Gathered.{run_none, run_joined, run_taken_as}}
 use Rattle.windows.proofs.gather.gather.Goals as goal
 
 pub loop-work-init : goal.loop-work-init

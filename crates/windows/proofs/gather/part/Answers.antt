@@ -1,7 +1,5 @@
-use Rattle.windows.proofs.Words.{rules, ◌≡◌, ◌∷◌, ◌++◌, [], sym, ◌∙◌, subst, IsPermutation, All-push, All-same, map-id, NoneBelow, Berth}
-use Rattle.std.proofs.lemmas.Iterator.Adapters.{YieldsList-from_vec}
-use Rattle.std.proofs.lemmas.Iterator.Consumers.{YieldsList-end}
-use Rattle.windows.proofs.Gathered.{one_put, one_idle}
+use Rattle.windows.proofs.{Words.{rules, ◌≡◌, ◌∷◌, ◌++◌, [], sym, ◌∙◌, subst, IsPermutation, All-push, All-same, map-id, NoneBelow, Berth}, Gathered.{one_put, one_idle}}
+use Rattle.std.proofs.lemmas.Iterator.{Adapters.{YieldsList-from_vec}, Consumers.{YieldsList-end}}
 use Rattle.windows.proofs.gather.part.Goals as goal
 
 pub loop-berth-preserved-in-Continue-branch-2 : goal.loop-berth-preserved-in-Continue-branch-2

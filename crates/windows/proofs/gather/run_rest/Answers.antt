@@ -1,8 +1,6 @@
 use Rattle.windows.proofs.Words.{rules, ◌≡◌, ◌++◌, ◌∷◌, [], refl, sym, ap, ◌∙◌, subst, append_assoc, append-nil, Contains, IsPermutation, All-contains, IsPermutation-refl, IsPermutation-trans, IsPermutation-append_left, RestView, all_put, SlipView, IsReady, AreRunBy}
-use Rattle.windows.proofs.Posting.{posting_opens}
-use Rattle.windows.proofs.Gathered.{run_begins}
+use Rattle.windows.proofs.{Posting.{posting_opens}, Gathered.{run_begins}, gather.run_rest.Goals.{in-None, in-Some+in_default}}
 use Rattle.windows.proofs.gather.run_rest.Goals as goal
-use Rattle.windows.proofs.gather.run_rest.Goals.{in-None, in-Some+in_default}
 
 pub loop-init : goal.loop-init
 loop-init g c =

@@ -1,6 +1,5 @@
 use Rattle.windows.proofs.Words.{setting_of, setting_sound, berths_run, windows_trace}
-use Rattle.window_laws.proofs.Exists.{any_run}
-use Rattle.window_laws.proofs.Order.{any_order, close_alike}
+use Rattle.window_laws.proofs.{Exists.{any_run}, Order.{any_order, close_alike}}
 use Rattle.windows.proofs.laws.law_any_order.Goals as goal
 
 pub returns-clause-any_order : goal.returns-clause-any_order

@@ -1,6 +1,5 @@
 use Rattle.windows.proofs.Words.{IsMergeOf, rules, ◌≡◌, ◌∙◌, eqb-false, false, ◌++◌, [], inl, inr, refl, ⊎_elim, sym, subst, arith, length, length-append, map, nil_from_length, length_permutation, ap, writes_of, all_of, nothing_merges}
-use Rattle.windows.proofs.Handed.{on_err}
-use Rattle.windows.proofs.Waiting.{merged_of, took_no_more, took_nothing, took_piece, took_whole}
+use Rattle.windows.proofs.{Handed.{on_err}, Waiting.{merged_of, took_no_more, took_nothing, took_piece, took_whole}}
 use Rattle.windows.proofs.run.hand_on.Goals as goal
 
 pub returns-in_err-merging-clause-front : goal.returns-in_err-merging-clause-front

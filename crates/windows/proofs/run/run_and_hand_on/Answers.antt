@@ -1,7 +1,5 @@
-use Rattle.windows.proofs.Words.{rules, sym, subst, inl, inr, arith}
-use Rattle.windows.specs.Inside.Closing.{HandedOn}
-use Rattle.windows.specs.declared.run.Handing.{Handing}
-use Rattle.windows.proofs.Waiting.{took_nothing}
+use Rattle.windows.proofs.{Words.{rules, sym, subst, inl, inr, arith}, Waiting.{took_nothing}}
+use Rattle.windows.specs.{Inside.Closing.{HandedOn}, declared.run.Handing.{Handing}}
 use Rattle.windows.proofs.run.run_and_hand_on.Goals as goal
 
 pub returns-clause-handed : goal.returns-clause-handed

@@ -1,5 +1,4 @@
-use Rattle.windows.proofs.Words.{◌≡◌, ◌++◌, subst, sym, ap, ◌∙◌, setting_of, IsTrace, trace_rises, setting_sound, end_to_end, Vec}
-use Rattle.windows.proofs.Handed.{kept_all}
+use Rattle.windows.proofs.{Words.{◌≡◌, ◌++◌, subst, sym, ap, ◌∙◌, setting_of, IsTrace, trace_rises, setting_sound, end_to_end, Vec}, Handed.{kept_all}}
 use Rattle.windows.proofs.run.run_windows.Goals as goal
 
 pub new-requires : goal.new-requires

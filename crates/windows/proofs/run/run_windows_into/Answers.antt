@@ -1,7 +1,5 @@
 use Rattle.windows.proofs.Words.{rules, ◌≡◌, [], ◌∙◌, refl, inl, true, false, sym, ap, subst, arith, eqb-true, eqb-false, OnErr, IfErr, Record, TookFrontOf, IsRefusal, writes_of, on_ok_weaker, IfOk-at_ok, on_err_weaker, IsOverLimit}
-use Rattle.windows.proofs.Cut.{not_of_sink}
-use Rattle.windows.proofs.Handed.{on_err}
-use Rattle.windows.proofs.Waiting.{begins, closed_so_far, few_told, front_of, front_so_far, handed, has_next, merged_of, no_parts, no_write, ran, stage_is, whole_told}
+use Rattle.windows.proofs.{Cut.{not_of_sink}, Handed.{on_err}, Waiting.{begins, closed_so_far, few_told, front_of, front_so_far, handed, has_next, merged_of, no_parts, no_write, ran, stage_is, whole_told}}
 use Rattle.windows.proofs.run.run_windows_into.Goals as goal
 
 pub returns-in_err-stage-clause-front : goal.returns-in_err-stage-clause-front

@@ -1,5 +1,4 @@
-use Rattle.windows.proofs.Words.{◌≡◌, ◌-◌}
-use Rattle.windows.proofs.Waiting.{IsUnderway}
+use Rattle.windows.proofs.{Words.{◌≡◌, ◌-◌}, Waiting.{IsUnderway}}
 use Rattle.windows.proofs.run.run_windows_into.Given as goal
 
 abbrev pub invariant-loop-stage : goal.invariant-loop-stage

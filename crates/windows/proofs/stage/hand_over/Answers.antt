@@ -1,6 +1,5 @@
 use Rattle.windows.proofs.Words.{◌≡◌, ◌∷◌, ◌++◌, [], length, map, ap, sym, ◌∙◌, subst, arith, append-nil, append_assoc, Vec, All, into_iter_items, nil_from_length, All-head, All-nil, All-same, All-tail, map_push, map_turn, event_of, joined, AreOne, delivered, kept_in, Berth}
-use Rattle.process_api.specs.declared.entry.Entry.{Entry}
-use Rattle.windows.proofs.Places.{ends, opens}
+use Rattle.{windows.proofs.Places.{ends, opens}, process_api.specs.declared.entry.Entry.{Entry}}
 use Rattle.windows.proofs.stage.hand_over.Goals as goal
 
 pub loop-berth-init : goal.loop-berth-init

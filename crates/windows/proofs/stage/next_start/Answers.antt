@@ -1,5 +1,4 @@
-use Rattle.windows.proofs.Words.{rules, ◌≡◌, ◌+◌, ◌++◌, ◌∷◌, [], map, ap, sym, subst, ◌∙◌, take, min, take_more, map-append, Events, IsNextStart, Berth}
-use Rattle.windows.proofs.Agendas.{none_pending, one_empty, one_pending}
+use Rattle.windows.proofs.{Words.{rules, ◌≡◌, ◌+◌, ◌++◌, ◌∷◌, [], map, ap, sym, subst, ◌∙◌, take, min, take_more, map-append, Events, IsNextStart, Berth}, Agendas.{none_pending, one_empty, one_pending}}
 use Rattle.windows.proofs.stage.next_start.Goals.{in-Some, in_default}
 use Rattle.windows.proofs.stage.next_start.Goals as goal
 

@@ -1,5 +1,4 @@
-use Rattle.windows.proofs.Words.{rules, ◌≡◌, map, sym, ap, ◌∙◌, subst, All-weaker, deques_of, all_put, IsOneTooLong, IsWorkIn, Work, AreReady, given_to, BringsTogether}
-use Rattle.windows.proofs.Gathered.{run_of_parts}
+use Rattle.windows.proofs.{Words.{rules, ◌≡◌, map, sym, ap, ◌∙◌, subst, All-weaker, deques_of, all_put, IsOneTooLong, IsWorkIn, Work, AreReady, given_to, BringsTogether}, Gathered.{run_of_parts}}
 use Rattle.windows.proofs.window.bring_together.Goals as goal
 
 pub gather-requires : goal.gather-requires

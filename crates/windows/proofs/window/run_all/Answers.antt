@@ -1,5 +1,4 @@
-use Rattle.windows.proofs.Words.{rules, arith, length, sym, ap, ◌∙◌, subst, All, own_of, IsSlipOf, Berth, IsNonDecreasingBy-from_sort_by_key, IsCountOfWorkers}
-use Rattle.windows.proofs.Gathered.{outcome}
+use Rattle.windows.proofs.{Words.{rules, arith, length, sym, ap, ◌∙◌, subst, All, own_of, IsSlipOf, Berth, IsNonDecreasingBy-from_sort_by_key, IsCountOfWorkers}, Gathered.{outcome}}
 use Rattle.windows.proofs.window.run_all.Goals as goal
 
 pub returns-in_err-done-clause-limit : goal.returns-in_err-done-clause-limit

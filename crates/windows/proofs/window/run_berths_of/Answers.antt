@@ -1,5 +1,4 @@
-use Rattle.windows.proofs.Words.{rules, ap, sym, ◌∙◌, subst, min, length, arith, length-map, All-permutation, all_put, deques_of, AreReady, IsOneTooLong, IsReady, Start}
-use Rattle.windows.proofs.Gathered.{all_dealt, fresh_at, long_dealt, run_at, run_with_idle}
+use Rattle.windows.proofs.{Words.{rules, ap, sym, ◌∙◌, subst, min, length, arith, length-map, All-permutation, all_put, deques_of, AreReady, IsOneTooLong, IsReady, Start}, Gathered.{all_dealt, fresh_at, long_dealt, run_at, run_with_idle}}
 use Rattle.windows.proofs.window.run_berths_of.Goals as goal
 
 pub in_threads-works-requires-clause-starts : goal.in_threads-works-requires-clause-starts

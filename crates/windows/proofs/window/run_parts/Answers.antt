@@ -1,6 +1,5 @@
 use Rattle.windows.proofs.Words.{inr, rules, ◌≡◌, ◌+◌, ◌-◌, min, sym, ap, ◌∙◌, subst, arith, Vec, All, Record, setting_of, own_of, end_of, IsReady, RiseBy, HasLong, Berth, IfOk-weaker, IsOutcome, IsCountOfWorkers}
-use Rattle.windows.proofs.Closing.{stage_ready, stage_rises, long_limit, outcome_many, outcome_one, outcome_limit, next_window}
-use Rattle.windows.proofs.Refused.{one_refused}
+use Rattle.windows.proofs.{Closing.{stage_ready, stage_rises, long_limit, outcome_many, outcome_one, outcome_limit, next_window}, Refused.{one_refused}}
 use Rattle.windows.proofs.window.run_parts.Goals as goal
 
 -- what holds of three things holds of those that equal them

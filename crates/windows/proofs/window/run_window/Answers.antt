@@ -1,5 +1,4 @@
-use Rattle.windows.proofs.Words.{IfOk-weaker}
-use Rattle.windows.proofs.Waiting.{merged_ok}
+use Rattle.windows.proofs.{Words.{IfOk-weaker}, Waiting.{merged_ok}}
 use Rattle.windows.proofs.window.run_window.Goals as goal
 
 pub returns-clause-stage : goal.returns-clause-stage

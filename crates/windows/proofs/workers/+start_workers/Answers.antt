@@ -1,5 +1,4 @@
-use Rattle.windows.proofs.Words.{◌≡◌, IfOk, subst, IfSome, All-pop, IsStart}
-use Rattle.windows.proofs.Joined.{popped, answer_at, answers_more}
+use Rattle.windows.proofs.{Words.{◌≡◌, IfOk, subst, IfSome, All-pop, IsStart}, Joined.{popped, answer_at, answers_more}}
 use Rattle.windows.proofs.workers.+start_workers.Goals as goal
 
 pub start_worker-requires-after_bounds : goal.start_worker-requires-after_bounds

@@ -1,5 +1,4 @@
-use Rattle.windows.proofs.Words.{rules}
-use Rattle.windows.proofs.Refused.{last_of}
+use Rattle.windows.proofs.{Words.{rules}, Refused.{last_of}}
 use Rattle.windows.proofs.workers.all_works.Goals as goal
 
 pub returns-in_err-push-clause-err : goal.returns-in_err-push-clause-err

@@ -1,9 +1,6 @@
-use Rattle.windows.proofs.Words.{IfOk-from_err, rules, ◌≡◌, refl, sym, ap, ◌∙◌, subst, Contains, All-contains, HandView, SlipView, IsWorkBy, IsReady, Berth}
-use Rattle.windows.proofs.Posting.{posting_opens}
-use Rattle.windows.proofs.Gathered.{work_begins, work_more}
-use Rattle.windows.proofs.Refused.{memory_alone, not_err}
+use Rattle.windows.proofs.{Words.{IfOk-from_err, rules, ◌≡◌, refl, sym, ap, ◌∙◌, subst, Contains, All-contains, HandView, SlipView, IsWorkBy, IsReady, Berth}, Posting.{posting_opens}, Gathered.{work_begins, work_more}}
+use Rattle.windows.proofs.{Refused.{memory_alone, not_err}, workers.run_berths.Goals.{in-None, in-Some+in_default}}
 use Rattle.windows.proofs.workers.run_berths.Goals as goal
-use Rattle.windows.proofs.workers.run_berths.Goals.{in-None, in-Some+in_default}
 
 pub loop-init : goal.loop-init
 loop-init g c =

@@ -1,6 +1,4 @@
-use Rattle.windows.proofs.Words.{rules, refl, subst, ◌∙◌, ◌++◌, ◌∷◌, [], IsStay, stay}
-use Rattle.windows.proofs.Posting.{posting_more, posted_more, all_posted}
-use Rattle.windows.proofs.Gathered.{run_more}
+use Rattle.windows.proofs.{Words.{rules, refl, subst, ◌∙◌, ◌++◌, ◌∷◌, [], IsStay, stay}, Posting.{posting_more, posted_more, all_posted}, Gathered.{run_more}}
 use Rattle.windows.proofs.workers.run_taken.Goals as goal
 
 pub returns-then-saturating_mul-lt-MANY_LETTERS-clause-ran : goal.returns-then-saturating_mul-lt-MANY_LETTERS-clause-ran

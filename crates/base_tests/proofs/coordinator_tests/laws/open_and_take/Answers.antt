@@ -1,5 +1,4 @@
-use Rattle.std.proofs.Common.{length, ap, sym, subst, arith}
-use Rattle.std.proofs.lemmas.List.{length-append}
+use Rattle.std.proofs.{Common.{length, ap, sym, subst, arith}, lemmas.List.{length-append}}
 use Rattle.std.specs.FinSet as set
 use Rattle.process_api.specs.Coordinator.{Coordinator, step_coordinator}
 use Rattle.consensus_es.specs.State.{IsOrderly, state_of}

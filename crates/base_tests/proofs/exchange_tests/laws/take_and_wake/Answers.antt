@@ -1,18 +1,10 @@
 use Rattle.std.proofs.Common.{◌≡◌, ◌∙◌, ◌++◌, IsTrue, List, ap, sym, subst, append-nil}
 use Rattle.std.specs.FinSet as set
-use Rattle.process_api.specs.Answer.{Answer, still}
-use Rattle.process_api.specs.ConsensusS.{Exchange, step_exchange}
-use Rattle.process_api.specs.Mind.{AlgorithmState, Exchanging, leaves_out}
-use Rattle.process_api.specs.Place.{Place}
-use Rattle.process_api.specs.React.{react_algorithm}
-use Rattle.process_api.specs.Sets.{Processes}
-use Rattle.process_api.specs.declared.action.Action.{Action}
-use Rattle.process_api.specs.declared.message.StepInput.{StepInput}
+use Rattle.process_api.specs.{Answer.{Answer, still}, ConsensusS.{Exchange, step_exchange}, Mind.{AlgorithmState, Exchanging, leaves_out}, Place.{Place}, React.{react_algorithm}, Sets.{Processes}}
+use Rattle.process_api.specs.declared.{action.Action.{Action}, message.{StepInput.{StepInput}, Tag.{Tag}}}
 use Rattle.process_api.specs.declared.message.StepInput.TheVariants as input
-use Rattle.process_api.specs.declared.message.Tag.{Tag}
 use Rattle.process_api.specs.declared.message.Tag.TheVariants as tag
-use Rattle.consensus_s.specs.State.{RestsSettled, SettlesAlways}
-use Rattle.base_tests.specs.Settled.{IsSettled}
+use Rattle.{consensus_s.specs.State.{RestsSettled, SettlesAlways}, base_tests.specs.Settled.{IsSettled}}
 use Rattle.base_tests.proofs.exchange_tests.laws.take_and_wake.Goals as goal
 
 module _ (place : Place) (s : Exchange) (x : StepInput) (suspects : Processes) (a : AlgorithmState) (is : a ≡ (react_algorithm (Exchanging place s) x suspects).state) where

@@ -1,5 +1,4 @@
-use Rattle.std.proofs.Common.{ap, not}
-use Rattle.std.specs.FinSet.{contains-empty}
+use Rattle.{std.proofs.Common.{ap, not}, std.specs.FinSet.{contains-empty}}
 use Rattle.base_tests.proofs.exchange_tests.laws.waits_settle.Goals as goal
 
 pub take_and_wake-taken-requires : goal.take_and_wake-taken-requires

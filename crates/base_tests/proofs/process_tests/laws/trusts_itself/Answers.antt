@@ -1,7 +1,6 @@
 use Rattle.std.proofs.Common.{◌≡◌, ◌⊎◌, inl, inr, refl, sym, ◌∙◌, true, false, true≢false}
 use Rattle.std.specs.FinSet as set
-use Rattle.process_api.specs.Detector.{suspected_by, step_detector}
-use Rattle.process_api.specs.Place.{is_other}
+use Rattle.process_api.specs.{Detector.{suspected_by, step_detector}, Place.{is_other}}
 use Rattle.process_api.proofs.Keeping.{apart_from_itself}
 use Rattle.base_tests.proofs.process_tests.laws.trusts_itself.Goals as goal
 

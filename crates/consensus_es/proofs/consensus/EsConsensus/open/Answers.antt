@@ -1,5 +1,4 @@
-use Rattle.consensus_es.proofs.Words.{subst, sym, IsOrderly}
-use Rattle.consensus_es.proofs.Bound.{opening_orderly}
+use Rattle.consensus_es.proofs.{Words.{subst, sym, IsOrderly}, Bound.{opening_orderly}}
 use Rattle.consensus_es.proofs.consensus.EsConsensus.open.Goals as goal
 
 pub invariant_of-result : goal.invariant_of-result

@@ -1,10 +1,8 @@
-use Rattle.consensus_es.proofs.Words.{ap, subst, sym, length, arith, step_coordinator, IsOrderly, state_of, not-true}
+use Rattle.consensus_es.proofs.{Words.{ap, subst, sym, length, arith, step_coordinator, IsOrderly, state_of, not-true}, Bound.{same_itself, step_few, within}}
 use Rattle.std.specs.FinSet as set
 use Rattle.process_api.proofs.Allowed.{algorithm_allowed}
-use Rattle.process_api.specs.Mind.{Coordinating}
-use Rattle.process_api.specs.React.{react_algorithm}
+use Rattle.process_api.specs.{Mind.{Coordinating}, React.{react_algorithm}}
 use Rattle.consensus_es.specs.Inside.Steps.{place_of, algorithm_of}
-use Rattle.consensus_es.proofs.Bound.{same_itself, step_few, within}
 use Rattle.consensus_es.proofs.consensus.EsConsensusAlgorithm.take.Goals as goal
 
 pub invariant_of-self : goal.invariant_of-self

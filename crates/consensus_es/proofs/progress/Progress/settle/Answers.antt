@@ -1,6 +1,5 @@
-use Rattle.consensus_es.proofs.Words.{subst, sym, cond, ◌+◌, ◌<◌, waits_left, state_of}
+use Rattle.consensus_es.proofs.{Words.{subst, sym, cond, ◌+◌, ◌<◌, waits_left, state_of}, Settling.{Going, going_on, going_fewer, gone}}
 use Rattle.std.specs.FinSet as set
-use Rattle.consensus_es.proofs.Settling.{Going, going_on, going_fewer, gone}
 use Rattle.consensus_es.proofs.progress.Progress.settle.Goals as goal
 
 pub loop-more-preserved : goal.loop-more-preserved

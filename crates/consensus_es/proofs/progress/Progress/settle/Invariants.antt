@@ -1,6 +1,5 @@
-use Rattle.consensus_es.proofs.Words.{◌+◌, cond, waits_left, state_of}
+use Rattle.consensus_es.proofs.{Words.{◌+◌, cond, waits_left, state_of}, Settling.{Going}}
 use Rattle.std.specs.FinSet as set
-use Rattle.consensus_es.proofs.Settling.{Going}
 use Rattle.consensus_es.proofs.progress.Progress.settle.Given as goal
 
 abbrev pub invariant-loop-more : goal.invariant-loop-more

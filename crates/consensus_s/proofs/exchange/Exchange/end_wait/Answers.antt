@@ -1,6 +1,5 @@
-use Rattle.consensus_s.proofs.Words.{◌∙◌, ◌+◌, ap, sym, arith, lt-ltb, on_ok_weaker, enter, exchange_of}
+use Rattle.consensus_s.proofs.{Words.{◌∙◌, ◌+◌, ap, sym, arith, lt-ltb, on_ok_weaker, enter, exchange_of}, Settled.{ends_round}}
 use Rattle.std.specs.FinSet as set
-use Rattle.consensus_s.proofs.Settled.{ends_round}
 use Rattle.consensus_s.proofs.exchange.Exchange.end_wait.Goals as goal
 
 pub returns-in_ok-gather-clause-state : goal.returns-in_ok-gather-clause-state

@@ -1,6 +1,5 @@
-use Rattle.consensus_s.proofs.Words.{◌≡◌, ◌≤◌, ℕ, sym, subst, arith, on_ok_weaker, exchange_of, IsOrderly}
+use Rattle.consensus_s.proofs.{Words.{◌≡◌, ◌≤◌, ℕ, sym, subst, arith, on_ok_weaker, exchange_of, IsOrderly}, Settled.{steps, acts, stays_orderly, few_actions}}
 use Rattle.std.specs.FinSet as set
-use Rattle.consensus_s.proofs.Settled.{steps, acts, stays_orderly, few_actions}
 use Rattle.consensus_s.proofs.exchange.Exchange.step.Goals as goal
 
 own_is : (own number : ℕ) → number ≡ own → 1 ≤ number → 1 ≤ own

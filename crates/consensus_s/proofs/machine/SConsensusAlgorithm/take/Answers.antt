@@ -1,9 +1,7 @@
 use Rattle.std.proofs.lemmas.List.Elements.{All-from_recursion}
 use Rattle.std.specs.FinSet as set
 use Rattle.process_api.proofs.Allowed.{exchange_allowed}
-use Rattle.process_api.specs.Answer.{IsAllowed}
-use Rattle.process_api.specs.React.{react_algorithm}
-use Rattle.consensus_s.specs.State.{exchange_of}
+use Rattle.{process_api.specs.{Answer.{IsAllowed}, React.{react_algorithm}}, consensus_s.specs.State.{exchange_of}}
 use Rattle.consensus_s.proofs.machine.SConsensusAlgorithm.take.Goals as goal
 
 pub returns-in-Ok-clause-allowed : goal.returns-in-Ok-clause-allowed

@@ -1,5 +1,4 @@
-use Rattle.deques.proofs.Words.{◌≡◌, sym, ap, ◌∙◌, subst, map, length, IfOk, Vec, All, length-map, All-weaker, HandView, dealt_of, many_out, blank, HasTold, AreBlank, IsDealt}
-use Rattle.deques.proofs.Deals.{have_told, are_blank, many_dealt}
+use Rattle.deques.proofs.{Words.{◌≡◌, sym, ap, ◌∙◌, subst, map, length, IfOk, Vec, All, length-map, All-weaker, HandView, dealt_of, many_out, blank, HasTold, AreBlank, IsDealt}, Deals.{have_told, are_blank, many_dealt}}
 use Rattle.deques.proofs.dealing.Dealer.hands.Goals as goal
 
 pub hands_of-requires : goal.hands_of-requires

@@ -1,5 +1,4 @@
-use Rattle.deques.proofs.Words.{rules, ◌≡◌, [], ◌∷◌, ◌++◌, length, map, sym, ap, ◌∙◌, arith, map-append, length-map, All-same, All-push, All-map, OwnerView, Dealt, dealt_of}
-use Rattle.deques.proofs.Deals.{New, deque_of, dealt_deques}
+use Rattle.deques.proofs.{Words.{rules, ◌≡◌, [], ◌∷◌, ◌++◌, length, map, sym, ap, ◌∙◌, arith, map-append, length-map, All-same, All-push, All-map, OwnerView, Dealt, dealt_of}, Deals.{New, deque_of, dealt_deques}}
 use Rattle.deques.proofs.dealing.Dealer.open.Goals as goal
 
 pub loop-preserved : goal.loop-preserved

@@ -1,6 +1,5 @@
-use Rattle.deques.proofs.Words.{length-map, ◌≡◌, ◌<◌, ◌++◌, ◌∷◌, [], None, length, sym, ap, ◌∙◌, subst, owner_of, dealt_of, with_item}
+use Rattle.deques.proofs.{Words.{length-map, ◌≡◌, ◌<◌, ◌++◌, ◌∷◌, [], None, length, sym, ap, ◌∙◌, subst, owner_of, dealt_of, with_item}, Deals.{put_is}}
 use Rattle.std.proofs.lemmas.Result.{on_ok_weaker}
-use Rattle.deques.proofs.Deals.{put_is}
 use Rattle.deques.proofs.dealing.Dealer.put.Goals as goal
 
 pub returns : goal.returns

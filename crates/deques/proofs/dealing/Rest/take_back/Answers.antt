@@ -1,5 +1,4 @@
-use Rattle.deques.proofs.Words.{◌≡◌, ◌-◌, refl, sym, ap, ◌∙◌, subst, map, flat_map, RestView, deques_of, CameBack}
-use Rattle.deques.proofs.Deals.{from_deque, deque_of, stolen_by, dealt_deques, rest_at, came_back, counts_back}
+use Rattle.deques.proofs.{Words.{◌≡◌, ◌-◌, refl, sym, ap, ◌∙◌, subst, map, flat_map, RestView, deques_of, CameBack}, Deals.{from_deque, deque_of, stolen_by, dealt_deques, rest_at, came_back, counts_back}}
 use Rattle.deques.proofs.dealing.Rest.take_back.Goals as goal
 
 pub take_all_back-requires-clause-deques : goal.take_all_back-requires-clause-deques

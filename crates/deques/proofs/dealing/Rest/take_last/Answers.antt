@@ -1,5 +1,4 @@
-use Rattle.deques.proofs.Words.{rules, ◌≡◌, ◌<◌, ◌≤◌, refl, sym, ap, ◌∙◌, subst, get_or, set, length, IsPermutation, set-get_or, All-get_or, RestView, all_put, TookLast}
-use Rattle.deques.proofs.Deals.{Counts, rest_at, took_last, emptied_more, emptied_all}
+use Rattle.deques.proofs.{Words.{rules, ◌≡◌, ◌<◌, ◌≤◌, refl, sym, ap, ◌∙◌, subst, get_or, set, length, IsPermutation, set-get_or, All-get_or, RestView, all_put, TookLast}, Deals.{Counts, rest_at, took_last, emptied_more, emptied_all}}
 use Rattle.deques.proofs.dealing.Rest.take_last.Goals as goal
 
 pub returns-in-Some : goal.returns-in-Some

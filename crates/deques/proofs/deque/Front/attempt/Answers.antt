@@ -1,5 +1,4 @@
-use Rattle.deques.proofs.Words.{ap, Account}
-use Rattle.deques.proofs.Dealings.{taken_one, live_permit, stole}
+use Rattle.deques.proofs.{Words.{ap, Account}, Dealings.{taken_one, live_permit, stole}}
 use Rattle.deques.proofs.deque.Front.attempt.Goals as goal
 
 pub steal_as-requires-clause-takes : goal.steal_as-requires-clause-takes

@@ -1,5 +1,4 @@
-use Rattle.ledger.proofs.Ledgers.{told}
-use Rattle.deques.proofs.Dealings.{may_tell}
+use Rattle.{ledger.proofs.Ledgers.{told}, deques.proofs.Dealings.{may_tell}}
 use Rattle.deques.proofs.deque.Owner.permit.Goals as goal
 
 pub another-pass-requires : goal.another-pass-requires

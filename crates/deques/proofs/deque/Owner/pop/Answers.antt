@@ -1,5 +1,4 @@
-use Rattle.deques.proofs.Words.{[], learns}
-use Rattle.deques.proofs.Dealings.{taken_one, popped}
+use Rattle.deques.proofs.{Words.{[], learns}, Dealings.{taken_one, popped}}
 use Rattle.deques.proofs.deque.Owner.pop.Goals as goal
 
 pub pop_as-requires-clause-fifo : goal.pop_as-requires-clause-fifo

@@ -1,5 +1,4 @@
-use Rattle.deques.proofs.Words.{◌≡◌, ◌<◌, ◌+◌, ◌%◌, ℕ, List, sym, ap, ◌∙◌, subst, length, map, set, arith, mod_below, length-map, map-id, parts_agree, OwnerView, HandView, PermitView, hand_at, TookOne}
-use Rattle.deques.proofs.Dealings.{hand_stole, known_same}
+use Rattle.deques.proofs.{Words.{◌≡◌, ◌<◌, ◌+◌, ◌%◌, ℕ, List, sym, ap, ◌∙◌, subst, length, map, set, arith, mod_below, length-map, map-id, parts_agree, OwnerView, HandView, PermitView, hand_at, TookOne}, Dealings.{hand_stole, known_same}}
 use Rattle.deques.proofs.Deals.{holds_still, known_in}
 use Rattle.deques.proofs.hand.Hand.steal.Goals as goal
 

@@ -1,5 +1,4 @@
-use Rattle.deques.proofs.Words.{subst, hand_at, TookOne}
-use Rattle.deques.proofs.Dealings.{hand_popped}
+use Rattle.deques.proofs.{Words.{subst, hand_at, TookOne}, Dealings.{hand_popped}}
 use Rattle.deques.proofs.hand.Hand.take.Goals as goal
 
 pub returns-in-Some : goal.returns-in-Some

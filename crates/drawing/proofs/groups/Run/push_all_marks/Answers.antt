@@ -1,5 +1,4 @@
-use Rattle.drawing.proofs.Words.{◌++◌, arith, ap, take_all, placeless, marks_in}
-use Rattle.drawing.proofs.LineShapes.{all_told, told_at}
+use Rattle.drawing.proofs.{Words.{◌++◌, arith, ap, take_all, placeless, marks_in}, LineShapes.{all_told, told_at}}
 use Rattle.drawing.proofs.groups.Run.push_all_marks.Goals as goal
 
 pub push_marks-requires : goal.push_marks-requires

@@ -1,6 +1,5 @@
 use Rattle.drawing.proofs.Words.{◌≡◌, ◌∙◌, ◌-◌, ◌++◌, suc, sym, ap, subst, arith, flat_map, numbers_to, others, AreRowsOf, absent, has_row_in, pair_in, group_of, bands_in, group_bands_of, own_of, group_height, group_shapes, group_bands}
-use Rattle.drawing.proofs.Counting.{groups_more, sum_more}
-use Rattle.drawing.proofs.Joining.{numbers_more}
+use Rattle.drawing.proofs.{Counting.{groups_more, sum_more}, Joining.{numbers_more}}
 use Rattle.drawing.proofs.groups.Run.push_group.Goals as goal
 
 pub returns : goal.returns

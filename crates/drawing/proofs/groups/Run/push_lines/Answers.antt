@@ -1,5 +1,4 @@
-use Rattle.drawing.proofs.Words.{◌++◌, arith, ap, take_all, placeless, own_of, own_top}
-use Rattle.drawing.proofs.LineShapes.{all_told, told_at}
+use Rattle.drawing.proofs.{Words.{◌++◌, arith, ap, take_all, placeless, own_of, own_top}, LineShapes.{all_told, told_at}}
 use Rattle.drawing.proofs.groups.Run.push_lines.Goals as goal
 
 pub push_own-requires-clause-told : goal.push_own-requires-clause-told

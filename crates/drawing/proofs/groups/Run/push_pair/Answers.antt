@@ -1,5 +1,4 @@
-use Rattle.drawing.proofs.Words.{◌∙◌, ◌++◌, sym, ap, arith, eqb-false, bands, pair_of}
-use Rattle.drawing.proofs.RowShapes.{shown_same, with_row, without_row}
+use Rattle.drawing.proofs.{Words.{◌∙◌, ◌++◌, sym, ap, arith, eqb-false, bands, pair_of}, RowShapes.{shown_same, with_row, without_row}}
 use Rattle.drawing.proofs.groups.Run.push_pair.Goals as goal
 
 pub returns-then-not-is_shown : goal.returns-then-not-is_shown

@@ -1,7 +1,5 @@
-use Rattle.drawing.proofs.Words.{◌≡◌, ◌≢◌, ◌+◌, refl, arith, append-nil, append_assoc, flat_map-append}
-use Rattle.drawing.proofs.Counting.{others_itself, others_other}
+use Rattle.drawing.proofs.{Words.{◌≡◌, ◌≢◌, ◌+◌, refl, arith, append-nil, append_assoc, flat_map-append}, Counting.{others_itself, others_other}, groups.Run.push_turns.Goals.{then-ne+in_ok-push_pair_turns, else-ne}}
 use Rattle.drawing.proofs.groups.Run.push_turns.Goals as goal
-use Rattle.drawing.proofs.groups.Run.push_turns.Goals.{then-ne+in_ok-push_pair_turns, else-ne}
 
 pub loop-before-preserved : goal.loop-before-preserved
 loop-before-preserved c =

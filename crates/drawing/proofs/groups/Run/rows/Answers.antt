@@ -1,6 +1,4 @@
-use Rattle.drawing.proofs.Words.{◌≡◌, ◌∙◌, ◌+◌, ◌-◌, refl, subst, arith, ap, length, length-outcomes, AreRows, has_row_in, placeless, groups_bottom}
-use Rattle.drawing.proofs.Counting.{groups_low}
-use Rattle.drawing.proofs.LineShapes.{told_at}
+use Rattle.drawing.proofs.{Words.{◌≡◌, ◌∙◌, ◌+◌, ◌-◌, refl, subst, arith, ap, length, length-outcomes, AreRows, has_row_in, placeless, groups_bottom}, Counting.{groups_low}, LineShapes.{told_at}}
 use Rattle.drawing.proofs.groups.Run.rows.Goals as goal
 
 pub push_group-requires : goal.push_group-requires

@@ -1,7 +1,5 @@
-use Rattle.drawing.proofs.Words.{◌∙◌, sym, ap, false, passed_by, Sweep}
-use Rattle.drawing.proofs.Sweeping.{closed}
+use Rattle.drawing.proofs.{Words.{◌∙◌, sym, ap, false, passed_by, Sweep}, Sweeping.{closed}, sweep.Sweep.close.Goals.{in-Some+in_ok-push, in_default}}
 use Rattle.drawing.proofs.sweep.Sweep.close.Goals as goal
-use Rattle.drawing.proofs.sweep.Sweep.close.Goals.{in-Some+in_ok-push, in_default}
 
 pub returns : goal.returns
 returns c test from h l =

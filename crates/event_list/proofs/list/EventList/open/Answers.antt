@@ -1,5 +1,4 @@
-use Rattle.event_list.proofs.Words.{length, map, ap, ◌∙◌, arith, length-map, numbers_to, opening_mind, process_of, opened, starts, machines_open, length-numbers_to}
-use Rattle.event_list.proofs.Opening.{opening_stands}
+use Rattle.event_list.proofs.{Words.{length, map, ap, ◌∙◌, arith, length-map, numbers_to, opening_mind, process_of, opened, starts, machines_open, length-numbers_to}, Opening.{opening_stands}}
 use Rattle.event_list.proofs.list.EventList.open.Goals as goal
 
 pub seats_of-requires-after_bounds : goal.seats_of-requires-after_bounds

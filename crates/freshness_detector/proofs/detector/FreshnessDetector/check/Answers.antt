@@ -1,8 +1,7 @@
-use Rattle.freshness_detector.proofs.Words.{◌++◌, ap, ◌∙◌, append_assoc, map, changes, place_of, state_of, checked_by, suspected_at, noted_by, next_check_of}
+use Rattle.freshness_detector.proofs.{Words.{◌++◌, ap, ◌∙◌, append_assoc, map, changes, place_of, state_of, checked_by, suspected_at, noted_by, next_check_of}, Points.{same_suspects}}
 use Rattle.std.proofs.lemmas.Result.{on_ok_weaker}
 use Rattle.std.specs.FinSet as set
 use Rattle.process_api.specs.declared.action.Action.TheVariants.{Note}
-use Rattle.freshness_detector.proofs.Points.{same_suspects}
 use Rattle.freshness_detector.proofs.detector.FreshnessDetector.check.Goals as goal
 
 pub returns-clause-actions : goal.returns-clause-actions

@@ -1,9 +1,8 @@
 use Rattle.freshness_detector.proofs.Words.{◌≡◌, ◌<◌, ℕ, ◌++◌, ap, sym, ◌∙◌, append-nil, ◌≤◌, Option, None, true, false, ◌||◌, nat_le, length, slice_index_or, slice_set, arith, and_parts, get_or_default, option_map_or, suspected, is_process, place_of, state_by, state_of, heard_by}
+use Rattle.freshness_detector.proofs.{Points.{left_members, left_notes, kept_members, kept_notes}, Tables.{heard_tables}}
 use Rattle.std.specs.FinSet as set
 use Rattle.process_api.specs.Place.{is_other}
 use Rattle.freshness_detector.specs.declared.detector.FreshnessDetector.{FreshnessDetector}
-use Rattle.freshness_detector.proofs.Points.{left_members, left_notes, kept_members, kept_notes}
-use Rattle.freshness_detector.proofs.Tables.{heard_tables}
 use Rattle.freshness_detector.proofs.detector.FreshnessDetector.hear.Goals as goal
 
 -- what the table stands for once its place is written

@@ -1,7 +1,6 @@
-use Rattle.freshness_detector.proofs.Words.{refl, ap, subst, ◌∙◌, place_of, state_by}
+use Rattle.freshness_detector.proofs.{Words.{refl, ap, subst, ◌∙◌, place_of, state_by}, Points.{opens_with_nobody}}
 use Rattle.std.specs.FinSet as set
 use Rattle.scenario_record.specs.Ranges.{AreInRange}
-use Rattle.freshness_detector.proofs.Points.{opens_with_nobody}
 use Rattle.freshness_detector.proofs.detector.FreshnessDetector.open.Goals as goal
 
 pub invariant_of-result-clause-ranges : goal.invariant_of-result-clause-ranges

@@ -1,7 +1,6 @@
-use Rattle.freshness_detector.proofs.Words.{◌≡◌, ℕ, ◌+◌, Bool, sym, ap, ◌∙◌, cond-true, cond-false, insert_all-next, is_stale_at}
+use Rattle.freshness_detector.proofs.{Words.{◌≡◌, ℕ, ◌+◌, Bool, sym, ap, ◌∙◌, cond-true, cond-false, insert_all-next, is_stale_at}, detector.FreshnessDetector.suspects_at.Goals.{then-is_stale, else-is_stale}}
 use Rattle.std.specs.FinSet as set
 use Rattle.freshness_detector.proofs.detector.FreshnessDetector.suspects_at.Goals as goal
-use Rattle.freshness_detector.proofs.detector.FreshnessDetector.suspects_at.Goals.{then-is_stale, else-is_stale}
 
 pub loop-before-preserved : goal.loop-before-preserved
 loop-before-preserved c =

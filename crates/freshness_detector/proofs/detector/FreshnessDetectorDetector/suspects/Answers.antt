@@ -1,5 +1,4 @@
-use Rattle.freshness_detector.proofs.Words.{◌∙◌, place_of, state_of}
-use Rattle.freshness_detector.proofs.Points.{same_suspects, not_itself}
+use Rattle.freshness_detector.proofs.{Words.{◌∙◌, place_of, state_of}, Points.{same_suspects, not_itself}}
 use Rattle.freshness_detector.proofs.detector.FreshnessDetectorDetector.suspects.Goals as goal
 
 pub returns-clause-value : goal.returns-clause-value

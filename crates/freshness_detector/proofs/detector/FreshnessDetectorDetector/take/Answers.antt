@@ -1,5 +1,4 @@
-use Rattle.freshness_detector.proofs.Words.{subst, arith, suspected, place_of, state_of}
-use Rattle.std.specs.Prelude.{IsTrue}
+use Rattle.{freshness_detector.proofs.Words.{subst, arith, suspected, place_of, state_of}, std.specs.Prelude.{IsTrue}}
 use Rattle.process_api.proofs.DetectorLaws.{base_allowed, base_few, base_changes}
 use Rattle.process_api.specs.Detector.{ByFreshness, opening_detector, has_pauses, step_detector}
 use Rattle.scenario_record.proofs.DetectorFacts.{opens_paced}

@@ -1,5 +1,4 @@
-use Rattle.judges.proofs.Words.{◌≡◌, ◌∙◌, [], ap, sym, arith, vec_len, eqb-true, nil_from_length, EntryRecord}
-use Rattle.judges.proofs.Outcoming.{outcomes_quiet}
+use Rattle.judges.proofs.{Words.{◌≡◌, ◌∙◌, [], ap, sym, arith, vec_len, eqb-true, nil_from_length, EntryRecord}, Outcoming.{outcomes_quiet}}
 use Rattle.judges.proofs.outcomes.RunningOutcomesFollower.follow.Goals as goal
 
 pub returns-then-is_empty : goal.returns-then-is_empty

@@ -1,5 +1,4 @@
-use Rattle.judges.proofs.Words.{[], cond, eqb, ap, subst, arith, EntryRecord, AreTurned, noted_turns}
-use Rattle.judges.proofs.Entering.{pairs_fed, pairs_late}
+use Rattle.judges.proofs.{Words.{[], cond, eqb, ap, subst, arith, EntryRecord, AreTurned, noted_turns}, Entering.{pairs_fed, pairs_late}}
 use Rattle.judges.proofs.pairs.Pairs.feed.Goals as goal
 
 pub returns-then-entry-self : goal.returns-then-entry-self

@@ -1,5 +1,4 @@
-use Rattle.judges.proofs.Words.{refl, sym, subst, arith, AreEnds}
-use Rattle.judges.proofs.Entering.{pairs_opened}
+use Rattle.judges.proofs.{Words.{refl, sym, subst, arith, AreEnds}, Entering.{pairs_opened}}
 use Rattle.judges.proofs.pairs.Pairs.open.Goals as goal
 
 pub returns : goal.returns

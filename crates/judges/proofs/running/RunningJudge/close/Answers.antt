@@ -1,5 +1,4 @@
-use Rattle.judges.proofs.Words.{◌∙◌, refl, new_track, passed}
-use Rattle.judges.proofs.Closing.{judging_closed}
+use Rattle.judges.proofs.{Words.{◌∙◌, refl, new_track, passed}, Closing.{judging_closed}}
 use Rattle.judges.proofs.running.RunningJudge.close.Goals as goal
 
 pub returns : goal.returns

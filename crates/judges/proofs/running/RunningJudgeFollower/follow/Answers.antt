@@ -1,5 +1,4 @@
-use Rattle.judges.specs.Pairs.{IsJudging}
-use Rattle.judges.proofs.Following.{next_followed}
+use Rattle.{judges.specs.Pairs.{IsJudging}, judges.proofs.Following.{next_followed}}
 use Rattle.judges.proofs.running.RunningJudgeFollower.follow.Goals as goal
 
 pub returns : goal.returns

@@ -1,5 +1,4 @@
-use Rattle.mailboxes.proofs.Words.{◌≡◌, ◌∙◌, ◌++◌, ◌∷◌, List, [], ap, length, length-append, sym, subst, arith, All, into_iter_items, map-append, All-head, All-tail, MailboxId, home_of, homes_of}
-use Rattle.mailboxes.proofs.Homes.{IsEmpty}
+use Rattle.mailboxes.proofs.{Words.{◌≡◌, ◌∙◌, ◌++◌, ◌∷◌, List, [], ap, length, length-append, sym, subst, arith, All, into_iter_items, map-append, All-head, All-tail, MailboxId, home_of, homes_of}, Homes.{IsEmpty}}
 use Rattle.mailboxes.proofs.mailboxes.Mailboxes.of_inboxes.Goals as goal
 
 pub loop-inbox-preserved : goal.loop-inbox-preserved

@@ -1,6 +1,4 @@
-use Rattle.mailboxes.proofs.Words.{◌≡◌, ◌-◌, ◌++◌, ◌∷◌, [], set, get_or, sym, ap, ◌∙◌, arith, Key, SlipView, slip_of, on_ok_weaker}
-use Rattle.mailboxes.proofs.Homes.{posted_by}
-use Rattle.mailboxes.proofs.Rows.{row_more, whose_same}
+use Rattle.mailboxes.proofs.{Words.{◌≡◌, ◌-◌, ◌++◌, ◌∷◌, [], set, get_or, sym, ap, ◌∙◌, arith, Key, SlipView, slip_of, on_ok_weaker}, Homes.{posted_by}, Rows.{row_more, whose_same}}
 use Rattle.mailboxes.proofs.shared.SharedMailboxes.post.Goals as goal
 
 -- the ticket at the receiver's place is changed

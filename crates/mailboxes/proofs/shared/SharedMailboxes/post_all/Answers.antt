@@ -1,5 +1,4 @@
-use Rattle.mailboxes.proofs.Words.{◌++◌, length, refl, sym, ap, ◌∙◌, slip_of, each_with}
-use Rattle.mailboxes.proofs.Rows.{with_nothing}
+use Rattle.mailboxes.proofs.{Words.{◌++◌, length, refl, sym, ap, ◌∙◌, slip_of, each_with}, Rows.{with_nothing}}
 use Rattle.mailboxes.proofs.shared.SharedMailboxes.post_all.Goals as goal
 
 pub returns-clause-ok : goal.returns-clause-ok

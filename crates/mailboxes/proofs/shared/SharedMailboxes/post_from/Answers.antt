@@ -1,6 +1,4 @@
-use Rattle.mailboxes.proofs.Words.{rules, ◌<◌, [], ◌∷◌, ◌++◌, ◌+◌, length, take, set, ap, ◌∙◌, arith, length-map, map-set, SlipView, letters_in, replicate_more, take_more_set}
-use Rattle.mailboxes.proofs.Homes.{posted_by, items_of}
-use Rattle.mailboxes.proofs.Rows.{whose_same, total_same}
+use Rattle.mailboxes.proofs.{Words.{rules, ◌<◌, [], ◌∷◌, ◌++◌, ◌+◌, length, take, set, ap, ◌∙◌, arith, length-map, map-set, SlipView, letters_in, replicate_more, take_more_set}, Homes.{posted_by, items_of}, Rows.{whose_same, total_same}}
 use Rattle.mailboxes.proofs.shared.SharedMailboxes.post_from.Goals as goal
 
 pub returns-in_err-post_list-clause-slip : goal.returns-in_err-post_list-clause-slip

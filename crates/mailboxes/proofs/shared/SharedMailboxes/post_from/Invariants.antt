@@ -1,5 +1,4 @@
-use Rattle.mailboxes.proofs.Words.{◌≡◌, [], map, take, replicate, vec_len, letters_in}
-use Rattle.mailboxes.proofs.Rows.{total}
+use Rattle.mailboxes.proofs.{Words.{◌≡◌, [], map, take, replicate, vec_len, letters_in}, Rows.{total}}
 use Rattle.mailboxes.proofs.shared.SharedMailboxes.post_from.Given as goal
 
 abbrev pub invariant-loop-at : goal.invariant-loop-at

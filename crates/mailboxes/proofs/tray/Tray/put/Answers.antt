@@ -1,6 +1,4 @@
-use Rattle.mailboxes.proofs.Words.{◌≡◌, ◌-◌, ◌++◌, ◌∷◌, [], set, get_or, ap, ◌∙◌, arith, Key}
-use Rattle.mailboxes.proofs.Homes.{items_of}
-use Rattle.mailboxes.proofs.Rows.{row_more}
+use Rattle.mailboxes.proofs.{Words.{◌≡◌, ◌-◌, ◌++◌, ◌∷◌, [], set, get_or, ap, ◌∙◌, arith, Key}, Homes.{items_of}, Rows.{row_more}}
 use Rattle.mailboxes.proofs.tray.Tray.put.Goals as goal
 
 pub returns-clause-filed : goal.returns-clause-filed

@@ -1,5 +1,4 @@
-use Rattle.network.proofs.Basics.{◌≡◌, ◌∙◌, ap, sym, ◌++◌, [], append-nil, option_to_list, on_each}
-use Rattle.network.proofs.Adding.{none_each}
+use Rattle.network.proofs.{Basics.{◌≡◌, ◌∙◌, ap, sym, ◌++◌, [], append-nil, option_to_list, on_each}, Adding.{none_each}}
 use Rattle.network.proofs.outages.Drawn.push_left.Goals as goal
 
 pub returns-in-None-clause-ok : goal.returns-in-None-clause-ok

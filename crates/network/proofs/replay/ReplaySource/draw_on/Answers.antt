@@ -1,6 +1,5 @@
 use Rattle.network.proofs.Basics.{ℕ, ◌<◌, ◌+◌, ◌*◌, ◌/◌, ◌%◌, ◌∙◌, ap, sym, subst, ◌++◌, List, length, arith, rules, flat_map, range_with_len, length-range_with_len, most_outages, on_each, replayed_in, to_come, LinkOutage}
-use Rattle.network.proofs.Adding.{adds_more, all_taken, full_more, number_at}
-use Rattle.network.proofs.Records.{replayed-turns}
+use Rattle.network.proofs.{Adding.{adds_more, all_taken, full_more, number_at}, Records.{replayed-turns}}
 use Rattle.network.proofs.replay.ReplaySource.draw_on.Goals as goal
 
 pub loop-turn-preserved : goal.loop-turn-preserved

@@ -1,5 +1,4 @@
-use Rattle.network.proofs.Basics.{◌≡◌, ℕ, ◌+◌, ◌<◌, sym, append-nil, ap, ◌∙◌, List, ◌++◌, map, length, subst, rules, most_outages, on_each, outage_on, to_come, LinkOutage}
-use Rattle.network.proofs.Adding.{none_each}
+use Rattle.network.proofs.{Basics.{◌≡◌, ℕ, ◌+◌, ◌<◌, sym, append-nil, ap, ◌∙◌, List, ◌++◌, map, length, subst, rules, most_outages, on_each, outage_on, to_come, LinkOutage}, Adding.{none_each}}
 use Rattle.network.proofs.Turns.{adds_one, all_seen, full_at, goes_on, seen, starts}
 use Rattle.network.proofs.rhythm.RhythmSource.draw_on.Goals as goal
 

@@ -1,5 +1,4 @@
-use Rattle.network.proofs.Basics.{ℕ, ◌≡◌, ◌-◌, ◌++◌, on_each, to_come}
-use Rattle.network.proofs.Turns.{IsAt, seen}
+use Rattle.network.proofs.{Basics.{ℕ, ◌≡◌, ◌-◌, ◌++◌, on_each, to_come}, Turns.{IsAt, seen}}
 use Rattle.network.proofs.rhythm.RhythmSource.draw_on.Given as goal
 
 -- the episodes so far

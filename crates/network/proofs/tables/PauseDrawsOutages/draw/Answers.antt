@@ -1,5 +1,4 @@
-use Rattle.network.proofs.Basics.{◌≡◌, ℕ, ◌<◌, ◌∙◌, ap, sym, subst, ◌++◌, List, filter, length, arith, rules, flat_map, range_with_len, take_all, common_steps, holds, most_outages, of_pause, pause_of, LinkOutage}
-use Rattle.network.proofs.Adding.{full_more}
+use Rattle.network.proofs.{Basics.{◌≡◌, ℕ, ◌<◌, ◌∙◌, ap, sym, subst, ◌++◌, List, filter, length, arith, rules, flat_map, range_with_len, take_all, common_steps, holds, most_outages, of_pause, pause_of, LinkOutage}, Adding.{full_more}}
 use Rattle.network.proofs.tables.PauseDrawsOutages.draw.Goals as goal
 
 pub returns-in_err-draw_of-clause-full : goal.returns-in_err-draw_of-clause-full

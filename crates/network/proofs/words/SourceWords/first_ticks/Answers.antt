@@ -1,5 +1,4 @@
-use Rattle.network.proofs.Basics.{◌≡◌, ℕ, ◌%◌, ◌∙◌, ap, length, slice_index, after, first_ticks_of, first_words_taken, to_come}
-use Rattle.network.proofs.Coming.{after-after, after-first}
+use Rattle.network.proofs.{Basics.{◌≡◌, ℕ, ◌%◌, ◌∙◌, ap, length, slice_index, after, first_ticks_of, first_words_taken, to_come}, Coming.{after-after, after-first}}
 use Rattle.network.proofs.words.SourceWords.first_ticks.Goals as goal
 
 pub returns-in-Values-clause-value : goal.returns-in-Values-clause-value

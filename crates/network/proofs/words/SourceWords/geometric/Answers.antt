@@ -1,5 +1,4 @@
-use Rattle.network.proofs.Basics.{◌≡◌, ℕ, ◌+◌, ◌-◌, ◌*◌, ◌/◌, ◌^◌, ◌<◌, if◌then◌else◌, ap, sym, ◌∙◌, arith, pow_more, after, digits, is_one, odds, to_come}
-use Rattle.network.proofs.Coming.{after-after, after-first, after-none}
+use Rattle.network.proofs.{Basics.{◌≡◌, ℕ, ◌+◌, ◌-◌, ◌*◌, ◌/◌, ◌^◌, ◌<◌, if◌then◌else◌, ap, sym, ◌∙◌, arith, pow_more, after, digits, is_one, odds, to_come}, Coming.{after-after, after-first, after-none}}
 use Rattle.network.proofs.Odds.{digits-more, digits-zero, first_low, geometric-is, next_low, odds-more, odds-zero}
 use Rattle.network.proofs.words.SourceWords.geometric.Goals as goal
 

@@ -1,5 +1,4 @@
-use Rattle.network.proofs.Basics.{◌≡◌, ◌∙◌, ap, after, to_come}
-use Rattle.network.proofs.Coming.{to_come-first, to_come-next}
+use Rattle.network.proofs.{Basics.{◌≡◌, ◌∙◌, ap, after, to_come}, Coming.{to_come-first, to_come-next}}
 use Rattle.network.proofs.words.SourceWords.next.Goals as goal
 
 pub returns-clause-value : goal.returns-clause-value

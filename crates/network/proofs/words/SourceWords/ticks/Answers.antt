@@ -1,5 +1,4 @@
-use Rattle.network.proofs.Basics.{words_taken, to_come}
-use Rattle.network.proofs.Coming.{after-none}
+use Rattle.network.proofs.{Basics.{words_taken, to_come}, Coming.{after-none}}
 use Rattle.network.proofs.words.SourceWords.ticks.Goals as goal
 
 pub returns-in-Ticks-clause-rest : goal.returns-in-Ticks-clause-rest

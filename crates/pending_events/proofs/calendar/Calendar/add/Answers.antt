@@ -1,5 +1,4 @@
-use Rattle.pending_events.proofs.Words.{◌≡◌, arith}
-use Rattle.pending_events.proofs.Nearby.{all_came, near_put, put_calendar}
+use Rattle.pending_events.proofs.{Words.{◌≡◌, arith}, Nearby.{all_came, near_put, put_calendar}}
 use Rattle.pending_events.proofs.calendar.Calendar.add.Goals as goal
 
 pub returns-then-tick-self-clause-calendar : goal.returns-then-tick-self-clause-calendar

@@ -1,5 +1,4 @@
-use Rattle.pending_events.proofs.Words.{◌∙◌, Some, ap, refl, all_in}
-use Rattle.pending_events.proofs.Parted.{row_taken}
+use Rattle.pending_events.proofs.{Words.{◌∙◌, Some, ap, refl, all_in}, Parted.{row_taken}}
 use Rattle.pending_events.proofs.pending.Pending.take_least.Goals as goal
 
 pub invariant_of-self : goal.invariant_of-self

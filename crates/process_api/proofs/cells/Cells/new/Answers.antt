@@ -1,5 +1,4 @@
-use Rattle.process_api.proofs.Basics.{◌≡◌, ◌<◌, ◌-◌, ◌∷◌, [], ◌++◌, length, sym, ap, ◌∙◌, Some, None, option_to_list, slice_get, arith, get_or_from_slice_get, slice_get_within}
-use Rattle.process_api.proofs.Vectors.{one_fewer, trimmed}
+use Rattle.process_api.proofs.{Basics.{◌≡◌, ◌<◌, ◌-◌, ◌∷◌, [], ◌++◌, length, sym, ap, ◌∙◌, Some, None, option_to_list, slice_get, arith, get_or_from_slice_get, slice_get_within}, Vectors.{one_fewer, trimmed}}
 use Rattle.process_api.proofs.cells.Cells.new.Goals as goal
 
 pub loop-cells-preserved : goal.loop-cells-preserved

@@ -1,5 +1,4 @@
-use Rattle.process_api.proofs.Basics.{◌≡◌, ◌==◌, sym, ap, ◌∙◌, length, None, arith, option_eq}
-use Rattle.process_api.proofs.Vectors.{alike, refuted, unlike, wide}
+use Rattle.process_api.proofs.{Basics.{◌≡◌, ◌==◌, sym, ap, ◌∙◌, length, None, arith, option_eq}, Vectors.{alike, refuted, unlike, wide}}
 use Rattle.process_api.proofs.cells.CellsPartialEq.eq.Goals as goal
 
 pub returns-then-ne : goal.returns-then-ne

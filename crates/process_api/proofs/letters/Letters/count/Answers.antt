@@ -1,5 +1,4 @@
-use Rattle.process_api.proofs.Basics.{◌∙◌, sym, ap, is_some, count_to, in_row}
-use Rattle.process_api.proofs.Rows.{none_counted}
+use Rattle.process_api.proofs.{Basics.{◌∙◌, sym, ap, is_some, count_to, in_row}, Rows.{none_counted}}
 use Rattle.process_api.proofs.letters.Letters.count.Goals as goal
 
 pub returns-in-None : goal.returns-in-None

@@ -1,5 +1,4 @@
-use Rattle.process_api.proofs.Basics.{◌∙◌, ap, by_number, by_row}
-use Rattle.process_api.proofs.Dropping.{since_rows}
+use Rattle.process_api.proofs.{Basics.{◌∙◌, ap, by_number, by_row}, Dropping.{since_rows}}
 use Rattle.process_api.proofs.letters.Letters.drop_before.Goals as goal
 
 pub returns : goal.returns

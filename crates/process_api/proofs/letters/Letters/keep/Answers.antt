@@ -1,6 +1,5 @@
-use Rattle.process_api.proofs.Basics.{◌∙◌, ap, sym, subst, refl, IsSome, keep, by_number, by_row, in_row, keep_one}
+use Rattle.process_api.proofs.{Basics.{◌∙◌, ap, sym, subst, refl, IsSome, keep, by_number, by_row, in_row, keep_one}, Rows.{row_changed}}
 use Rattle.std.proofs.lemmas.Result.{on_ok_weaker}
-use Rattle.process_api.proofs.Rows.{row_changed}
 use Rattle.process_api.proofs.letters.Letters.keep.Goals as goal
 
 pub returns-in-Some : goal.returns-in-Some

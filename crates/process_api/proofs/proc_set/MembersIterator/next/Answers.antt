@@ -1,6 +1,5 @@
 use Rattle.process_api.proofs.Basics.{rules, ◌≡◌, ◌+◌, ◌*◌, ◌/◌, ◌<◌, ◌^◌, [], ◌∷◌, get_or, refl, sym, ap, ◌∙◌, arith, w64, Some, trailing_zeros, is_set, members, most_processes, in_order}
-use Rattle.process_api.proofs.BitWords.{lowest_place, lowest_set, none_below, none_set}
-use Rattle.process_api.proofs.Rising.{in_order-told, in_order-none, yielded, progressed}
+use Rattle.process_api.proofs.{BitWords.{lowest_place, lowest_set, none_below, none_set}, Rising.{in_order-told, in_order-none, yielded, progressed}}
 use Rattle.process_api.proofs.proc_set.MembersIterator.next.Goals as goal
 
 pub returns-in_default-clause-steps : goal.returns-in_default-clause-steps

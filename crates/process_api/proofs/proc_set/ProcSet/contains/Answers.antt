@@ -1,6 +1,5 @@
-use Rattle.process_api.proofs.Basics.{◌≡◌, ◌-◌, ◌/◌, ◌%◌, ap, sym, ◌∙◌, nat_eq, get_or, arith, shr_and_one, is_set, most_processes}
+use Rattle.process_api.proofs.{Basics.{◌≡◌, ◌-◌, ◌/◌, ◌%◌, ap, sym, ◌∙◌, nat_eq, get_or, arith, shr_and_one, is_set, most_processes}, Told.{told_in_range}}
 use Rattle.std.specs.FinSet as set
-use Rattle.process_api.proofs.Told.{told_in_range}
 use Rattle.process_api.proofs.proc_set.ProcSet.contains.Goals as goal
 
 pub returns : goal.returns

@@ -1,7 +1,5 @@
-use Rattle.process_api.proofs.Basics.{◌∙◌, ap, nat_eq, nat_lt, ◌&&◌, all_to, is_set, most_processes}
+use Rattle.process_api.proofs.{Basics.{◌∙◌, ap, nat_eq, nat_lt, ◌&&◌, all_to, is_set, most_processes}, Rows.{len_all}, Told.{members-up_to}}
 use Rattle.std.specs.FinSet as set
-use Rattle.process_api.proofs.Rows.{len_all}
-use Rattle.process_api.proofs.Told.{members-up_to}
 use Rattle.process_api.proofs.proc_set.ProcSet.has_all.Goals as goal
 
 pub returns : goal.returns

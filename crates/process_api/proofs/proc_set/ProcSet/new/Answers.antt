@@ -1,6 +1,4 @@
-use Rattle.process_api.proofs.Basics.{◌/◌, arith, replicate, get_or-replicate, is_set, most_processes, WORDS}
-use Rattle.process_api.proofs.BitWords.{none_set}
-use Rattle.process_api.proofs.Told.{members-none}
+use Rattle.process_api.proofs.{Basics.{◌/◌, arith, replicate, get_or-replicate, is_set, most_processes, WORDS}, BitWords.{none_set}, Told.{members-none}}
 use Rattle.process_api.proofs.proc_set.ProcSet.new.Goals as goal
 
 pub returns : goal.returns

@@ -1,6 +1,5 @@
-use Rattle.process_api.proofs.Basics.{◌≡◌, ◌-◌, ap, sym, ◌∙◌, arith, is_set, most_processes}
+use Rattle.process_api.proofs.{Basics.{◌≡◌, ◌-◌, ap, sym, ◌∙◌, arith, is_set, most_processes}, Told.{members-remove}}
 use Rattle.std.specs.FinSet as set
-use Rattle.process_api.proofs.Told.{members-remove}
 use Rattle.process_api.proofs.proc_set.ProcSet.remove.Goals as goal
 
 pub returns : goal.returns

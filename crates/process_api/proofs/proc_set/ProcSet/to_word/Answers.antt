@@ -1,5 +1,4 @@
-use Rattle.process_api.proofs.Basics.{rules, ℕ, ◌<◌, ◌^◌, get_or, sym, ◌∙◌, subst, HasAbove}
-use Rattle.process_api.proofs.OneWord.{is_word, has_above}
+use Rattle.process_api.proofs.{Basics.{rules, ℕ, ◌<◌, ◌^◌, get_or, sym, ◌∙◌, subst, HasAbove}, OneWord.{is_word, has_above}}
 use Rattle.process_api.proofs.proc_set.ProcSet.to_word.Goals as goal
 
 pub returns-then-second-third-ne0-clause-above : goal.returns-then-second-third-ne0-clause-above

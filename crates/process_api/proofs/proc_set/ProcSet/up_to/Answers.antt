@@ -1,5 +1,4 @@
-use Rattle.process_api.proofs.Basics.{◌∙◌, ap, nat_lt, ◌&&◌, is_set, most_processes, up_to}
-use Rattle.process_api.proofs.Told.{members-up_to}
+use Rattle.process_api.proofs.{Basics.{◌∙◌, ap, nat_lt, ◌&&◌, is_set, most_processes, up_to}, Told.{members-up_to}}
 use Rattle.process_api.proofs.proc_set.ProcSet.up_to.Goals as goal
 
 pub returns : goal.returns

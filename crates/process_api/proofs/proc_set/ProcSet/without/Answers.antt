@@ -1,6 +1,5 @@
-use Rattle.process_api.proofs.Basics.{◌∙◌, is_set, most_processes}
+use Rattle.process_api.proofs.{Basics.{◌∙◌, is_set, most_processes}, Told.{members-difference}}
 use Rattle.std.specs.FinSet as set
-use Rattle.process_api.proofs.Told.{members-difference}
 use Rattle.process_api.proofs.proc_set.ProcSet.without.Goals as goal
 
 pub returns : goal.returns

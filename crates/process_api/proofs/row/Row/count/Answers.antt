@@ -1,6 +1,5 @@
-use Rattle.process_api.proofs.Basics.{◌≡◌, ◌∙◌, ap, arith, is_some, of_sender, count_to}
+use Rattle.process_api.proofs.{Basics.{◌≡◌, ◌∙◌, ap, arith, is_some, of_sender, count_to}, Rows.{counted, count_most}}
 use Rattle.std.specs.FinSet as set
-use Rattle.process_api.proofs.Rows.{counted, count_most}
 use Rattle.process_api.proofs.row.Row.count.Goals as goal
 
 pub returns : goal.returns

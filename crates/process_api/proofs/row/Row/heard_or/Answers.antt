@@ -1,6 +1,5 @@
-use Rattle.std.proofs.Common.{◌∙◌, ◌||◌, ap}
+use Rattle.std.proofs.{Common.{◌∙◌, ◌||◌, ap}, lemmas.Cmp.{nat_cmp_total}}
 use Rattle.std.specs.FinSet as set
-use Rattle.std.proofs.lemmas.Cmp.{nat_cmp_total}
 use Rattle.process_api.proofs.row.Row.heard_or.Goals as goal
 
 pub returns : goal.returns

@@ -1,6 +1,5 @@
 use Rattle.std.proofs.Common.{◌≤◌, sym, subst}
-use Rattle.process_api.specs.Place.{most_processes, Place}
-use Rattle.scenario_record.specs.Opening.{place_of}
+use Rattle.{process_api.specs.Place.{most_processes, Place}, scenario_record.specs.Opening.{place_of}}
 use Rattle.reduction.specs.Inside.Parts.{state_of}
 use Rattle.reduction.proofs.Joining.{joined_state, joined_actions, joined_changes, joined_allowed, joined_few}
 use Rattle.reduction.proofs.reduced.ReducedDetector.take.Goals as goal

@@ -1,5 +1,4 @@
-use Rattle.reporting.proofs.Words.{◌≡◌, true, length, refl, arith, with_items_is, AreCaught, lists_in}
-use Rattle.reporting.proofs.Listing.{closes_caught, same_length}
+use Rattle.reporting.proofs.{Words.{◌≡◌, true, length, refl, arith, with_items_is, AreCaught, lists_in}, Listing.{closes_caught, same_length}}
 use Rattle.reporting.proofs.durations.Durations.close.Goals as goal
 
 pub returns-in_ok-catch_up : goal.returns-in_ok-catch_up

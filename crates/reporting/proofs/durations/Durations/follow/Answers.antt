@@ -1,5 +1,4 @@
-use Rattle.reporting.proofs.Words.{◌≡◌, ◌+◌, ◌-◌, ◌*◌, false, ap, ◌∙◌, refl, arith, with_items_is, EntryRecord, AreCaught, lists_in}
-use Rattle.reporting.proofs.Listing.{follows_above, follows_caught, same_length}
+use Rattle.reporting.proofs.{Words.{◌≡◌, ◌+◌, ◌-◌, ◌*◌, false, ap, ◌∙◌, refl, arith, with_items_is, EntryRecord, AreCaught, lists_in}, Listing.{follows_above, follows_caught, same_length}}
 use Rattle.reporting.proofs.durations.Durations.follow.Goals as goal
 
 pub returns-in_ok-catch_up : goal.returns-in_ok-catch_up

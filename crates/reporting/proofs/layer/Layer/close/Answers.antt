@@ -1,6 +1,5 @@
-use Rattle.reporting.proofs.Words.{◌∙◌, refl, counted, new_tally, tracked}
+use Rattle.reporting.proofs.{Words.{◌∙◌, refl, counted, new_tally, tracked}, Passes.{tallies_seen}}
 use Rattle.judges.proofs.Closing.{judging_closed}
-use Rattle.reporting.proofs.Passes.{tallies_seen}
 use Rattle.reporting.proofs.layer.Layer.close.Goals as goal
 
 pub returns-clause-verdicts : goal.returns-clause-verdicts

@@ -1,7 +1,5 @@
-use Rattle.reporting.proofs.Words.{◌≡◌, ◌∙◌, [], ap, sym, arith, vec_len, eqb-true, nil_from_length, EntryRecord, pairs_quiet, IsLayer, counted, new_tally}
+use Rattle.reporting.proofs.{Words.{◌≡◌, ◌∙◌, [], ap, sym, arith, vec_len, eqb-true, nil_from_length, EntryRecord, pairs_quiet, IsLayer, counted, new_tally}, Listing.{follows_quiet}, Fed.{on_ok}}
 use Rattle.judges.proofs.Following.{next_followed}
-use Rattle.reporting.proofs.Listing.{follows_quiet}
-use Rattle.reporting.proofs.Fed.{on_ok}
 use Rattle.reporting.proofs.layer.LayerFollower.follow.Goals as goal
 
 pub returns-then-is_empty : goal.returns-then-is_empty

@@ -1,5 +1,4 @@
-use Rattle.reporting.proofs.Words.{◌≡◌, ap, sym, ◌∙◌, arith, eq-eqb, eqb-true, both_ways, EntryRecord, all_turned, noted_turns, counted}
-use Rattle.reporting.proofs.Closing.{meter_fed, meter_late, meter_other}
+use Rattle.reporting.proofs.{Words.{◌≡◌, ap, sym, ◌∙◌, arith, eq-eqb, eqb-true, both_ways, EntryRecord, all_turned, noted_turns, counted}, Closing.{meter_fed, meter_late, meter_other}}
 use Rattle.reporting.proofs.meter.Meter.feed.Goals.{else-eq-via-then-eq+else-entry-self, else-eq-via-else-eq}
 use Rattle.reporting.proofs.meter.Meter.feed.Goals as goal
 

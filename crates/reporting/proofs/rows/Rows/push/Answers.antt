@@ -1,7 +1,5 @@
-use Rattle.reporting.proofs.Words.{◌≡◌, ◌≢◌, ◌∙◌, ◌++◌, ap, map, length-map, text_of}
+use Rattle.reporting.proofs.{Words.{◌≡◌, ◌≢◌, ◌∙◌, ◌++◌, ap, map, length-map, text_of}, PlainRows.{row_text-plain}, rows.Rows.push.Goals.{in-Ok, in-Err}}
 use Rattle.csv.specs.declared.writer.QuoteStyle.TheVariants as style
-use Rattle.reporting.proofs.PlainRows.{row_text-plain}
-use Rattle.reporting.proofs.rows.Rows.push.Goals.{in-Ok, in-Err}
 use Rattle.reporting.proofs.rows.Rows.push.Goals as goal
 
 pub returns-clause-text : goal.returns-clause-text

@@ -1,7 +1,5 @@
-use Rattle.reporting.proofs.Words.{◌∙◌, ◌++◌, ◌∷◌, [], ap, sym, subst, append_assoc, row_of}
+use Rattle.reporting.proofs.{Words.{◌∙◌, ◌++◌, ◌∷◌, [], ap, sym, subst, append_assoc, row_of}, Fed.{on_ok}, Written.{rows_both, rows_one}}
 use Rattle.reporting.specs.TraceText.{Holds, fields_of, rows_text}
-use Rattle.reporting.proofs.Fed.{on_ok}
-use Rattle.reporting.proofs.Written.{rows_both, rows_one}
 use Rattle.reporting.proofs.trace_text.TraceTextFollower.follow.Goals as goal
 
 pub returns : goal.returns

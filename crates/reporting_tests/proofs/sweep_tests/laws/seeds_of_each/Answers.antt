@@ -1,7 +1,5 @@
 use Rattle.reporting_tests.proofs.Words.{◌≡◌, ℕ, ◌*◌, ◌/◌, ◌==◌, length, map, ap, sym, ◌∙◌, arith, count_by, range_with_len, runs, turn}
-use Rattle.std.proofs.Math.Nat.{mul-div_left}
-use Rattle.study.specs.Grid.{combinations}
-use Rattle.study.proofs.Points.{runs_length}
+use Rattle.{std.proofs.Math.Nat.{mul-div_left}, study.specs.Grid.{combinations}, study.proofs.Points.{runs_length}}
 use Rattle.reporting_tests.proofs.sweep_tests.laws.seeds_of_each.Goals as goal
 
 pub returns : goal.returns

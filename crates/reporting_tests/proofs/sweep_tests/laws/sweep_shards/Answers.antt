@@ -1,5 +1,4 @@
-use Rattle.reporting_tests.proofs.Words.{◌≡◌, ℕ, Some, sym, subst, arith, AllZip, range_with_len, sources_of, Held, ShardRecord, WroteStudy, Text, IsStudyText}
-use Rattle.reporting_tests.proofs.InTurn.{none_out, one_more}
+use Rattle.reporting_tests.proofs.{Words.{◌≡◌, ℕ, Some, sym, subst, arith, AllZip, range_with_len, sources_of, Held, ShardRecord, WroteStudy, Text, IsStudyText}, InTurn.{none_out, one_more}}
 use Rattle.reporting_tests.proofs.sweep_tests.laws.sweep_shards.Goals as goal
 
 pub loop-before-init : goal.loop-before-init

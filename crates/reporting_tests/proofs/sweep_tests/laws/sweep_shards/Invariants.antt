@@ -1,5 +1,4 @@
-use Rattle.study.specs.Sources.{sources_of}
-use Rattle.reporting_tests.proofs.InTurn.{AreOut}
+use Rattle.{study.specs.Sources.{sources_of}, reporting_tests.proofs.InTurn.{AreOut}}
 use Rattle.reporting_tests.proofs.sweep_tests.laws.sweep_shards.Given as goal
 
 abbrev pub invariant-loop-before : goal.invariant-loop-before

@@ -1,6 +1,4 @@
-use Rattle.std.proofs.Common.{sym, subst}
-use Rattle.std.specs.List.{All}
-use Rattle.std.proofs.lemmas.List.Elements.{All-head, All-tail}
+use Rattle.{std.proofs.{Common.{sym, subst}, lemmas.List.Elements.{All-head, All-tail}}, std.specs.List.{All}}
 use Rattle.windows.specs.Berth.{IsBerthOf}
 use Rattle.running_tests.proofs.window_tests.calls.call_berths.Goals as goal
 

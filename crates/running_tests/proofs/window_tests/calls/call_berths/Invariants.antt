@@ -1,6 +1,4 @@
-use Rattle.std.specs.List.{All}
-use Rattle.std.specs.Vec.Iter.{into_iter_items}
-use Rattle.mailboxes.specs.Mailboxes.{IsSlipOf}
+use Rattle.{std.specs.{List.{All}, Vec.Iter.{into_iter_items}}, mailboxes.specs.Mailboxes.{IsSlipOf}}
 use Rattle.windows.specs.Berth.{IsBerthOf}
 use Rattle.running_tests.proofs.window_tests.calls.call_berths.Given as goal
 

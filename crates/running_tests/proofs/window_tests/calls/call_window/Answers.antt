@@ -1,12 +1,6 @@
-use Rattle.std.proofs.Common.{◌∙◌, sym, subst}
-use Rattle.std.specs.List.{All}
-use Rattle.std.specs.List.Sorted.{IsPermutation}
-use Rattle.std.proofs.lemmas.List.Elements.{All-weaker}
-use Rattle.std.proofs.lemmas.List.Sorted.{All-permutation}
-use Rattle.scenario_record.specs.Ranges.{IsInRange}
-use Rattle.windows.specs.Berth.{IsBerthOf}
-use Rattle.windows.specs.Inside.Workers.{IsReady}
-use Rattle.windows.proofs.Closing.{stage_ready}
+use Rattle.std.proofs.{Common.{◌∙◌, sym, subst}, lemmas.List.{Elements.{All-weaker}, Sorted.{All-permutation}}}
+use Rattle.{std.specs.List.{All, Sorted.{IsPermutation}}, scenario_record.specs.Ranges.{IsInRange}}
+use Rattle.{windows.specs.{Berth.{IsBerthOf}, Inside.Workers.{IsReady}}, windows.proofs.Closing.{stage_ready}}
 use Rattle.running_tests.proofs.window_tests.calls.call_window.Goals as goal
 
 pub call_berths-requires-clause-ready : goal.call_berths-requires-clause-ready

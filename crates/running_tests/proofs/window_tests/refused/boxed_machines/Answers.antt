@@ -1,6 +1,5 @@
 use Rattle.std.proofs.Common.{ap, ◌∙◌}
-use Rattle.scenario_record.specs.Record.{opening_mind}
-use Rattle.machines.proofs.Making.{one_more}
+use Rattle.{scenario_record.specs.Record.{opening_mind}, machines.proofs.Making.{one_more}}
 use Rattle.running_tests.proofs.window_tests.refused.boxed_machines.Goals as goal
 
 pub loop-before-preserved : goal.loop-before-preserved

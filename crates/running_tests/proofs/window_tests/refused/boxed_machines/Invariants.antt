@@ -1,6 +1,5 @@
 use Rattle.std.proofs.Common.{◌≡◌, map}
-use Rattle.process_api.specs.Place.{numbers_to}
-use Rattle.scenario_record.specs.Record.{opening_mind}
+use Rattle.{process_api.specs.Place.{numbers_to}, scenario_record.specs.Record.{opening_mind}}
 use Rattle.running_tests.proofs.window_tests.refused.boxed_machines.Given as goal
 
 -- the machines so far open as the scenario says

@@ -1,6 +1,5 @@
-use Rattle.runs.proofs.Words.{◌≡◌, ◌+◌, ◌*◌, ◌∙◌, [], ◌∷◌, ◌++◌, ℕ, cond, eqb, count_by, ap, sym, subst, arith, with_items_is, EntryRecord, is_trust, trusts, AreCounts}
+use Rattle.runs.proofs.{Words.{◌≡◌, ◌+◌, ◌*◌, ◌∙◌, [], ◌∷◌, ◌++◌, ℕ, cond, eqb, count_by, ap, sym, subst, arith, with_items_is, EntryRecord, is_trust, trusts, AreCounts}, Trusting.{entry_counted}}
 use Rattle.std.specs.Vec.{with_items}
-use Rattle.runs.proofs.Trusting.{entry_counted}
 use Rattle.runs.proofs.trusts.Trusts.feed.Goals as goal
 
 pub returns-then-len-processes : goal.returns-then-len-processes

@@ -1,5 +1,4 @@
-use Rattle.runs.proofs.Words.{◌≡◌, ◌∙◌, [], ap, sym, arith, vec_len, eqb-true, nil_from_length, EntryRecord}
-use Rattle.runs.proofs.Trusting.{quiet_counted}
+use Rattle.runs.proofs.{Words.{◌≡◌, ◌∙◌, [], ap, sym, arith, vec_len, eqb-true, nil_from_length, EntryRecord}, Trusting.{quiet_counted}}
 use Rattle.runs.proofs.trusts.TrustsFollower.follow.Goals as goal
 
 pub returns-then-is_empty : goal.returns-then-is_empty

@@ -1,6 +1,4 @@
-use Rattle.scenario.proofs.Words.{◌≡◌, ◌∙◌, ap, sym, is_some, true, table_view, fault_of, array_key, fields_of_array, table_of}
-use Rattle.scenario.proofs.Elements.{IsAt, numbered_table}
-use Rattle.scenario.proofs.Slots.{bad_one}
+use Rattle.scenario.proofs.{Words.{◌≡◌, ◌∙◌, ap, sym, is_some, true, table_view, fault_of, array_key, fields_of_array, table_of}, Elements.{IsAt, numbered_table}, Slots.{bad_one}}
 use Rattle.scenario.proofs.keys.KeyFault.among.Goals as goal
 
 pub at-found-requires : goal.at-found-requires

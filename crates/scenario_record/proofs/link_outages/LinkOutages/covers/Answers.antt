@@ -1,7 +1,5 @@
-use Rattle.std.proofs.Common.{rules, ◌∙◌, ap, arith, nat_le}
-use Rattle.std.specs.List.{list_any}
-use Rattle.std.proofs.lemmas.List.Sorted.{IsPartitionPoint-from_clause, IsPartitionedBy-leb}
-use Rattle.scenario_record.specs.Record.{covers}
+use Rattle.std.proofs.{Common.{rules, ◌∙◌, ap, arith, nat_le}, lemmas.List.Sorted.{IsPartitionPoint-from_clause, IsPartitionedBy-leb}}
+use Rattle.{std.specs.List.{list_any}, scenario_record.specs.Record.{covers}}
 use Rattle.scenario_record.proofs.Stretches.{begin_of, none_begun, last_begun}
 use Rattle.scenario_record.proofs.link_outages.LinkOutages.covers.Goals as goal
 

@@ -1,5 +1,4 @@
-use Rattle.std.proofs.Common.{rules, ◌∙◌}
-use Rattle.std.proofs.lemmas.List.Sorted.{IsNonDecreasingBy-from_sort_by_key}
+use Rattle.std.proofs.{Common.{rules, ◌∙◌}, lemmas.List.Sorted.{IsNonDecreasingBy-from_sort_by_key}}
 use Rattle.scenario_record.proofs.Stretches.{begin_of, moved}
 use Rattle.scenario_record.proofs.link_outages.LinkOutages.of.Goals as goal
 

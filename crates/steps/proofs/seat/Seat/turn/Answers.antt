@@ -1,11 +1,8 @@
 use Rattle.steps.proofs.Words.{[], ◌++◌, cond, false, ◌≡◌, ◌≤◌, ap, sym, subst, ◌∙◌, arith, vec_len, Mind, is_mind_at, Record, crash, place_in, setting_of, process_of, own_of, IsSeated, has_crashed, dead, lost, made_by, noted, sent}
-use Rattle.std.specs.Prelude.{IsTrue, ℕ}
+use Rattle.{steps.proofs.Performing.{on_ok_of, on_ok_three}, std.specs.Prelude.{IsTrue, ℕ}}
 use Rattle.std.proofs.lemmas.Result.{IfOk-weaker}
-use Rattle.process_api.proofs.Minds.{mind_place, same_own}
-use Rattle.process_api.proofs.Keeping.{react_keeps}
-use Rattle.process_api.specs.React.{react}
-use Rattle.process_api.specs.declared.message.StepInput.{StepInput}
-use Rattle.steps.proofs.Performing.{on_ok_of, on_ok_three}
+use Rattle.process_api.proofs.{Minds.{mind_place, same_own}, Keeping.{react_keeps}}
+use Rattle.process_api.specs.{React.{react}, declared.message.StepInput.{StepInput}}
 use Rattle.steps.proofs.seat.Seat.turn.Goals as goal
 
 -- a process's mind stays one, of the same process

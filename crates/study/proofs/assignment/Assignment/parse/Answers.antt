@@ -1,6 +1,5 @@
-use Rattle.study.proofs.Basics.{◌≡◌, ◌∙◌, [], None, length, sym, subst, lit<, eqb-true, split_parts, path_of, SaysKey, SaysNoKey}
+use Rattle.study.proofs.{Basics.{◌≡◌, ◌∙◌, [], None, length, sym, subst, lit<, eqb-true, split_parts, path_of, SaysKey, SaysNoKey}, Parts.{has_not, split_has, nothing}}
 use Rattle.study.specs.SetWords.{no_equals, no_key, no_value}
-use Rattle.study.proofs.Parts.{has_not, split_has, nothing}
 use Rattle.study.proofs.assignment.Assignment.parse.Goals as goal
 
 pub returns-in-None-clause-err : goal.returns-in-None-clause-err

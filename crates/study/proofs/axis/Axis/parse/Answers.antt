@@ -1,10 +1,6 @@
-use Rattle.study.proofs.Basics.{◌≡◌, ◌∙◌, None, Some, false, sym, subst, map, length, lit<, length-map, split_parts, path_of, SaysKey, SayNoKeys}
+use Rattle.study.proofs.{Basics.{◌≡◌, ◌∙◌, None, Some, false, sym, subst, map, length, lit<, length-map, split_parts, path_of, SaysKey, SayNoKeys}, KeyNames.{carried}, Parts.{has_not, split_has}, Pieces.{matched}}
 use Rattle.std.specs.List.{All, AllZip}
-use Rattle.study.specs.Words.{after, between}
-use Rattle.study.specs.AxisWords.{first_fault, entries, SaysNoAxis, no_equals, no_key, no_values, is_memory}
-use Rattle.study.proofs.KeyNames.{carried}
-use Rattle.study.proofs.Parts.{has_not, split_has}
-use Rattle.study.proofs.Pieces.{matched}
+use Rattle.study.specs.{Words.{after, between}, AxisWords.{first_fault, entries, SaysNoAxis, no_equals, no_key, no_values, is_memory}}
 use Rattle.study.proofs.axis.Axis.parse.Goals as goal
 
 pub returns-in-None-clause-err : goal.returns-in-None-clause-err

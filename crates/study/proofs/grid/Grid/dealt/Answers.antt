@@ -1,5 +1,4 @@
-use Rattle.study.proofs.Basics.{◌≡◌, ◌∙◌, ap, sym, map, choices, GridRecord, paths_of, keys_of}
-use Rattle.study.proofs.Points.{first_keys}
+use Rattle.study.proofs.{Basics.{◌≡◌, ◌∙◌, ap, sym, map, choices, GridRecord, paths_of, keys_of}, Points.{first_keys}}
 use Rattle.study.proofs.grid.Grid.dealt.Goals as goal
 
 pub returns-clause-keys : goal.returns-clause-keys

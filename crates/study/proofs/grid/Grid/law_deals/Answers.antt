@@ -1,5 +1,4 @@
-use Rattle.study.proofs.Basics.{◌≡◌, ◌∙◌, ap, sym, arith, ◌%◌, length, combinations, GridRecord}
-use Rattle.study.proofs.Points.{own_seeds, dealt_evenly}
+use Rattle.study.proofs.{Basics.{◌≡◌, ◌∙◌, ap, sym, arith, ◌%◌, length, combinations, GridRecord}, Points.{own_seeds, dealt_evenly}}
 use Rattle.study.proofs.grid.Grid.law_deals.Goals as goal
 
 pub returns-clause-seeds : goal.returns-clause-seeds

@@ -1,5 +1,4 @@
-use Rattle.study.proofs.Basics.{◌≡◌, ◌∙◌, ap, sym, subst, ◌++◌, [], ◌+◌, ◌/◌, ◌%◌, ◌<◌, map, length, get_or, arith, chosen, GridRecord, runs}
-use Rattle.study.proofs.Points.{ways, shown, mix_within, run_is, made}
+use Rattle.study.proofs.{Basics.{◌≡◌, ◌∙◌, ap, sym, subst, ◌++◌, [], ◌+◌, ◌/◌, ◌%◌, ◌<◌, map, length, get_or, arith, chosen, GridRecord, runs}, Points.{ways, shown, mix_within, run_is, made}}
 use Rattle.study.proofs.grid.Grid.run.Goals as goal
 
 pub pick_combination-requires-clause-within : goal.pick_combination-requires-clause-within

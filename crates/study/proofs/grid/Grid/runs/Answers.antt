@@ -1,5 +1,4 @@
-use Rattle.study.proofs.Basics.{◌∙◌, ap, sym, subst, ℕ, ◌*◌, ◌≤◌, length, one-le-mul, GridRecord, runs}
-use Rattle.study.proofs.Points.{shown, some_ways, runs_length}
+use Rattle.study.proofs.{Basics.{◌∙◌, ap, sym, subst, ℕ, ◌*◌, ◌≤◌, length, one-le-mul, GridRecord, runs}, Points.{shown, some_ways, runs_length}}
 use Rattle.study.proofs.grid.Grid.runs.Goals as goal
 
 pub returns-clause-value : goal.returns-clause-value

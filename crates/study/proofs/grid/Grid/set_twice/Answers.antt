@@ -1,5 +1,4 @@
-use Rattle.study.proofs.Basics.{◌≡◌, ◌∙◌, ◌++◌, ap, sym, map, take, drop, length, Bor, List, length-map, Path, path_of, first_again, all_keys, Key}
-use Rattle.study.proofs.Parts.{parted}
+use Rattle.study.proofs.{Basics.{◌≡◌, ◌∙◌, ◌++◌, ap, sym, map, take, drop, length, Bor, List, length-map, Path, path_of, first_again, all_keys, Key}, Parts.{parted}}
 use Rattle.study.proofs.grid.Grid.set_twice.Goals as goal
 
 pub returns : goal.returns

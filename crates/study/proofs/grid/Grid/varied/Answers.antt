@@ -1,5 +1,4 @@
-use Rattle.study.proofs.Basics.{◌≡◌, ◌∙◌, [], ap, sym, map, get_or, combinations, choices, GridRecord, paths_of}
-use Rattle.study.proofs.Points.{first_keys}
+use Rattle.study.proofs.{Basics.{◌≡◌, ◌∙◌, [], ap, sym, map, get_or, combinations, choices, GridRecord, paths_of}, Points.{first_keys}}
 use Rattle.study.proofs.grid.Grid.varied.Goals as goal
 
 pub returns-clause-keys : goal.returns-clause-keys

@@ -1,5 +1,4 @@
-use Rattle.study.specs.KeyWords.{SaysNoKey}
-use Rattle.study.proofs.KeyNames.{carried, top_refused, dotted_refused}
+use Rattle.{study.specs.KeyWords.{SaysNoKey}, study.proofs.KeyNames.{carried, top_refused, dotted_refused}}
 use Rattle.study.proofs.key.Key.parse.Goals as goal
 
 pub returns-in_err-key-in-None-clause-err : goal.returns-in_err-key-in-None-clause-err

@@ -1,5 +1,4 @@
-use Rattle.study.proofs.Basics.{◌≡◌, ◌*◌, pos, ◌∙◌, ap, arith, w64, rules, ints, to_z-of_z, FitsSigned, unsigned_abs}
-use Rattle.study.proofs.Pieces.{reached}
+use Rattle.study.proofs.{Basics.{◌≡◌, ◌*◌, pos, ◌∙◌, ap, arith, w64, rules, ints, to_z-of_z, FitsSigned, unsigned_abs}, Pieces.{reached}}
 use Rattle.study.proofs.range.Range.number.Goals as goal
 
 pub overflow_cast-result : goal.overflow_cast-result

@@ -1,5 +1,4 @@
-use Rattle.sweep.proofs.Words.{rules, ◌≡◌, ℕ, ◌+◌, ◌-◌, length, arith, sym, subst, range_with_len, runs, HeardLimits}
-use Rattle.sweep.proofs.Limiting.{counted_to, all_counted, next_told}
+use Rattle.sweep.proofs.{Words.{rules, ◌≡◌, ℕ, ◌+◌, ◌-◌, length, arith, sym, subst, range_with_len, runs, HeardLimits}, Limiting.{counted_to, all_counted, next_told}}
 use Rattle.sweep.proofs.limits.Limits.add.Goals as goal
 
 pub returns-then-self-runs-clause-heard : goal.returns-then-self-runs-clause-heard

@@ -1,5 +1,4 @@
-use Rattle.sweep.proofs.Words.{rules}
-use Rattle.sweep.proofs.Advancing.{one_of}
+use Rattle.sweep.proofs.{Words.{rules}, Advancing.{one_of}}
 use Rattle.sweep.proofs.limits.Limits.add_all.Goals as goal
 
 pub loop-each-preserved : goal.loop-each-preserved

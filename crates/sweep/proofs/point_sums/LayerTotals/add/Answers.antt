@@ -1,6 +1,4 @@
-use Rattle.sweep.proofs.Words.{◌≡◌, ◌∷◌, ◌++◌, [], ap, sym, ◌∙◌, subst, arith, first_with, is_above, AreFirstRuns, all_detections, greatest}
-use Rattle.sweep.proofs.FirstNumbers.{first_runs_more}
-use Rattle.sweep.proofs.Layered.{layer_added}
+use Rattle.sweep.proofs.{Words.{◌≡◌, ◌∷◌, ◌++◌, [], ap, sym, ◌∙◌, subst, arith, first_with, is_above, AreFirstRuns, all_detections, greatest}, FirstNumbers.{first_runs_more}, Layered.{layer_added}}
 use Rattle.sweep.proofs.point_sums.LayerTotals.add.Goals as goal
 
 pub returns : goal.returns

@@ -1,7 +1,5 @@
-use Rattle.sweep.proofs.Words.{◌≡◌, ◌*◌, ◌^◌, ◌<◌, ap, ◌∙◌, subst, arith, count_by-le-length, IsDistribution, all_durations, all_detections, last_decisions, top_rounds, done_on, over, deciding, is_undecided}
-use Rattle.sweep.proofs.Attained.{columns_told}
-use Rattle.sweep.proofs.Bounding.{columns_kept}
-use Rattle.sweep.proofs.Layered.{few_done, few_decisions, few_rounds}
+use Rattle.sweep.proofs.{Words.{◌≡◌, ◌*◌, ◌^◌, ◌<◌, ap, ◌∙◌, subst, arith, count_by-le-length, IsDistribution, all_durations, all_detections, last_decisions, top_rounds, done_on, over, deciding, is_undecided}, Attained.{columns_told}}
+use Rattle.sweep.proofs.{Bounding.{columns_kept}, Layered.{few_done, few_decisions, few_rounds}}
 use Rattle.sweep.proofs.point_sums.LayerTotals.columns.Goals as goal
 
 pub returns : goal.returns

@@ -1,7 +1,6 @@
 use Rattle.sweep.proofs.Words.{◌≡◌, ◌+◌, ◌^◌, ◌<◌, ◌≤◌, ◌∷◌, ◌++◌, [], length, length-append, cons_option, ap, sym, ◌∙◌, subst, arith, all_durations, all_detections, last_decisions, top_rounds, most_values}
+use Rattle.sweep.proofs.{Layered.{durations_both, detections_both, decisions_both, rounds_both, few_decisions, few_rounds}, Lines.{on_ok}}
 use Rattle.sweep.specs.Percentile.{AreCounted}
-use Rattle.sweep.proofs.Layered.{durations_both, detections_both, decisions_both, rounds_both, few_decisions, few_rounds}
-use Rattle.sweep.proofs.Lines.{on_ok}
 use Rattle.sweep.proofs.point_sums.LayerValues.add.Goals as goal
 
 pub returns : goal.returns

@@ -1,5 +1,4 @@
-use Rattle.sweep.proofs.Words.{◌∷◌, [], length-append, arith}
-use Rattle.sweep.proofs.Lines.{on_ok}
+use Rattle.sweep.proofs.{Words.{◌∷◌, [], length-append, arith}, Lines.{on_ok}}
 use Rattle.sweep.proofs.point_sums.PointSums.add.Goals as goal
 
 pub returns : goal.returns

@@ -1,7 +1,4 @@
-use Rattle.sweep.proofs.Words.{rules, ℕ, ◌+◌, arith, refl, sym, subst, runs_each, WroteUpTo, Memory, Write}
-use Rattle.sweep.proofs.Numbered.{unit_below, point_below}
-use Rattle.sweep.proofs.Reading.{if_err}
-use Rattle.sweep.proofs.Advancing.{added_to, rows_added, wrote_more, wrote_front}
+use Rattle.sweep.proofs.{Words.{rules, ℕ, ◌+◌, arith, refl, sym, subst, runs_each, WroteUpTo, Memory, Write}, Numbered.{unit_below, point_below}, Reading.{if_err}, Advancing.{added_to, rows_added, wrote_more, wrote_front}}
 use Rattle.sweep.proofs.progress.Progress.take.Goals as goal
 
 pub rows_of-requires : goal.rows_of-requires

@@ -1,6 +1,4 @@
-use Rattle.sweep.proofs.Words.{rules, arith}
-use Rattle.sweep.proofs.Reading.{if_err}
-use Rattle.sweep.proofs.Advancing.{one_of}
+use Rattle.sweep.proofs.{Words.{rules, arith}, Reading.{if_err}, Advancing.{one_of}}
 use Rattle.sweep.proofs.progress.Progress.take_all.Goals as goal
 
 pub returns-in_err-take-clause-stops : goal.returns-in_err-take-clause-stops

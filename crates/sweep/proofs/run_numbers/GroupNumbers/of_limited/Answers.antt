@@ -1,6 +1,5 @@
-use Rattle.sweep.proofs.Words.{◌≡◌, ℕ, Bool, true, false, is_some, cond, refl, sym, ◌∙◌, [], ◌∷◌, Record, Group, limited_run, rules, AreLayerNumbers, AreOfLimited, AreOfNoLayer}
+use Rattle.sweep.proofs.{Words.{◌≡◌, ℕ, Bool, true, false, is_some, cond, refl, sym, ◌∙◌, [], ◌∷◌, Record, Group, limited_run, rules, AreLayerNumbers, AreOfLimited, AreOfNoLayer}, Layered.{has_first, has_second}}
 use Rattle.sweep.specs.declared.run_numbers.LayerNumbers.{LayerNumbers}
-use Rattle.sweep.proofs.Layered.{has_first, has_second}
 use Rattle.sweep.proofs.run_numbers.GroupNumbers.of_limited.Goals as goal
 
 second : (group : Group) (S : Record) (n : LayerNumbers) (b : Bool) (count : ℕ) → b ≡ is_some S.share → count ≡ cond b 1 0

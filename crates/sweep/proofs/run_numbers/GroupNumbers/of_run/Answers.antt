@@ -1,7 +1,6 @@
 use Rattle.sweep.proofs.Words.{rules, ◌≡◌, ◌++◌, ◌/◌, ℕ, List, length, take, drop, refl, ap, ◌∙◌, take-append_seam, drop-append_seam, verdicts, Verdicts, MeasuresRun, RunFindings, PairMeasures, IsInRange, Record, done_run, AreLayerFindings, layer_measures, Trusts}
+use Rattle.sweep.proofs.{Layered.{has_first, has_second}, Parts.{alone, shared, first_alone, both_layers, half}}
 use Rattle.reporting.specs.declared.durations.RunDurations.{RunDurations}
-use Rattle.sweep.proofs.Layered.{has_first, has_second}
-use Rattle.sweep.proofs.Parts.{alone, shared, first_alone, both_layers, half}
 use Rattle.sweep.proofs.run_numbers.GroupNumbers.of_run.Goals as goal
 
 layer_found : (S : Record) (f : RunFindings) (d : RunDurations) (t : Trusts) (found : MeasuresRun S f d t) → IsInRange S → (layer : ℕ) (v : Verdicts) (pairs : List PairMeasures)

@@ -1,7 +1,5 @@
 use Rattle.sweep.proofs.Words.{◌≡◌, ◌*◌, ◌^◌, [], length, ap, sym, ◌∙◌, subst, cons_option, flat_map, lengths_of, AreDecisionSums, AreDecisionsWithin, counted_of, deciding_of, last_decision, times_of, top_round, AreBounds, bounds}
-use Rattle.sweep.proofs.Bounding.{bounded_one}
-use Rattle.sweep.proofs.Lasted.{lasted_of}
-use Rattle.sweep.proofs.Parts.{durations_one, detections_one, decisions_one, rounds_one, fitting_one}
+use Rattle.sweep.proofs.{Bounding.{bounded_one}, Lasted.{lasted_of}, Parts.{durations_one, detections_one, decisions_one, rounds_one, fitting_one}}
 use Rattle.sweep.proofs.run_numbers.LayerNumbers.of_run.Goals as goal
 
 pub returns : goal.returns

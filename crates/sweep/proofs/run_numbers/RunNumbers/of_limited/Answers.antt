@@ -1,5 +1,4 @@
-use Rattle.sweep.proofs.Words.{rules, ◌≡◌, ◌+◌, ◌++◌, ◌∷◌, [], take, sym, subst, AllZip, AreGroupNumbers, Group, GroupNumbers, limited_run}
-use Rattle.sweep.proofs.Grouped.{zip_more}
+use Rattle.sweep.proofs.{Words.{rules, ◌≡◌, ◌+◌, ◌++◌, ◌∷◌, [], take, sym, subst, AllZip, AreGroupNumbers, Group, GroupNumbers, limited_run}, Grouped.{zip_more}}
 use Rattle.sweep.proofs.run_numbers.RunNumbers.of_limited.Goals as goal
 
 pub loop-group-preserved : goal.loop-group-preserved

@@ -1,5 +1,4 @@
-use Rattle.sweep.proofs.Words.{rules, ◌≡◌, ◌+◌, ◌++◌, ◌∷◌, [], take, refl, sym, subst, arith, AllZip, done_run, AreGroupNumbers, Group, GroupNumbers}
-use Rattle.sweep.proofs.Grouped.{zip_more, zip_all}
+use Rattle.sweep.proofs.{Words.{rules, ◌≡◌, ◌+◌, ◌++◌, ◌∷◌, [], take, refl, sym, subst, arith, AllZip, done_run, AreGroupNumbers, Group, GroupNumbers}, Grouped.{zip_more, zip_all}}
 use Rattle.sweep.proofs.run_numbers.RunNumbers.of_run.Goals as goal
 
 pub loop-group-preserved : goal.loop-group-preserved

@@ -1,5 +1,4 @@
-use Rattle.sweep.proofs.Words.{rules, ◌≡◌, ◌++◌, ℕ, true, false, [], List, cond, ap, sym, ◌∙◌, append_assoc, append-nil, lead_of, picked, Group, Text, layer_fields, layer_text, line_text, Columns}
-use Rattle.sweep.proofs.Lines.{on_ok}
+use Rattle.sweep.proofs.{Words.{rules, ◌≡◌, ◌++◌, ℕ, true, false, [], List, cond, ap, sym, ◌∙◌, append_assoc, append-nil, lead_of, picked, Group, Text, layer_fields, layer_text, line_text, Columns}, Lines.{on_ok}}
 use Rattle.sweep.proofs.table.Table.push_group.Goals as goal
 
 row : (old new : Text) (picks : List ℕ) (lead : List Text) (group : Group) (layer : ℕ) (c : Columns) (fields : List Text)

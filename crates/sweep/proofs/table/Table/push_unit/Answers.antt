@@ -1,5 +1,4 @@
-use Rattle.sweep.proofs.Words.{rules, ◌<◌, ◌≤◌, length, min, get_or, ap, ◌∙◌, arith}
-use Rattle.sweep.proofs.Grouped.{rows_more, rows_all}
+use Rattle.sweep.proofs.{Words.{rules, ◌<◌, ◌≤◌, length, min, get_or, ap, ◌∙◌, arith}, Grouped.{rows_more, rows_all}}
 use Rattle.sweep.proofs.table.Table.push_unit.Goals as goal
 
 pub loop-place-preserved : goal.loop-place-preserved

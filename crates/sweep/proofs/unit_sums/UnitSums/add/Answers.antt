@@ -1,5 +1,4 @@
-use Rattle.sweep.proofs.Words.{rules, ◌≡◌, ◌<◌, ◌≤◌, length, min, arith, AreSums, AreGroupNumbers, Group, GroupNumbers, AllZip-long, PointSums}
-use Rattle.sweep.proofs.Grouped.{added_more, all_added}
+use Rattle.sweep.proofs.{Words.{rules, ◌≡◌, ◌<◌, ◌≤◌, length, min, arith, AreSums, AreGroupNumbers, Group, GroupNumbers, AllZip-long, PointSums}, Grouped.{added_more, all_added}}
 use Rattle.sweep.proofs.unit_sums.UnitSums.add.Goals as goal
 
 pub loop-place-preserved : goal.loop-place-preserved

@@ -1,5 +1,4 @@
-use Rattle.sweep.proofs.Words.{◌≤◌}
-use Rattle.sweep.proofs.Grouped.{AreAddedBelow}
+use Rattle.sweep.proofs.{Words.{◌≤◌}, Grouped.{AreAddedBelow}}
 use Rattle.sweep.proofs.unit_sums.UnitSums.add.Given as goal
 
 abbrev pub invariant-loop-place : goal.invariant-loop-place

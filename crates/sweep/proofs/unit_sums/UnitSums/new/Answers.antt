@@ -1,5 +1,4 @@
-use Rattle.sweep.proofs.Words.{rules, ◌≡◌, ◌+◌, ◌++◌, ◌∷◌, [], take, sym, subst, AllZip, AreSums, Group, PointSums}
-use Rattle.sweep.proofs.Grouped.{zip_more}
+use Rattle.sweep.proofs.{Words.{rules, ◌≡◌, ◌+◌, ◌++◌, ◌∷◌, [], take, sym, subst, AllZip, AreSums, Group, PointSums}, Grouped.{zip_more}}
 use Rattle.sweep.proofs.unit_sums.UnitSums.new.Goals as goal
 
 pub loop-group-preserved : goal.loop-group-preserved

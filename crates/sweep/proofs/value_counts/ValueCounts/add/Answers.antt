@@ -1,6 +1,4 @@
-use Rattle.sweep.proofs.Words.{◌≡◌, ◌+◌, ◌∷◌, [], Some, cond, ap, sym, ◌∙◌, arith, unwrap_or, is_at, lookup, nat_cmp, length_push, sum_by_push, passing, greater}
-use Rattle.sweep.proofs.Counting.{passing_more, lookup_le, total_of}
-use Rattle.sweep.proofs.Greatest.{greatest_both}
+use Rattle.sweep.proofs.{Words.{◌≡◌, ◌+◌, ◌∷◌, [], Some, cond, ap, sym, ◌∙◌, arith, unwrap_or, is_at, lookup, nat_cmp, length_push, sum_by_push, passing, greater}, Counting.{passing_more, lookup_le, total_of}, Greatest.{greatest_both}}
 use Rattle.sweep.proofs.value_counts.ValueCounts.add.Goals as goal
 
 pub returns : goal.returns

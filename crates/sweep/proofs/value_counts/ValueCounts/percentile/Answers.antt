@@ -1,6 +1,5 @@
-use Rattle.sweep.proofs.Words.{◌≡◌, ℕ, ◌+◌, ◌-◌, ◌*◌, ◌^◌, ◌<◌, ◌≤◌, min, List, length, map, ap, ◌∙◌, arith, mul-le-mul_right, deref_pair, most_values}
+use Rattle.sweep.proofs.{Words.{◌≡◌, ℕ, ◌+◌, ◌-◌, ◌*◌, ◌^◌, ◌<◌, ◌≤◌, min, List, length, map, ap, ◌∙◌, arith, mul-le-mul_right, deref_pair, most_values}, Counting.{percentile_found, none_found}}
 use Rattle.std.proofs.lemmas.Map.Iter.{rest_more, rest_all}
-use Rattle.sweep.proofs.Counting.{percentile_found, none_found}
 use Rattle.sweep.proofs.value_counts.ValueCounts.percentile.Goals as goal
 
 wanted_is : (p infinite : ℕ) (values : List ℕ) {total all from wanted : ℕ} → p ≤ 100 → length values < most_values → infinite < 2 ^ 64 → total ≡ length values

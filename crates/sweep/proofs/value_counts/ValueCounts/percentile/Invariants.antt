@@ -1,5 +1,4 @@
-use Rattle.sweep.proofs.Words.{◌≡◌, ◌*◌, ◌-◌, ◌^◌, ◌<◌, ◌++◌, map, min, deref_pair}
-use Rattle.sweep.proofs.Counting.{counted}
+use Rattle.sweep.proofs.{Words.{◌≡◌, ◌*◌, ◌-◌, ◌^◌, ◌<◌, ◌++◌, map, min, deref_pair}, Counting.{counted}}
 use Rattle.sweep.proofs.value_counts.ValueCounts.percentile.Given as goal
 
 abbrev pub invariant-loop-value : goal.invariant-loop-value

@@ -1,12 +1,7 @@
-use Rattle.std.proofs.Common.{◌≡◌, ℕ, true, false, ap, ◌∙◌, ◌++◌, ◌&&◌, not, nat_le, ◌-◌, map, append_assoc}
-use Rattle.std.proofs.Math.Bool.{and-false}
-use Rattle.std.proofs.lemmas.Result.{on_ok_weaker}
+use Rattle.std.proofs.{Common.{◌≡◌, ℕ, true, false, ap, ◌∙◌, ◌++◌, ◌&&◌, not, nat_le, ◌-◌, map, append_assoc}, Math.Bool.{and-false}, lemmas.Result.{on_ok_weaker}}
 use Rattle.std.specs.FinSet as set
-use Rattle.process_api.specs.Sets.{changes}
-use Rattle.process_api.specs.declared.action.Action.TheVariants.{Note}
-use Rattle.process_api.specs.Timeout.{next_check}
-use Rattle.process_api.proofs.Changes.{notes-joined}
-use Rattle.scenario_record.specs.Opening.{place_of}
+use Rattle.process_api.specs.{Sets.{changes}, declared.action.Action.TheVariants.{Note}, Timeout.{next_check}}
+use Rattle.{process_api.proofs.Changes.{notes-joined}, scenario_record.specs.Opening.{place_of}}
 use Rattle.timeout_detector.specs.Inside.View.{state_of, is_watched, is_overdue}
 use Rattle.timeout_detector.proofs.detector.TimeoutDetector.check.Goals as goal
 

@@ -1,5 +1,4 @@
-use Rattle.std.proofs.Common.{rules}
-use Rattle.process_api.proofs.Contains.{fewer_after_remove}
+use Rattle.{std.proofs.Common.{rules}, process_api.proofs.Contains.{fewer_after_remove}}
 use Rattle.timeout_detector.proofs.detector.TimeoutDetector.hear.Goals as goal
 
 pub invariant_of-self : goal.invariant_of-self

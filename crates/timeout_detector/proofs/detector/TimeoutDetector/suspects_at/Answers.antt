@@ -1,5 +1,4 @@
-use Rattle.std.proofs.Common.{◌≡◌, ℕ, ◌+◌, Bool, sym, ap, ◌∙◌}
-use Rattle.std.proofs.lemmas.Bool.{cond-true, cond-false}
+use Rattle.std.proofs.{Common.{◌≡◌, ℕ, ◌+◌, Bool, sym, ap, ◌∙◌}, lemmas.Bool.{cond-true, cond-false}}
 use Rattle.std.specs.FinSet as set
 use Rattle.process_api.proofs.Contains.{insert_all-next, without_after_insert}
 use Rattle.timeout_detector.specs.Inside.View.{is_overdue}

@@ -1,9 +1,7 @@
 use Rattle.std.proofs.Common.{◌≡◌, false}
 use Rattle.std.specs.List.{filter}
 use Rattle.std.specs.FinSet as set
-use Rattle.process_api.specs.Place.{numbers_to}
-use Rattle.process_api.specs.Sets.{insert_all}
-use Rattle.timeout_detector.specs.Inside.View.{is_overdue}
+use Rattle.{process_api.specs.{Place.{numbers_to}, Sets.{insert_all}}, timeout_detector.specs.Inside.View.{is_overdue}}
 use Rattle.timeout_detector.proofs.detector.TimeoutDetector.suspects_at.Given as goal
 
 abbrev pub invariant-loop-before : goal.invariant-loop-before

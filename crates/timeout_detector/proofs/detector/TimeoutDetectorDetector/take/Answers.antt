@@ -1,9 +1,7 @@
-use Rattle.std.proofs.Common.{ap, subst, arith}
-use Rattle.std.specs.Prelude.{IsTrue}
+use Rattle.{std.proofs.Common.{ap, subst, arith}, std.specs.Prelude.{IsTrue}}
 use Rattle.process_api.proofs.DetectorLaws.{base_allowed, base_few, base_changes}
 use Rattle.process_api.specs.Detector.{ByTimeout, opening_detector, has_pauses, step_detector}
-use Rattle.scenario_record.proofs.DetectorFacts.{opens_paced}
-use Rattle.scenario_record.specs.Opening.{place_of}
+use Rattle.{scenario_record.proofs.DetectorFacts.{opens_paced}, scenario_record.specs.Opening.{place_of}}
 use Rattle.timeout_detector.specs.Inside.View.{state_of}
 use Rattle.timeout_detector.proofs.detector.TimeoutDetectorDetector.take.Goals as goal
 

@@ -1,8 +1,5 @@
 use Rattle.trace_merge.proofs.Words.{◌≡◌, ◌<◌, ◌≤◌, ◌++◌, [], List, map, ap, ◌∙◌, sym, subst, arith, inl, inr, length, with_items_is, All, All-weaker, MatchOption, IsPermutation, IsPermutation-trans, length_permutation, EntryRecord, Lane, AllDiffer, all_of}
-use Rattle.trace_merge.proofs.Distinct.{Ahead, goes_on, rest_differ}
-use Rattle.trace_merge.proofs.Exists.{has_merge}
-use Rattle.trace_merge.proofs.Gathering.{rest_of, taken_ahead, taken_before}
-use Rattle.trace_merge.proofs.pieces.Merging.first_piece.Goals.{in-Some+then-len-least, in_default}
+use Rattle.trace_merge.proofs.{Distinct.{Ahead, goes_on, rest_differ}, Exists.{has_merge}, Gathering.{rest_of, taken_ahead, taken_before}, pieces.Merging.first_piece.Goals.{in-Some+then-len-least, in_default}}
 use Rattle.trace_merge.proofs.pieces.Merging.first_piece.Goals as goal
 
 abbrev rests : List Lane → List EntryRecord

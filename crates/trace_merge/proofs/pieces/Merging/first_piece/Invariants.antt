@@ -1,6 +1,4 @@
-use Rattle.trace_merge.proofs.Words.{◌≡◌, ◌<◌, ◌++◌, [], map, All, MatchOption, IsPermutation, all_of}
-use Rattle.trace_merge.proofs.Distinct.{Ahead}
-use Rattle.trace_merge.proofs.Gathering.{rest_of, still}
+use Rattle.trace_merge.proofs.{Words.{◌≡◌, ◌<◌, ◌++◌, [], map, All, MatchOption, IsPermutation, all_of}, Distinct.{Ahead}, Gathering.{rest_of, still}}
 use Rattle.trace_merge.proofs.pieces.Merging.first_piece.Given as goal
 
 abbrev pub invariant-loop-at : goal.invariant-loop-at

@@ -1,5 +1,4 @@
-use Rattle.trace_merge.proofs.Words.{arith, nil_from_length, ◌≡◌, ◌++◌, [], ◌∷◌, map, ap, ◌∙◌, sym, subst, All, All-tail, IsTrue, append-nil, append_assoc, map-append, is_rising, into_iter_items, AllDiffer, all_of}
-use Rattle.trace_merge.proofs.Distinct.{all_differ}
+use Rattle.trace_merge.proofs.{Words.{arith, nil_from_length, ◌≡◌, ◌++◌, [], ◌∷◌, map, ap, ◌∙◌, sym, subst, All, All-tail, IsTrue, append-nil, append_assoc, map-append, is_rising, into_iter_items, AllDiffer, all_of}, Distinct.{all_differ}}
 use Rattle.trace_merge.proofs.Gathering.{items_of, rest_of}
 use Rattle.trace_merge.proofs.pieces.Merging.new.Goals as goal
 

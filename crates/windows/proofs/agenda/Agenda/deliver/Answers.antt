@@ -1,5 +1,4 @@
-use Rattle.windows.proofs.Words.{sym, subst, AreOne, in_box}
-use Rattle.windows.proofs.Agendas.{are_inside}
+use Rattle.windows.proofs.{Words.{sym, subst, AreOne, in_box}, Agendas.{are_inside}}
 use Rattle.windows.proofs.agenda.Agenda.deliver.Goals as goal
 
 pub settle-requires : goal.settle-requires

@@ -1,5 +1,4 @@
-use Rattle.windows.proofs.Words.{map, subst, sym, ap, ◌∙◌, Option, ℕ, MatchOption, Events, event_of, IsEmpty, IsLeastTick, earlier_of, all_ahead, all_in, in_box}
-use Rattle.windows.proofs.Agendas.{all_inside, are_inside, least_joined, tick_of_letters}
+use Rattle.windows.proofs.{Words.{map, subst, sym, ap, ◌∙◌, Option, ℕ, MatchOption, Events, event_of, IsEmpty, IsLeastTick, earlier_of, all_ahead, all_in, in_box}, Agendas.{all_inside, are_inside, least_joined, tick_of_letters}}
 use Rattle.windows.proofs.agenda.Agenda.least_tick.Goals as goal
 
 -- the least tick of a set, if there is one

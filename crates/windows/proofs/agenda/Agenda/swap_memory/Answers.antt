@@ -1,5 +1,4 @@
-use Rattle.windows.proofs.Words.{subst, Has}
-use Rattle.windows.proofs.Agendas.{are_inside}
+use Rattle.windows.proofs.{Words.{subst, Has}, Agendas.{are_inside}}
 use Rattle.windows.proofs.agenda.Agenda.swap_memory.Goals as goal
 
 pub invariant_of-self : goal.invariant_of-self

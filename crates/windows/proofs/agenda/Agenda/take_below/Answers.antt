@@ -1,6 +1,5 @@
-use Rattle.windows.proofs.Words.{◌≡◌, ◌∙◌, ◌<◌, ap, sym, subst, map, MatchOption, event_of, IsLeast, NoneBelow, joined}
+use Rattle.windows.proofs.{Words.{◌≡◌, ◌∙◌, ◌<◌, ap, sym, subst, map, MatchOption, event_of, IsLeast, NoneBelow, joined}, Agendas.{all_inside, are_inside, taken_below, taken_least, taken_removed}}
 use Rattle.std.specs.FinMap as events
-use Rattle.windows.proofs.Agendas.{all_inside, are_inside, taken_below, taken_least, taken_removed}
 use Rattle.windows.proofs.agenda.Agenda.take_below.Goals as goal
 
 pub settle-requires : goal.settle-requires

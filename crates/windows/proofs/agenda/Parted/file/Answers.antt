@@ -1,6 +1,5 @@
-use Rattle.windows.proofs.Words.{◌∙◌, ◌++◌, ◌∷◌, [], ◌<◌, ◌≤◌, ap, sym, subst, arith, Some, AllByRecursion, Event, joined, both, earlier_of, AreFrom, first_tick}
+use Rattle.windows.proofs.{Words.{◌∙◌, ◌++◌, ◌∷◌, [], ◌<◌, ◌≤◌, ap, sym, subst, arith, Some, AllByRecursion, Event, joined, both, earlier_of, AreFrom, first_tick}, Agendas.{filed_due, filed_later, tick_more}}
 use Rattle.std.specs.FinMap as events
-use Rattle.windows.proofs.Agendas.{filed_due, filed_later, tick_more}
 use Rattle.windows.proofs.agenda.Parted.file.Goals as goal
 
 pub returns-in_ok-push : goal.returns-in_ok-push

@@ -1,5 +1,4 @@
-use Rattle.windows.proofs.Words.{◌≡◌, ap, refl, sym, length, ◌∙◌, rules, made_in}
-use Rattle.windows.proofs.Letters.{all_handed, is_for, still_for}
+use Rattle.windows.proofs.{Words.{◌≡◌, ap, refl, sym, length, ◌∙◌, rules, made_in}, Letters.{all_handed, is_for, still_for}}
 use Rattle.windows.proofs.berth.Berth.take.Goals as goal
 
 pub turn-requires-clause-serves : goal.turn-requires-clause-serves

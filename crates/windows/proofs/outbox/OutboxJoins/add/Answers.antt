@@ -1,6 +1,5 @@
-use Rattle.windows.proofs.Words.{◌∙◌, ap, sym, on_ok_weaker, joined, joined_one, for_self}
+use Rattle.windows.proofs.{Words.{◌∙◌, ap, sym, on_ok_weaker, joined, joined_one, for_self}, Letters.{own_more}}
 use Rattle.std.specs.FinMap as events
-use Rattle.windows.proofs.Letters.{own_more}
 use Rattle.windows.proofs.outbox.OutboxJoins.add.Goals as goal
 
 pub returns-clause-grown : goal.returns-clause-grown

@@ -1,5 +1,4 @@
-use Rattle.windows.proofs.Words.{◌∷◌, ◌++◌, ◌∙◌, [], ap, sym, map-append, on_ok_weaker, Letter, event_of, joined, filed}
-use Rattle.windows.proofs.Letters.{filed_more, other_more}
+use Rattle.windows.proofs.{Words.{◌∷◌, ◌++◌, ◌∙◌, [], ap, sym, map-append, on_ok_weaker, Letter, event_of, joined, filed}, Letters.{filed_more, other_more}}
 use Rattle.windows.proofs.outbox.OutboxJoins.send.Goals as goal
 
 pub returns-clause-grown : goal.returns-clause-grown

@@ -1,5 +1,4 @@
-use Rattle.windows.proofs.Words.{◌≡◌, [], ◌∙◌, map, sym, ap, subst, Vec, OnOk, OnErr, AreParts, TookAllBut, TookFrontOf}
-use Rattle.windows.proofs.Waiting.{no_parts}
+use Rattle.windows.proofs.{Words.{◌≡◌, [], ◌∙◌, map, sym, ap, subst, Vec, OnOk, OnErr, AreParts, TookAllBut, TookFrontOf}, Waiting.{no_parts}}
 use Rattle.windows.proofs.run.HandingChore.work.Goals as goal
 
 pub returns-clause-done : goal.returns-clause-done

@@ -1,5 +1,4 @@
-use Rattle.windows.proofs.Words.{rules, ◌≡◌, ◌+◌, suc, map, ap, subst, sym, ◌∙◌, arith, length, Vec, slice_get_within, all_of, AreOne}
-use Rattle.windows.proofs.Places.{all_at, list_at}
+use Rattle.windows.proofs.{Words.{rules, ◌≡◌, ◌+◌, suc, map, ap, subst, sym, ◌∙◌, arith, length, Vec, slice_get_within, all_of, AreOne}, Places.{all_at, list_at}}
 use Rattle.windows.proofs.stage.Stage.close.Goals as goal
 
 pub hand_over-requires-clause-one : goal.hand_over-requires-clause-one

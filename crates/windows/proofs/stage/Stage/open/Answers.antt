@@ -1,5 +1,4 @@
-use Rattle.windows.proofs.Words.{map, ap, ◌∙◌, refl, None, opened, machines_open}
-use Rattle.windows.proofs.Opening.{opening_stands, opening_stage}
+use Rattle.windows.proofs.{Words.{map, ap, ◌∙◌, refl, None, opened, machines_open}, Opening.{opening_stands, opening_stage}}
 use Rattle.windows.proofs.stage.Stage.open.Goals as goal
 
 pub berths_of-requires-after_bounds : goal.berths_of-requires-after_bounds
