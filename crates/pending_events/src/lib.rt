@@ -13,6 +13,7 @@ mod joins;
 mod order;
 mod pending;
 mod row;
+mod served;
 
 pub use pending::Pending;
 pub use row::Row;

@@ -1,5 +1,5 @@
 //! The number of a process, and the number of all processes.
-ghost use Rattle.std.specs.Prelude.{◌≡◌, ◌≤◌, ◌<◌, ◌+◌};
+ghost use Rattle.std.specs.Prelude.{◌≡◌, ◌≤◌, ◌<◌, ◌+◌, ◌%◌};
 ghost use Rattle.process_api.specs.{Place.{most_processes}, Coordinator.{coordinator as coordinator_of, is_own, majority as majority_of}};
 
 use crate::pid::Pid;
@@ -14,6 +14,18 @@ pub struct Membership {
     ghost from_one: { 1 ≤ own },
     ghost one_of_them: { own ≤ processes },
     ghost few: { processes ≤ most_processes },
+}
+
+/// The rest of a round by a number of processes. Most rounds are less than it, and a division takes long.
+#[inline(always)]
+fn rest(round: u64, processes: u16) -> u16
+    requires { 1 ≤ processes }
+    ensures { result ≡ round % processes }
+{
+    if round < u64::from(processes) {
+        return round as u16;
+    }
+    (round % u64::from(processes)) as u16
 }
 
 impl Membership {
@@ -40,7 +52,7 @@ impl Membership {
     pub fn coordinator(&self, round: u64) -> Pid
         ensures { result ≡ coordinator_of self.now.processes round }
     {
-        self.process((round % u64::from(self.processes)) as u16)
+        self.process(rest(round, self.processes))
     }
 
     /// Whether the process itself is the coordinator of a round.

@@ -37,8 +37,13 @@ impl Counts {
     {
         let (sent, lost) = (entry.sent, entry.lost);
         self.entries = self.entries.saturating_add(1);
-        self.sent = self.sent.saturating_add(u128::from(sent));
-        self.lost = self.lost.saturating_add(u128::from(lost));
+        // most entries send no letter
+        if sent != 0 {
+            self.sent = self.sent.saturating_add(u128::from(sent));
+        }
+        if lost != 0 {
+            self.lost = self.lost.saturating_add(u128::from(lost));
+        }
     }
 }
 
