@@ -1,5 +1,5 @@
 -- The groups of a table, and their members above n.
-use Rattle.network.proofs.Basics.{◌≡◌, ℕ, ◌+◌, ◌-◌, List, [], ◌∷◌, map, take, Some, None, ap, sym, arith, All, take-map, All-nil, All-cons, All-map, AreAllWithin, AreWithin, HasKeyAbove, Named, member_above, named}
+use Rattle.network.proofs.Basics.{◌≡◌, ℕ, ◌+◌, ◌-◌, ◌<◌, List, [], ◌∷◌, map, length, get_or, take, take_more, Some, None, ap, sym, arith, All, take-map, All-nil, All-cons, All-map, All-push, AreAllWithin, AreWithin, HasKeyAbove, Named, member_above, named}
 use Rattle.network.specs.declared.group.Group.{Group}
 
 module _ (n : ℕ) where
@@ -36,6 +36,12 @@ module _ (n : ℕ) where
   }
 
 pub ruleset naming = (first_named, second_named, both_within)
+
+pub all_next : {T : Type 0} (n : ℕ) (groups : T → List Named) (tables : List T) (i : ℕ) (t : T) → i < length tables
+    → t ≡ get_or tables i t → All (λ t. AreAllWithin n (groups t)) (take i tables) → AreAllWithin n (groups t)
+    → All (λ t. AreAllWithin n (groups t)) (take (i + 1) tables)
+all_next n groups tables i t within is all here =
+    rw (take_more tables i t within, ← is) (All-push (λ t. AreAllWithin n (groups t)) (take i tables) t all here)
 
 -- no group of the tables before one
 pub all_before : {T : Type 0} (n : ℕ) (groups : T → List Named) (tables : List T) (i : ℕ)

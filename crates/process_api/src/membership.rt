@@ -16,9 +16,9 @@ pub struct Membership {
     ghost few: { processes ≤ most_processes },
 }
 
-/// The rest of a round by a number of processes. Most rounds are less than it, and a division takes long.
+/// The remainder of a round by a number of processes. Most rounds are less than it, and a division takes long.
 #[inline(always)]
-fn rest(round: u64, processes: u16) -> u16
+fn remainder(round: u64, processes: u16) -> u16
     requires { 1 ≤ processes }
     ensures { result ≡ round % processes }
 {
@@ -52,7 +52,7 @@ impl Membership {
     pub fn coordinator(&self, round: u64) -> Pid
         ensures { result ≡ coordinator_of self.now.processes round }
     {
-        self.process(rest(round, self.processes))
+        self.process(remainder(round, self.processes))
     }
 
     /// Whether the process itself is the coordinator of a round.

@@ -4,7 +4,7 @@ pub use Rattle.std.proofs.Math.Dec.{ltb}
 pub use Rattle.std.proofs.Math.Nat.{add-mul, div-lt_iff_lt-mul, div-mul-le_self, le-mul_of_pos_right, lt-div-mul-add, mod-eq_of_lt, mod-lt, mul-add-mod_self_right, mul-div_cancel_left, mul-div_left, mul-le-mul_left, mul-le-mul_right, mul-suc, mul-zero, mul_assoc, one-le-mul, suc-mul, zero-add, zero-div, zero-mul}
 pub use Rattle.std.proofs.lemmas.Bool.{and_from, and_parts, cases_Bool, cases_lt, eq-eqb, eqb-false, eqb-true, false≢true, le-ltb, lt-ltb, ltb-false, ltb-true, ne_eqb}
 pub use Rattle.std.proofs.lemmas.Int.{ints, to_z-of_z}
-pub use Rattle.std.proofs.lemmas.List.{append-nil, append_cancel_right, at_drop_all, at_drop_more, drop_more, get_or-map, get_or_at, get_or_default, length-map, length-take-le, map-append, map_more, map_push}
+pub use Rattle.std.proofs.lemmas.List.{append-nil, append_cancel_right, at_drop_all, at_drop_more, drop_more, get_or-map, get_or_at, get_or_default, length-map, length-take-le, map-append, map_more, map_push, take_all}
 pub use Rattle.std.proofs.lemmas.List.Elements.{All-append, All-cons, All-map, All-nil}
 pub use Rattle.std.proofs.lemmas.List.Folds.{list_all_at, list_any-append, list_any_none}
 pub use Rattle.std.proofs.lemmas.List.FromFn.{get_or-map-range_with_len, length-map-range_with_len, length-range_with_len, map-range_with_len_more, sum_by-map-range_with_len_more}

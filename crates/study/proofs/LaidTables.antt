@@ -1,6 +1,6 @@
 -- Arrays of tables, as the code changes them.
-use Rattle.std.proofs.{Common.{◌≡◌, ◌≢◌, ℕ, suc, List, [], ◌∷◌, ◌++◌, map, filter, length, codes, ◌==◌, Bool, true, false, not, Option, Some, None, option_and_then, if◌then◌else◌, refl, sym, ◌∙◌, ap, arith}, lemmas.Simd.{map-map}}
-use Rattle.study.proofs.Basics.{option_map_or, ne_eqb, map-append, Data, array, table, Items, no_items, item, Members, get_member, as_array, as_table, Value, outage_table, with_outages, put, LinkOutage, listed, values_in, with_tables, with_rows, is_laid, StaysAsItIs, HasValues}
+use Rattle.std.proofs.{Common.{◌≡◌, ◌≢◌, ℕ, suc, ◌+◌, ◌<◌, List, [], ◌∷◌, ◌++◌, append_assoc, map, filter, take, drop, length, get_or, codes, ◌==◌, Bool, true, false, not, cond, Option, Some, None, option_and_then, if◌then◌else◌, refl, sym, ◌∙◌, ap, arith}, lemmas.Simd.{map-map}}
+use Rattle.study.proofs.Basics.{option_map_or, ne_eqb, drop_more, map-append, map_more, map_push, Data, array, table, Items, no_items, item, Members, get_member, as_array, as_table, Value, outage_table, with_outages, put, LinkOutage, listed, values_in, with_tables, with_rows, is_laid, StaysAsItIs, HasValues}
 use Rattle.toml.specs.View.{view, items_of, items_view}
 use Rattle.scenario.specs.Table.{all_items, is_table, the_tables, tables_at, is_of, is_mistyped}
 use Rattle.scenario.specs.declared.field.Kind.TheVariants as kind
@@ -40,6 +40,32 @@ module _ (key : List ℕ) (t : Members) where
       by_value change (Some d) is
       ∙ (ap (λ b. if b then put key (array (items_of (change (values_in d)))) t else t) tables
       ∙ ap (λ ds. put key (array (items_of (change ds))) t) (ap values_in same ∙ values_listed vs))
+
+-- ---- one value after the other
+
+left_out : {X : Type 0} (b : Bool) (x : X) (xs : List X) → (if b then [] else x ∷ []) ++ xs ≡ cond (not b) (x ∷ xs) xs
+left_out true x xs = refl
+left_out false x xs = refl
+
+module _ (i : ℕ) where
+  pub other_more : (p : Data → Bool) (vs : List Value) (v : Value) (old new : List Data) → i < length vs → v ≡ get_or vs i v
+      → new ≡ old ++ (if p (view v) then [] else view v ∷ [])
+      → new ++ filter (λ d. not (p d)) (map view (drop (i + 1) vs)) ≡ old ++ filter (λ d. not (p d)) (map view (drop i vs))
+  other_more p vs v old new within is pushed =
+      let rest : List Value → List Data = λ xs. filter (λ d. not (p d)) (map view xs) in
+      let next = drop (i + 1) vs in
+      ap (λ ds. ds ++ rest next) pushed ∙ (append_assoc old (if p (view v) then [] else view v ∷ []) (rest next)
+      ∙ ap (λ ds. old ++ ds) (left_out (p (view v)) (view v) (rest next)
+      ∙ (ap (λ x. rest (x ∷ next)) is ∙ sym (ap rest (drop_more vs i v within)))))
+
+  pub row_more : {R : Type 0} (said : R → Data) (rows : List R) (row : R) (old now new : List Value) (v : Value)
+      → i < length rows → row ≡ get_or rows i row → view v ≡ said row → new ≡ now ++ (v ∷ [])
+      → map view now ≡ map view old ++ map said (take i rows) → map view new ≡ map view old ++ map said (take (i + 1) rows)
+  row_more said rows row old now new v within is says pushed so_far =
+      ap (map view) pushed ∙ (map_push view now v ∙ (ap (λ ds. ds ++ (view v ∷ [])) so_far
+      ∙ (append_assoc (map view old) (map said (take i rows)) (view v ∷ [])
+      ∙ ap (λ ds. map view old ++ ds) (ap (λ d. map said (take i rows) ++ (d ∷ [])) (says ∙ ap said is)
+      ∙ sym (map_more said rows i row within)))))
 
 -- ---- what is laid
 

@@ -69,6 +69,25 @@ number_pushed old now new r k row pushed is so_far =
 
 -- ---- one part of a value after the other
 
+abbrev parts_in : List (Bor (List ℕ)) → List Piece
+parts_in ws = map piece_said (map (λ x. x.now) ws)
+
+module _ (ws : List (Bor (List ℕ))) (i : ℕ) (d : Bor (List ℕ)) (within : i < length ws) where
+  parts_left : parts_in (drop i ws) ≡ piece_said (get_or ws i d).now ∷ parts_in (drop (i + 1) ws)
+  parts_left = at_drop_more parts_in ws i d within
+
+  pub part_fails : (e : AxisError) → part_fault (piece_said (get_or ws i d).now) ≡ Some e
+      → parts_fault (parts_in (drop i ws)) ≡ Some e
+  part_fails e here = rw (parts_left, here)
+
+  pub part_more : (old new : List Setting) (s : Setting) → part_fault (piece_said (get_or ws i d).now) ≡ None
+      → values (piece_said (get_or ws i d).now) ≡ given_by s ∷ [] → new ≡ old ++ (s ∷ [])
+      → (parts_fault (parts_in (drop (i + 1) ws)) ≡ parts_fault (parts_in (drop i ws)))
+      × (map given_by new ++ flat_map values (parts_in (drop (i + 1) ws))
+      ≡ map given_by old ++ flat_map values (parts_in (drop i ws)))
+  part_more old new s fine is pushed =
+      (rw (parts_left, fine) refl, rw (parts_left, pushed, map_push, is, append_assoc) refl)
+
 -- ---- one entry after the other
 
 or_none : (f g : Option AxisError) → option_or f g ≡ None → (f ≡ None) × (g ≡ None)

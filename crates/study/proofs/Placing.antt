@@ -99,6 +99,12 @@ module _ (k : List ℕ) (d : Data) where
       ∙ (ap (λ r. after done (then r (λ n. then rest (λ es. Ok (item (table (put k d n)) es))))) (sym there)
       ∙ (ap (after done) (sym (each_from vs i v within is)) ∙ so_far))
 
+  pub put_fails : (vs : List Value) (i : ℕ) (v : Value) (done : List Value) (e : PlaceError) (all : Result Items PlaceError)
+      → i < length vs → v ≡ get_or vs i v → table_of (view v) ≡ Err e
+      → after done (put_in_each k d (items_view (drop i vs))) ≡ all → all ≡ Err e
+  put_fails vs i v done e all within is none so_far =
+      sym so_far ∙ (ap (after done) (each_from vs i v within is) ∙ rw none)
+
   pub put_all : (vs : List Value) (i : ℕ) (done : List Value) (all : Result Items PlaceError) → length vs ≤ i
       → after done (put_in_each k d (items_view (drop i vs))) ≡ all → all ≡ Ok (items_view done)
   put_all vs i done all past so_far =

@@ -1,4 +1,4 @@
-use Rattle.event_list.proofs.Words.{◌≡◌, ◌+◌, ◌*◌, List, length, map, sym, subst, ◌∙◌, arith, Some, slice_get, ◌-◌, ◌++◌, ◌∷◌, [], All, length-map, length_push, MatchOption-at_none, MatchOption-at_some, most_step_actions, Mind, HaveJoined, posted_in, setting_of, process_of, IsSeated, IsProcess, IsStepped, Process, step, trace_rises, setting_sound}
+use Rattle.event_list.proofs.Words.{◌≡◌, ◌+◌, ◌*◌, List, length, map, refl, append-nil, sym, subst, ◌∙◌, arith, Some, slice_get, ◌-◌, ◌++◌, ◌∷◌, [], All, length-map, length_push, MatchOption-at_none, MatchOption-at_some, most_step_actions, Mind, HaveJoined, posted_in, setting_of, process_of, IsSeated, IsProcess, IsStepped, Process, step, trace_rises, setting_sound}
 use Rattle.event_list.proofs.{Recording.{Going, taken_next, cut_short}, Standing.{first_longer, first_receiver, first_process, first_own, stands_next, stands_end}}
 use Rattle.trace_laws.proofs.{Effects.{trace_has_causes, trace_takes_once}, Joining.{joined_then}}
 use Rattle.event_list.proofs.list.run_list_into.Goals as goal
@@ -27,6 +27,25 @@ take-requires-clause-receiver g c κs within =
 pub take-requires-clause-own : goal.take-requires-clause-own
 take-requires-clause-own g c κs within =
     first_own c.args.scenario.now _ _ _ _ c.loop-list.invariant.going.stands _ _ (MatchOption-at_some _ _ _ c.in-Some.is c.in_ok-event.ensures.least)
+
+pub loop-list-init : goal.loop-list-init
+loop-list-init g c =
+    let opens = c.in_ok-list.ensures in
+    let followed = g.F.Follower.followed c.args.follower.now c.args.follower.now in
+    let heard = g.L.Listener.heard in
+    record {
+      going = record {
+        trace = [];
+        letters = [];
+        stands = opens.opening;
+        long = refl;
+        taken = λ before h. subst followed (sym (append-nil before)) h;
+        heard = λ first before h. subst (λ xs. heard first xs c.args.listener.now) (sym (append-nil before)) h;
+      };
+      seated = opens.seated;
+      count = opens.count;
+      within = omega arith;
+    }
 
 pub loop-list-preserved : goal.loop-list-preserved
 loop-list-preserved g c =

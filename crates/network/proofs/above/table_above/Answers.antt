@@ -1,4 +1,4 @@
-use Rattle.network.proofs.{Basics.{◌≡◌, subst, take, arith, add-one, All, take_all, All-map, AreAllWithin}, ArrayTables.{numbered_image}, Naming.{all_before}}
+use Rattle.network.proofs.{Basics.{◌≡◌, refl, subst, take, arith, add-one, All, take_all, All-map, AreAllWithin}, ArrayTables.{numbered_image}, Naming.{all_before, all_next}}
 use Rattle.network.proofs.above.table_above.Goals as goal
 
 pub returns-in-Some-clause-some : goal.returns-in-Some-clause-some
@@ -8,6 +8,11 @@ returns-in-Some-clause-some g c = record {
   within = all_before c.args.n g.T.NamesGroups.groups c.args.tables.now c.loop-i.i c.loop-i.invariant;
   is = c.in-Some.ensures.some;
 }
+
+pub loop-i-preserved : goal.loop-i-preserved
+loop-i-preserved g c =
+    all_next c.args.n g.T.NamesGroups.groups c.args.tables.now c.loop-i.i c.index-tables-i.result c.loop-i-test.true
+    c.index-tables-i.is c.loop-i.invariant (c.in_default.ensures.none refl)
 
 pub returns-clause-none : goal.returns-clause-none
 returns-clause-none g c = λ none.

@@ -1,6 +1,15 @@
-use Rattle.study.proofs.{Basics.{◌≡◌, ◌∙◌, ◌+◌, ap, sym, subst, drop, [], ◌∷◌, ◌++◌, rules, table, view, table_view, items_view, view-Table, put_in_each}, Placing.{after, put_more, put_all}}
+use Rattle.study.proofs.{Basics.{◌≡◌, ◌∙◌, ◌+◌, ap, sym, subst, drop, [], ◌∷◌, ◌++◌, rules, table, view, table_view, items_view, view-Table, put_in_each}, KeyNames.{carried}, Placing.{after, put_fails, put_more, put_all}}
+use Rattle.study.specs.Placed.{IsRefused}
 use Rattle.toml.specs.declared.value.Value.TheVariants.{Table}
 use Rattle.study.proofs.placed.changed_items.Goals as goal
+
+pub returns-in_err-copy-clause-err : goal.returns-in_err-copy-clause-err
+returns-in_err-copy-clause-err c =
+    let all = put_in_each c.args.key.now (view c.args.value.now) (items_view c.args.items.now) in
+    carried (IsRefused all) c.from_residual.result c.in_err-copy.field-0.0 c.from_residual.ensures.1
+    (λ other. put_fails c.args.key.now (view c.args.value.now) c.args.items.now c.loop-item.item-index c.item-item.result
+    c.loop-item.changed.items c.in_err-copy.field-0.0 all c.loop-item-test.true c.item-item.is
+    (c.in_err-copy.ensures.err other) c.loop-item.invariant)
 
 pub loop-item-preserved : goal.loop-item-preserved
 loop-item-preserved c =

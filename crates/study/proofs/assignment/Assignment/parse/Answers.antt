@@ -1,4 +1,5 @@
-use Rattle.study.proofs.{Basics.{◌≡◌, ◌∙◌, [], None, length, sym, subst, lit<, eqb-true, split_parts, path_of, SaysKey, SaysNoKey}, Parts.{has_not, split_has, nothing}}
+use Rattle.std.proofs.lemmas.Grind.{common_steps}
+use Rattle.study.proofs.{Basics.{◌≡◌, ◌∙◌, [], None, arith, length, sym, subst, lit<, eqb-true, split_parts, path_of, SaysKey, SaysNoKey}, Parts.{has_not, split_has, nothing}}
 use Rattle.study.specs.SetWords.{no_equals, no_key, no_value}
 use Rattle.study.proofs.assignment.Assignment.parse.Goals as goal
 
@@ -18,3 +19,6 @@ returns-then-is_empty-clause-err c other =
     nothing c.in-Some.parts.1.now (eqb-true (length c.in-Some.parts.1.now) 0 (sym c.is_empty.ensures ∙ c.if-is_empty.true)) in
     no_value (path_of c.in-Ok.key) split.0 (subst (λ k. SaysKey k (path_of c.in-Ok.key)) split.1 c.in-Ok.ensures.ok)
     (sym split.2 ∙ none)
+
+pub returns-clause-ok : goal.returns-clause-ok
+returns-clause-ok c = grind (arith, common_steps)
