@@ -1,10 +1,10 @@
-//! Tests of the crates on which the others depend: scenarios, and the parts of a process.
+//! Tests of the crates on which the others depend: scenarios, networks, and the parts of a process.
 //!
-//! These are the tests of `scenario`, `process_api`, `timeout_detector`, `freshness_detector`, `reduction`,
-//! `consensus_s`, `consensus_es`, `stack` and `machines`, a module for each: files of scenarios, processes, sets, keys
-//! and actions, detectors and algorithms input by input, parts that are joined, and the machines of a scenario at their
-//! start. They stand apart from these crates, since a crate with tests is proved twice, without them and with them, and
-//! this crate has nothing else.
+//! These are the tests of `scenario`, `network`, `process_api`, `timeout_detector`, `freshness_detector`, `reduction`,
+//! `consensus_s`, `consensus_es`, `stack` and `machines`, a module for each: files of scenarios and of networks,
+//! processes, sets, keys and actions, detectors and algorithms input by input, parts that are joined, and the machines
+//! of a scenario at their start. They stand apart from these crates, since a crate with tests is proved twice, without
+//! them and with them, and this crate has nothing else.
 //!
 //! Modules of their own have what the tests share: comparisons, changes of texts (`changes`), the inputs of a part
 //! (`inputs`), its actions as text (`answers`), parts that are driven by rows of the two (`driving`), and a detector
@@ -29,6 +29,8 @@ mod freshness_tests;
 mod inputs;
 #[cfg(test)]
 mod making_tests;
+#[cfg(test)]
+mod network_tests;
 #[cfg(test)]
 mod process_tests;
 #[cfg(test)]

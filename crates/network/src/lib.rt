@@ -11,7 +11,7 @@
 //! finds a process that the network names and a run doesn't have.
 //!
 //! [`draw`] gives the outages of all sources up to the horizon, in their fixed order (`specs/Drawn.antt`), and
-//! [`laid_links`] gives what the network says of links (`specs/Laid.antt`). The tests take values from outside, by
+//! [`laid_links`] gives what the network says of links (`specs/Laid.antt`). `base_tests` has the tests, with values from outside, by
 //! `bench/network.py`.
 //!
 //! For example, take seed 1 and a burst with gaps of 50 ticks and lengths of 10 on the link from process 1 to process 2
@@ -28,8 +28,6 @@ mod group;
 mod kind;
 mod laid;
 mod network;
-#[cfg(test)]
-mod network_tests;
 mod outages;
 mod read;
 mod reading;

@@ -4,15 +4,10 @@ ghost use Rattle.std.specs.Prelude.{◌≡◌, ◌≤◌, ◌∷◌, [], IfOk};
 ghost use Rattle.process_api.specs.Place.{most_processes};
 ghost use Rattle.network.specs.Ranges.{IsNetwork, IsReplay, IsRhythm, IsSpell, IsTicks};
 
-use crate::above::process_above;
-use crate::drawing::draw;
-use crate::field::{Shape, TableKind};
-use crate::group::{Group, LinkSet};
-use crate::network::{Burst, Cut, Network, Pause, Replay};
-use crate::read::read_network;
-use crate::refusal::{NetworkError, TableFault, ValueFault};
-use crate::rhythm::Rhythm;
-use crate::spell::Spell;
+use network::{
+    Burst, Cut, Group, LinkSet, Network, NetworkError, Pause, Replay, Rhythm, Shape, Spell,
+    TableFault, TableKind, ValueFault, draw, process_above, read_network,
+};
 use process_api::{Pid, ProcSet};
 use scenario_record::Outage;
 use std::alloc::Global;
