@@ -1,5 +1,0 @@
-use Rattle.mailboxes.specs.Mailboxes.{IsSlipOf}
-use Rattle.running_tests.proofs.mailbox_tests.post_many.Given as goal
-
-abbrev pub invariant-loop-number : goal.invariant-loop-number
-invariant-loop-number g l = IsSlipOf l.mailboxes l.slip
