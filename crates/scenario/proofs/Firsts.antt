@@ -1,5 +1,5 @@
 -- Lemmas on the first of some refusals that applies.
-use Rattle.scenario.proofs.Words.{◌≡◌, ℕ, List, [], ◌∷◌, ◌++◌, Bool, true, false, Option, Some, None, is_some, refl, sym, ap, subst, Result, Ok, Err, IsAnswer, Judges, when, when_below, first_of, ScenarioError}
+use Rattle.scenario.proofs.Words.{◌≡◌, ℕ, List, [], ◌∷◌, ◌++◌, Bool, true, false, Option, Some, None, is_some, refl, sym, ap, subst, Result, Ok, Err, OnOk, IsAnswer, Judges, when, when_below, first_of, ScenarioError}
 use Rattle.std.specs.Result.{IsErrAnd}
 
 -- none applies
@@ -46,3 +46,8 @@ passes b e is = ap (λ c. when c e) is
 pub answered : {T : Type 0} (o : Option ScenarioError) (e : ScenarioError) (r : Result T ScenarioError) → IsErrAnd r (λ x. x ≡ e) → IsAnswer o e → Judges o r
 answered o e (Ok x) is by = absurd is
 answered o e (Err x) is by = subst (IsAnswer o) (sym is) by
+
+-- after an error nothing is said of what was read
+pub unread : {T E : Type 0} (Q : E → Type 0) (r : Result T E) (P : Type 0) → IsErrAnd r Q → OnOk r P
+unread Q (Ok x) P is = absurd is
+unread Q (Err e) P is = tt

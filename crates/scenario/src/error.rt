@@ -4,12 +4,12 @@ ghost use Rattle.scenario.specs.Refusals.{name_of};
 
 use process_api::Pid;
 use std::alloc::{AllocError, AllocFailed};
+use std::fmt;
 use thiserror::Error;
 
 /// Why a scenario's file is refused, in the order in which the rules are tried: of several faults the first is
 /// answered (`specs/Refusals.antt` has the list). `Memory` may come at any point.
 #[derive(Debug, PartialEq, Eq, Drop, Error)]
-#[error("no scenario was read: {}", self.name())]
 pub enum ScenarioError {
     /// The bytes are no UTF-8, or no TOML.
     NotToml,
@@ -60,6 +60,13 @@ pub enum ScenarioError {
     OutageLine,
     /// Memory was refused.
     Memory,
+}
+
+impl fmt::Display for ScenarioError {
+    /// Writes that no scenario was read, and the refusal's name.
+    fn fmt<W: fmt::Write>(&self, f: &mut fmt::Formatter<W>) -> fmt::Result {
+        write!(f, "no scenario was read: {}", self.name())
+    }
 }
 
 impl From<AllocError> for ScenarioError {

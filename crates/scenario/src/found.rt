@@ -100,6 +100,34 @@ fn below_lookahead(
     })))
 }
 
+/// What breaks the rule of the refusal that a file's table gets, and where, by the tables of its arrays. Memory may be
+/// refused.
+fn finding_among<'a>(
+    alloc: Global,
+    table: &'a Table,
+    tables: &Tables<'a>,
+    error: &ScenarioError,
+) -> Result<Option<Finding<'a>>, ScenarioError>
+    requires { AreTables (table_view table.now) tables.now }
+    ensures { IfOk result (λ found. Finds (table_view table.now) found error.now) }
+{
+    match error {
+        ScenarioError::UnknownKey => Ok(KeyFault::Unlisted.find(table, tables)),
+        ScenarioError::MissingKey => Ok(KeyFault::Lacking.find(table, tables)),
+        ScenarioError::WrongKind => Ok(KeyFault::Mistyped.find(table, tables)),
+        ScenarioError::Proposals => Ok(proposals_found(table)),
+        ScenarioError::DetectorNumbers => Ok(in_section(table, Section::Detector)),
+        ScenarioError::Share => Ok(in_section(table, Section::Share)),
+        ScenarioError::LinkNumbers => Ok(in_links(table, tables)),
+        ScenarioError::BelowLookahead { from, to } => {
+            below_lookahead(alloc, table, tables, (*from, *to))
+        }
+        ScenarioError::CrashLine => Ok(in_array(table, TableArray::Crash, &tables.crashes)),
+        ScenarioError::OutageLine => Ok(in_array(table, TableArray::Outage, &tables.outages)),
+        _ => Ok(at_top(table, error)),
+    }
+}
+
 /// What breaks the rule of the refusal that a file's table gets, and where. Memory may be refused.
 pub(crate) fn finding_of<'a>(
     alloc: Global,
@@ -109,19 +137,5 @@ pub(crate) fn finding_of<'a>(
     ensures { IfOk result (λ found. Finds (table_view table.now) found error.now) }
 {
     let tables = tables_of(alloc, table)?;
-    match error {
-        ScenarioError::UnknownKey => Ok(KeyFault::Unlisted.find(table, &tables)),
-        ScenarioError::MissingKey => Ok(KeyFault::Lacking.find(table, &tables)),
-        ScenarioError::WrongKind => Ok(KeyFault::Mistyped.find(table, &tables)),
-        ScenarioError::Proposals => Ok(proposals_found(table)),
-        ScenarioError::DetectorNumbers => Ok(in_section(table, Section::Detector)),
-        ScenarioError::Share => Ok(in_section(table, Section::Share)),
-        ScenarioError::LinkNumbers => Ok(in_links(table, &tables)),
-        ScenarioError::BelowLookahead { from, to } => {
-            below_lookahead(alloc, table, &tables, (*from, *to))
-        }
-        ScenarioError::CrashLine => Ok(in_array(table, TableArray::Crash, &tables.crashes)),
-        ScenarioError::OutageLine => Ok(in_array(table, TableArray::Outage, &tables.outages)),
-        _ => Ok(at_top(table, error)),
-    }
+    finding_among(alloc, table, &tables, error)
 }

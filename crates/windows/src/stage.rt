@@ -1,7 +1,7 @@
 //! All processes between two windows.
 ghost use Rattle.std.specs.{Prelude.{◌≡◌, ◌≤◌, ◌<◌, ◌+◌, ◌^◌, [], ℕ, map, vec_len, length, IfErr, IfNone, IfOk, IfSome, OnOk, IsErrOf, nat_eq}, List.{All}};
 ghost use Rattle.{process_api.specs.Place.{numbers_to}, scenario_record.specs.Record.{opening_mind}};
-ghost use Rattle.trace_laws.specs.{Setting.{setting_of}, World.{opened, opening}};
+ghost use Rattle.trace_laws.specs.{Setting.{setting_of}, World.{joined, opened, opening}, Taken.{event_of}};
 ghost use Rattle.{steps.specs.Seat.{process_of, IsMindIn}, mailboxes.specs.Mailboxes.{IsSlipOf, posted_to}};
 ghost use Rattle.trace_merge.specs.Parts.{all_of};
 ghost use Rattle.windows.specs.{Inside.{Agenda.{AreOne, in_box}, Closing.{delivered, kept_in, IsClosed}}, Stage.{IsRefusalOfOne, stage_of, IsOpened, IsNextStart, IsStageAfter}};
@@ -91,6 +91,29 @@ fn empty_part(
     }
 }
 
+/// A berth gets its mailbox with the letters, and gives its part of the window. The mailbox that it had before is empty
+/// and kept.
+fn hand_over_one<M, R: Wait>(
+    rt: &R,
+    alloc: Global,
+    berth: &mut Berth<M>,
+    inbox: Inbox,
+    rooms: &mut Vec<Vec<Entry>>,
+    emptied: &mut Vec<Inbox>,
+) -> Result<Vec<Entry>, AllocError>
+    requires one { AreOne inbox }
+    requires emptied { All (λ i. i ≡ []) emptied.old.items }
+    ensures berth { OnOk result
+        (kept_in berth.new ≡ (berth.old.seat, joined berth.old.pending (map event_of inbox), [])) }
+    ensures part { IfOk result (λ part. part.items ≡ berth.old.part.items) }
+    ensures emptied { OnOk result (All (λ i. i ≡ []) emptied.new.items) }
+{
+    keep(emptied, berth.pending.deliver(rt, inbox)?)?;
+    // at least as much room as this window's part took
+    let next = empty_part(alloc, rooms, berth.part.len())?;
+    Ok(replace(&mut berth.part, next))
+}
+
 /// Each berth gives its part of the window, and gets its mailbox with the letters. Both lists have process 1 first.
 /// Answers the berths, the parts in the same order, and the mailboxes that the berths had before, which are empty.
 fn hand_over<M: Process, R: Wait>(
@@ -114,10 +137,7 @@ fn hand_over<M: Process, R: Wait>(
         let Some(inbox) = inboxes.next() else {
             unreachable!()
         };
-        // at least as much room as this window's part took
-        let next = empty_part(alloc, rooms, berth.part.len())?;
-        parts.push(replace(&mut berth.part, next))?;
-        keep(&mut emptied, berth.pending.deliver(rt, inbox)?)?;
+        parts.push(hand_over_one(rt, alloc, &mut berth, inbox, rooms, &mut emptied)?)?;
         done.push(berth)?;
     }
     Ok((done, parts, emptied))

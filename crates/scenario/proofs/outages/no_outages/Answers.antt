@@ -1,6 +1,16 @@
-use Rattle.std.proofs.Common.{◌≡◌, ◌∙◌, ◌*◌, [], ap, replicate, arith}
-use Rattle.scenario.proofs.Cuts.{none_yet}
+use Rattle.scenario.proofs.{Words.{◌≡◌, ◌∙◌, ◌*◌, ◌++◌, ◌∷◌, [], ap, replicate, arith, map-append, outages_in}, Cuts.{none_yet}}
+use Rattle.std.proofs.lemmas.List.{replicate_more}
 use Rattle.scenario.proofs.outages.no_outages.Goals as goal
+
+pub loop-k-init : goal.loop-k-init
+loop-k-init c = ap outages_in c.new-outages.ensures.items
+
+pub loop-k-preserved : goal.loop-k-preserved
+loop-k-preserved c =
+    let made = c.new.result in
+    ap outages_in c.in_ok-push.ensures.items
+    ∙ (map-append (λ v. v.items) c.loop-k.outages.items (made ∷ []) ∙ ap (λ es. outages_in c.loop-k.outages.items ++ es ∷ []) c.new.ensures.items
+    ∙ (ap (λ ls. ls ++ [] ∷ []) c.loop-k.invariant ∙ replicate_more c.loop-k._k []))
 
 pub returns : goal.returns
 returns c =

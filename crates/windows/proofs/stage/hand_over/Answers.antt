@@ -1,4 +1,4 @@
-use Rattle.windows.proofs.Words.{◌≡◌, ◌∷◌, ◌++◌, [], length, map, ap, sym, ◌∙◌, subst, arith, append-nil, append_assoc, Vec, All, into_iter_items, nil_from_length, All-head, All-nil, All-same, All-tail, map_push, map_turn, event_of, joined, AreOne, delivered, kept_in, Berth}
+use Rattle.windows.proofs.Words.{◌≡◌, ◌∷◌, ◌++◌, [], length, map, ap, sym, ◌∙◌, subst, arith, append-nil, append_assoc, Vec, All, into_iter_items, nil_from_length, All-head, All-nil, All-same, All-tail, map_push, map_turn, AreOne, delivered, kept_in, Berth}
 use Rattle.{windows.proofs.Places.{ends, opens}, process_api.specs.declared.entry.Entry.{Entry}}
 use Rattle.windows.proofs.stage.hand_over.Goals as goal
 
@@ -15,8 +15,8 @@ loop-berth-init g c =
       emptied = All-same (λ i. i ≡ []) _ [] c.in_ok-emptied.ensures.items (All-nil (λ i. i ≡ []));
     }
 
-pub deliver-requires : goal.deliver-requires
-deliver-requires g c =
+pub hand_over_one-requires-clause-one : goal.hand_over_one-requires-clause-one
+hand_over_one-requires-clause-one g c =
     let i = c.loop-berth.invariant in
     All-head AreOne c.in-Some-next.inbox (into_iter_items c.next-in-loop-berth.new.self) (subst (All AreOne) c.in-Some-next.ensures.items i.one)
 
@@ -32,16 +32,14 @@ loop-berth-preserved g c =
     let e : rest ≡ old ∷ left = c.in-Some.ensures.steps.0 in
     let f : into_iter_items c.loop-berth.inboxes ≡ inbox ∷ later = c.in-Some-next.ensures.items in
     let done = map kept_in c.loop-berth.done.items in
-    let new : Berth _ = record { seat = old.seat; pending = c.deliver.new.self; part = c.replace.new.dest; actions = old.actions } in
-    let same : kept_in new ≡ (old.seat, joined old.pending (map event_of inbox), []) =
-    λ j. (old.seat, c.in_ok-deliver.ensures.joined j, (ap items_of c.replace.ensures.after ∙ c.in_ok-next.ensures) j) in
+    let new = c.hand_over_one.new.berth in
     record {
       berths = ap (λ l. l ++ delivered left later) (map_push kept_in c.loop-berth.done.items _ new c.in_ok-push-2.ensures.items) ∙ append_assoc done (kept_in new ∷ []) (delivered left later)
-          ∙ ap (λ k. done ++ k ∷ delivered left later) same ∙ sym (λ j. done ++ delivered (e j) (f j)) ∙ i.berths;
-      parts = map_turn items_of (λ (z : Berth _). z.part.items) c.loop-berth.parts.items _ _ rest left old _ c.in_ok-push.ensures.items e (ap items_of c.replace.ensures.value) i.parts;
+          ∙ ap (λ k. done ++ k ∷ delivered left later) c.in_ok-hand_over_one.ensures.berth ∙ sym (λ j. done ++ delivered (e j) (f j)) ∙ i.berths;
+      parts = map_turn items_of (λ (z : Berth _). z.part.items) c.loop-berth.parts.items _ _ rest left old _ c.in_ok-push.ensures.items e c.in_ok-hand_over_one.ensures.part i.parts;
       same = omega (arith, ap length e, ap length f, i.same);
       one = All-tail AreOne inbox later (subst (All AreOne) f i.one);
-      emptied = c.in_ok-keep.ensures;
+      emptied = c.in_ok-hand_over_one.ensures.emptied;
     }
 
 pub returns : goal.returns
