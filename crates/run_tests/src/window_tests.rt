@@ -1,12 +1,12 @@
 //! Plans that are made and refused, the law at a run in which two workers take turns, windows whose berths are called
 //! in a given order, and workers that are watched.
+mod both_ways;
 mod calls;
 mod odd;
 mod orders;
 mod plans;
 mod refused;
 mod rows;
-mod runs;
 mod sinks;
 mod starts;
 mod steals;

@@ -1,6 +1,6 @@
 //! Odd schedules: gates that hold workers back until another is at work, each for so many turns at most.
 
-use super::runs::{list_of, run_by};
+use super::both_ways::{list_of, run_by};
 use super::steals::wait_for;
 use super::{COORDINATORS, same_entries};
 use crate::common::scenario_of;

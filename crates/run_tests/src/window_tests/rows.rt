@@ -1,7 +1,7 @@
 //! Windows of worked runs: how many entries and letters each has, and that the order of the calls means nothing.
 
+use super::both_ways::{list_of, stage_after};
 use super::calls::call_window;
-use super::runs::{list_of, stage_after};
 use super::{COORDINATORS, ONE_CRASH, is_same};
 use crate::common::{NO_RUN, scenario_of};
 use crate::comparisons::same;

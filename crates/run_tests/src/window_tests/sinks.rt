@@ -1,8 +1,8 @@
 //! What a sink is handed, window by window.
 ghost use Rattle.std.specs.Prelude.{◌≡◌, ◌<◌, ◌-◌, ◌^◌};
 
+use super::both_ways::list_of;
 use super::refused::boxed_machines;
-use super::runs::list_of;
 use super::workers::AS_MANY_AS_CAN_BE;
 use super::{ONE_CRASH, same_entries};
 use crate::common::{NO_RUN, scenario_of};

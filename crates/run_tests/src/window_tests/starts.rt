@@ -1,6 +1,6 @@
 //! The ticks at which windows open: none opens where nothing is pending.
 
-use super::runs::stage_after;
+use super::both_ways::stage_after;
 use super::{COORDINATORS, ONE_CRASH};
 use crate::common::{NO_RUN, scenario_of};
 use crate::comparisons::same;

@@ -1,6 +1,6 @@
 //! Workers that are held, so that others take what is theirs.
 
-use super::runs::{list_of, run_by};
+use super::both_ways::{list_of, run_by};
 use super::{COORDINATORS, SIX, same_entries};
 use crate::common::scenario_of;
 use crate::comparisons::same;

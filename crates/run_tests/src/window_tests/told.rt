@@ -1,6 +1,6 @@
 //! Whom a gate is told of: seventy processes, by their own numbers, and seven workers.
 
-use super::runs::{list_of, run_by};
+use super::both_ways::{list_of, run_by};
 use super::same_entries;
 use super::steals::wait_for;
 use crate::common::scenario_of;

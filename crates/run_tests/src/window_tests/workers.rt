@@ -1,8 +1,8 @@
 //! Workers that are watched: which processes they take, in which order one of them takes them, and which of two
 //! refusals comes first.
 
+use super::both_ways::{list_of, run_by};
 use super::refused::boxed_machines;
-use super::runs::{list_of, run_by};
 use super::{COORDINATORS, ONE_CRASH, same_entries};
 use crate::common::{NO_RUN, scenario_of};
 use crate::comparisons::{NO_MEMORY, same};
