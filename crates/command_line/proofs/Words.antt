@@ -47,9 +47,6 @@ module _ (rows : List Row) where
     compare_asks_nothing is nothing (order.Compare path workers window) h = nothing (order.Compare path workers window) h.1
     compare_asks_nothing is nothing _ h = let bad = sym is ∙ h.0 in search rules
 
--- what a command doesn't ask for, its name doesn't
-pub ruleset asks_nothing = (check_asks_nothing, list_asks_nothing, run_asks_nothing, compare_asks_nothing)
-
 simple : (prints : Prints) → is_simple (app_with prints) ≡ true
 unfolding clap_on_literals
 simple prints = refl

@@ -151,7 +151,6 @@ fn read_compare<'a>(found: &ArgMatches<'a>) -> Option<Order<'a>>
 }
 
 /// What a subcommand's name and matches ask for, if nothing is missing.
-#[tactic(auto, using(crate::proofs::Words::asks_nothing))]
 fn read_found<'a>(name: &str, found: &ArgMatches<'a>) -> Option<Order<'a>>
     ensures stated { IfSome result (StatesIn name.now (rows_of (found_of found.now))) }
     ensures missing { IsNone result → StatesNothingIn name.now (rows_of (found_of found.now)) }

@@ -1,5 +1,5 @@
 //! Why a scenario's file is refused.
-ghost use Rattle.std.specs.Prelude.{◌≡◌};
+ghost use Rattle.std.specs.Prelude.{◌≡◌, ◌++◌, Some, codes};
 ghost use Rattle.scenario.specs.Refusals.{name_of};
 
 use process_api::Pid;
@@ -63,6 +63,8 @@ pub enum ScenarioError {
 }
 
 impl fmt::Display for ScenarioError {
+    ghost output = { λ e. Some (codes "no scenario was read: " ++ name_of e) };
+
     /// Writes that no scenario was read, and the refusal's name.
     fn fmt<W: fmt::Write>(&self, f: &mut fmt::Formatter<W>) -> fmt::Result {
         write!(f, "no scenario was read: {}", self.name())

@@ -42,3 +42,32 @@ returns c = IfOk-weaker c.with_command.result _ _
     c.run_command.ensures c.compare_command.ensures c.with_command-checking.ensures c.with_command-listing.ensures
     c.with_command-running.ensures)
     c.with_command.ensures
+
+pub with_command-checking-requires : goal.with_command-checking-requires
+with_command-checking-requires c =
+    record { local = (search rules, IfOk-weaker c.check_command.result _ IsLocal (λ m h. h.1) c.check_command.ensures) }
+
+-- what each command that was made before says of itself
+pub with_command-listing-requires : goal.with_command-listing-requires
+with_command-listing-requires c = record {
+  local = (
+    IfOk-weaker c.with_command-checking.result _ IsLocal (λ m h. h.local) c.with_command-checking.ensures,
+    IfOk-weaker c.list_command.result _ IsLocal (λ m h. h.local) c.list_command.ensures,
+  );
+}
+
+pub with_command-running-requires : goal.with_command-running-requires
+with_command-running-requires c = record {
+  local = (
+    IfOk-weaker c.with_command-listing.result _ IsLocal (λ m h. h.local) c.with_command-listing.ensures,
+    IfOk-weaker c.run_command.result _ IsLocal (λ m h. h.local) c.run_command.ensures,
+  );
+}
+
+pub with_command-requires : goal.with_command-requires
+with_command-requires c = record {
+  local = (
+    IfOk-weaker c.with_command-running.result _ IsLocal (λ m h. h.local) c.with_command-running.ensures,
+    IfOk-weaker c.compare_command.result _ IsLocal (λ m h. h.1) c.compare_command.ensures,
+  );
+}
