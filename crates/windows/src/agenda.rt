@@ -231,8 +231,30 @@ fn is_settled(lists: &Lists, inbox: &Option<Inbox>, end: u32) -> bool
     lists.end == end && soonest_of(inbox).is_none()
 }
 
-/// Empties the inbox, and puts the events below a tick in order, where they aren't. Where memory is refused all are
-/// gone.
+/// Empties the inbox, and puts the events below a tick in order. Where memory is refused all are gone.
+#[inline(never)]
+fn put_in_order<R: Wait>(
+    rt: &R,
+    lists: &mut Lists,
+    inbox: &mut Option<Inbox>,
+    end: u32,
+) -> Result<(), AllocError>
+    requires { AreLists lists.old × AreOne (in_box inbox.old) }
+    ensures lists { AreLists lists.new × AreOne (in_box inbox.new) }
+    ensures same { OnOk result (all_in lists.new ≡ all_ahead lists.old inbox.old) }
+    ensures settled { OnOk result ((lists.new.end ≡ end) × (in_box inbox.new ≡ [])) }
+{
+    let alloc = *lists.later.allocator();
+    let before = replace(lists, no_events(alloc));
+    let (parted, emptied) = part(rt, end, before, inbox.take())?;
+    *lists = parted;
+    *inbox = emptied;
+    Ok(())
+}
+
+/// The same, where the inbox isn't empty or the events aren't in order. Each event that is taken asks for this, so the
+/// work stands apart.
+#[inline(always)]
 fn settle<R: Wait>(
     rt: &R,
     lists: &mut Lists,
@@ -247,12 +269,7 @@ fn settle<R: Wait>(
     if is_settled(lists, inbox, end) {
         return Ok(());
     }
-    let alloc = *lists.later.allocator();
-    let before = replace(lists, no_events(alloc));
-    let (parted, emptied) = part(rt, end, before, inbox.take())?;
-    *lists = parted;
-    *inbox = emptied;
-    Ok(())
+    put_in_order(rt, lists, inbox, end)
 }
 
 /// One more event. Where memory is refused nothing changes.
