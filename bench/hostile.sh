@@ -57,10 +57,26 @@ for order in check "list --print both" "run --workers 3 --window 2 --print both"
     end
 done
 
+# The words are read first, then the file, and then the run begins: no refusal of a request may be told of an earlier one
+# of these than that of a request before. Appends what this run told of to $stages.
+in_order() {
+    local stage
+    case $(< "$folder/err") in
+        *': words: '*) stage=1 ;;
+        *': scenario: '*) stage=2 ;;
+        *': run: '*) stage=3 ;;
+        *) return ;;
+    esac
+    if [ "$stage" -lt "${stages: -1}" ]; then is_wrong "told of what was done by then: $1"; fi
+    if [ "$stage" -gt "${stages: -1}" ]; then stages+=$stage; fi
+}
+
 # Runs the order $1 over the file $2, which prints the file $3 where it is done, with one request after the other
-# refused: of those that the variable $4 names, in steps of $5.
+# refused: of those that the variable $4 names, in steps of $5. All three of words, file and run are told of, unless the
+# steps are so long that the words and the file have no more than one request.
 refuse_in_turn() {
     split "$1"
+    stages=0
     for ((request = 1; ; request += $5)); do
         rm -f "$folder/refused"
         $limit env "$4=$request" "REFUSED=$folder/refused" "LEFT=$folder/left" "LD_PRELOAD=$folder/refuse.so" \
@@ -70,7 +86,15 @@ refuse_in_turn() {
         [ -e "$folder/refused" ] || break
         ended "$status" "$3"
         held "$4 $request of $1, $2"
+        in_order "$4 $request of $1, $2"
     done
+    if [ "$4" = REFUSE ]; then
+        case $stages in
+            0123) ;;
+            *3) [ "$5" -gt 30 ] || is_wrong "not each of words, file and run is told of: $1, $2" ;;
+            *) is_wrong "no request of the run is told of: $1, $2" ;;
+        esac
+    fi
 }
 for order in "list --print both" "run --workers 2 --window 2 --print both"; do
     split "$order"
