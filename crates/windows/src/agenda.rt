@@ -4,7 +4,7 @@ ghost use Rattle.std.specs.FinMap as events;
 ghost use Rattle.trace_laws.specs.{Step.{Event as EventPair}, World.{IsLeast, NoneBelow, joined}, Taken.{event_of}};
 ghost use Rattle.pending_events.specs.Pending.{IsEmpty, IsLeastTick};
 ghost use Rattle.mailboxes.specs.Mailboxes.{HasCollected, soonest_in};
-ghost use Rattle.windows.specs.{Inside.Agenda.{all_in, all_ahead, in_box, AreLists, AreOne, IsParted, HasFiled}, Stage.{start_event}};
+ghost use Rattle.windows.specs.{Inside.Agenda.{all_in, all_ahead, in_box, AreLists, AreOne, IsInner, IsInOrder, IsParted, HasFiled}, Stage.{start_event}};
 
 use mailboxes::{Collects, Inbox, earlier};
 use pending_events::Row;
@@ -53,7 +53,7 @@ impl Model for Agenda {
     ghost use Rattle.std.specs.FinMap as events;
     ghost use Rattle.process_api.specs.contracts.message.StepInput as step_input;
     ghost use Rattle.trace_laws.specs.{World.{key_code}, Step.{Events}};
-    ghost use Rattle.windows.specs.Inside.Agenda.{AreLists, AreOne, all_ahead, in_box};
+    ghost use Rattle.windows.specs.Inside.Agenda.{IsInner, all_ahead};
 
     ghost Value = { Events };
 
@@ -61,7 +61,7 @@ impl Model for Agenda {
 
     ghost view = { λ a. all_ahead a.inner.value.lists a.inner.value.inbox };
 
-    ghost invariant = { λ a. AreLists a.inner.value.lists × AreOne (in_box a.inner.value.inbox) };
+    ghost invariant = { λ a. IsInner a.inner.value };
 }
 
 /// The least tick of the letters of an inbox, if there are any.
@@ -233,43 +233,31 @@ fn is_settled(lists: &Lists, inbox: &Option<Inbox>, end: u32) -> bool
 
 /// Empties the inbox, and puts the events below a tick in order. Where memory is refused all are gone.
 #[inline(never)]
-fn put_in_order<R: Wait>(
-    rt: &R,
-    lists: &mut Lists,
-    inbox: &mut Option<Inbox>,
-    end: u32,
-) -> Result<(), AllocError>
-    requires { AreLists lists.old × AreOne (in_box inbox.old) }
-    ensures lists { AreLists lists.new × AreOne (in_box inbox.new) }
-    ensures same { OnOk result (all_in lists.new ≡ all_ahead lists.old inbox.old) }
-    ensures settled { OnOk result ((lists.new.end ≡ end) × (in_box inbox.new ≡ [])) }
+fn put_in_order<R: Wait>(rt: &R, inner: &mut Inner, end: u32) -> Result<(), AllocError>
+    requires { IsInner inner.old }
+    ensures inner { IsInner inner.new }
+    ensures settled { OnOk result (IsInOrder end inner.old inner.new) }
 {
-    let alloc = *lists.later.allocator();
-    let before = replace(lists, no_events(alloc));
-    let (parted, emptied) = part(rt, end, before, inbox.take())?;
-    *lists = parted;
-    *inbox = emptied;
+    let alloc = *inner.lists.later.allocator();
+    let before = replace(&mut inner.lists, no_events(alloc));
+    let (parted, emptied) = part(rt, end, before, inner.inbox.take())?;
+    inner.lists = parted;
+    inner.inbox = emptied;
     Ok(())
 }
 
 /// The same, where the inbox isn't empty or the events aren't in order. Each event that is taken asks for this, so the
 /// work stands apart.
 #[inline(always)]
-fn settle<R: Wait>(
-    rt: &R,
-    lists: &mut Lists,
-    inbox: &mut Option<Inbox>,
-    end: u32,
-) -> Result<(), AllocError>
-    requires { AreLists lists.old × AreOne (in_box inbox.old) }
-    ensures lists { AreLists lists.new × AreOne (in_box inbox.new) }
-    ensures same { OnOk result (all_in lists.new ≡ all_ahead lists.old inbox.old) }
-    ensures settled { OnOk result ((lists.new.end ≡ end) × (in_box inbox.new ≡ [])) }
+fn settle<R: Wait>(rt: &R, inner: &mut Inner, end: u32) -> Result<(), AllocError>
+    requires { IsInner inner.old }
+    ensures inner { IsInner inner.new }
+    ensures settled { OnOk result (IsInOrder end inner.old inner.new) }
 {
-    if is_settled(lists, inbox, end) {
+    if is_settled(&inner.lists, &inner.inbox, end) {
         return Ok(());
     }
-    put_in_order(rt, lists, inbox, end)
+    put_in_order(rt, inner, end)
 }
 
 /// One more event. Where memory is refused nothing changes.
@@ -321,7 +309,7 @@ impl Agenda {
     {
         let inner = &mut *self.inner;
         let last = inner.lists.end;
-        settle(rt, &mut inner.lists, &mut inner.inbox, last)?;
+        settle(rt, inner, last)?;
         Ok(replace(&mut inner.inbox, Some(inbox)))
     }
 
@@ -331,7 +319,7 @@ impl Agenda {
     {
         let inner = &mut *self.inner;
         let end = inner.lists.end;
-        settle(rt, &mut inner.lists, &mut inner.inbox, end)?;
+        settle(rt, inner, end)?;
         join(&mut inner.lists, event)
     }
 
@@ -370,7 +358,7 @@ impl Agenda {
             MatchOption r (self.new ≡ self.old) (λ e. self.new ≡ events.remove self.old e.0)) }
     {
         let inner = &mut *self.inner;
-        settle(rt, &mut inner.lists, &mut inner.inbox, end)?;
+        settle(rt, inner, end)?;
         Ok(inner.lists.row.take_least())
     }
 }

@@ -2,7 +2,7 @@
 use Rattle.std.specs.{Prelude.{◌≡◌, ◌≤◌, ◌<◌, ◌++◌, ℕ, List, [], ◌∷◌, map, Option, Some, None}, List.{AllByRecursion}}
 use Rattle.std.specs.FinMap as events
 use Rattle.{process_api.specs.declared.{key.Key.{Key}, message.{Letter.{Letter}, StepInput.{StepInput}}}, mailboxes.specs.Mailboxes.{earlier_of}}
-use Rattle.{trace_laws.specs.{History.{IsIn}, Step.{Event, Events}, Taken.{event_of}, World.{Has, joined}}, windows.specs.declared.agenda.{Lists.{Lists}, Parted.{Parted}}}
+use Rattle.{trace_laws.specs.{History.{IsIn}, Step.{Event, Events}, Taken.{event_of}, World.{Has, joined}}, windows.specs.declared.agenda.{Inner.{Inner}, Lists.{Lists}, Parted.{Parted}}}
 
 -- the least tick of these events, if there are any
 abbrev pub first_tick : List Event → Option ℕ
@@ -34,6 +34,16 @@ pub record AreLists (a : Lists) : Type 0 where
   pub below : (key : Key) (input : StepInput) → Has a.row key input → key.tick < a.end
   pub from : AreFrom a.end a.later.items
   pub next : a.next ≡ first_tick a.later.items
+
+-- the lists and the inbox of a process
+abbrev pub IsInner : Inner → Type 0
+IsInner i = AreLists i.lists × AreOne (in_box i.inbox)
+
+-- the events were put in order up to a tick: they are the same, and the inbox is empty
+pub record IsInOrder (end : ℕ) (before after : Inner) : Type 0 where
+  pub same : all_in after.lists ≡ all_ahead before.lists before.inbox
+  pub end_is : after.lists.end ≡ end
+  pub empty : in_box after.inbox ≡ []
 
 -- these events, parted
 pub record IsParted (end : ℕ) (es : List Event) (p : Parted) : Type 0 where

@@ -5,4 +5,4 @@ pub settle-requires : goal.settle-requires
 settle-requires g c = are_inside _ _ c.deref_mut-inner.ensures.value c.self.invariant
 
 pub invariant_of-self-2 : goal.invariant_of-self-2
-invariant_of-self-2 g c = (c.in_ok-settle.ensures.lists.0, subst (λ o. AreOne (in_box o)) (sym c.replace.ensures.after) c.requires)
+invariant_of-self-2 g c = (c.in_ok-settle.ensures.inner.0, subst (λ o. AreOne (in_box o)) (sym c.replace.ensures.after) c.requires)
