@@ -184,7 +184,7 @@ fn nobody_is_told(rt: HostRuntime) {
 #[test]
 fn flushes(rt: HostRuntime) {
     let alloc = rt.alloc();
-    for (status, want) in [(0, 4u8), (1, 1), (4, 4)] {
+    for (status, want) in [(0, 4u8), (1, 1), (2, 2), (3, 3), (4, 4)] {
         let mut outlet = StreamOutlet::new(Stuck);
         let (mut faults, mut others) = (MemoryOutlet::new(alloc), MemoryOutlet::new(alloc));
         assert!(rt; put_all(&mut outlet, b"ok\n"));

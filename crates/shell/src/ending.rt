@@ -1,5 +1,5 @@
 //! How a run ends.
-ghost use Rattle.std.specs.{Prelude.{◌≡◌, ◌⊎◌, ◌+◌, ◌-◌, ◌^◌, ◌<◌, ◌≤◌, IfErr, OnOk}, Io.KnownBytes.{Keeps}, Process.{exit_status}};
+ghost use Rattle.std.specs.{Prelude.{◌≡◌, ◌≢◌, ◌⊎◌, ◌+◌, ◌-◌, ◌^◌, ◌<◌, ◌≤◌, IfErr, OnOk}, Io.KnownBytes.{Keeps}, Process.{exit_status}};
 ghost use Rattle.{reporting.specs.Outlet.{WroteNothing}, shell.specs.Ending.{Tells}};
 
 use crate::failure::{Failure, report};
@@ -30,6 +30,9 @@ pub fn finish<F: Failure, W: Write + Drop, O: Outlet>(
 ) -> ExitCode
     requires { O.failed faults.old < 2 ^ 64 - 1 }
     ensures status { (exit_status result ≡ status) ⊎ ((status ≡ 0) × (exit_status result ≡ 4)) }
+    ensures silent { exit_status result ≡ status → WroteNothing O.told O.failed faults.old faults.new }
+    ensures line { exit_status result ≢ status →
+        Tells O.told O.failed faults.old faults.new (λ text. text ≡ F.line F.unwritten) }
     ensures kept { Keeps (W.contents outlet.old.writer) (W.contents outlet.new.writer) }
     ensures failures { outlet.new.failures ≡ outlet.old.failures }
     ensures told { O.failed faults.new ≤ O.failed faults.old + 1 }
