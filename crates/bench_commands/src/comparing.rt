@@ -31,6 +31,7 @@ fn written_by<R: Threads + Wait + Sync, G: Gate>(
 ) -> Result<MemoryOutlet, RunError>
     requires { IsModeFor scenario.now mode }
     ensures written { IfOk result (λ outlet. IsWritten scenario.now outlet.bytes) }
+    ensures threads { mode ≡ Mode.List → result ≢ Err RunError.Spawn }
     ensures other { IfErr result (λ error. error ≢ RunError.Write) }
     ensures long { IsErrOf result RunError.Limit → IsTooLong scenario.now }
 {

@@ -5,6 +5,7 @@ use Rattle.bench_commands.proofs.comparing.written_by.Goals as goal
 pub returns : goal.returns
 returns g c = record {
   written = tt;
+  threads = search rules;
   other = search rules;
   long = λ is.
       let told : Held → Option (List ℕ) = λ o. Some o.bytes in
