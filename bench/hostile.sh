@@ -72,8 +72,8 @@ in_order() {
 }
 
 # Runs the order $1 over the file $2, which prints the file $3 where it is done, with one request after the other
-# refused: of those that the variable $4 names, in steps of $5. All three of words, file and run are told of, unless the
-# steps are so long that the words and the file have no more than one request.
+# refused: of those that the variable $4 names, in steps of $5. Words, file and run each have to be told of; where the
+# steps are longer than 30 requests, which may pass over the words and the file, the run has to be.
 refuse_in_turn() {
     split "$1"
     stages=0
