@@ -3,7 +3,7 @@
 #
 #     bench/hostile.sh [--few] [--built]
 #
-# Each run has to end by itself, with a status of the program's table and the line of just that fault, and where the
+# Each run has to end by itself, with a status of the program's table and a line of such a fault, and where the
 # status is 0 with the same bytes as with ample means. It refuses each single request for memory, and each start of a
 # thread, in turn (bench/refuse.c, for which it wants a C compiler); then, too, no memory may be held when the program
 # ends. As root it also tries a limit on threads, as nobody, and a full disk. With --few, as the gate runs it, each kind
