@@ -126,6 +126,23 @@ fn words_of_streams(rt: HostRuntime) {
     }
 }
 
+#[test]
+fn words_of_senders_in_turn(rt: HostRuntime) {
+    // receivers 1 and 2 have a place, and others none
+    let made = SenderWords::new(rt.alloc(), 1, pid(1), 3);
+    let mut kept = made.expect(&rt, NO_MEMORY);
+    for index in 0..7usize {
+        let place = PLACES[index];
+        let number = u64::from(place) / 2 + 1;
+        for (seed, from, to, words) in WORDS {
+            let (sender, receiver) = (process(&rt, from), process(&rt, to));
+            let pair = kept.pair_at(seed, sender, receiver, number);
+            let came = if place % 2 == 0 { pair.0 } else { pair.1 };
+            same(&rt, &(seed, (from, to), came), &(seed, (from, to), words[index]));
+        }
+    }
+}
+
 /// Lossy links, of which one loses nothing.
 const ONE_SAFE: &str = "[link]\nmin = 2\nmax = 9\nloss = 300\n\n\
     [[links]]\nfrom = 3\nto = 4\nmin = 2\nmax = 9\nloss = 0\n";

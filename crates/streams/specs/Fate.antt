@@ -1,7 +1,6 @@
 -- What becomes of a letter to another process: it depends on its place and tick of sending alone, not on earlier draws.
-use Rattle.std.specs.{Prelude.{ℕ, ◌+◌, ◌-◌, ◌*◌, ◌%◌, ◌^◌, List, ◌++◌, replicate, nat_lt, Bool, if◌then◌else◌, ◌≡◌, ◌≤◌, ◌<◌, slice_index_or}, Int.{w64, to_le_bytes}, List.{list_any}}
-use Rattle.{rand_chacha.specs.ChaCha.{word_at, key_of, ChaCha}, scenario_record.specs.{Record.{covers, Record, link, outages_on}, declared.link.Link.{Link}}}
-use Rattle.streams.specs.declared.{fate.Fate.{Fate, TheVariants.{Lost, Delay}}, kept.{Drawn.{Drawn}, Kept.{Kept}}}
+use Rattle.std.specs.{Prelude.{ℕ, ◌+◌, ◌-◌, ◌*◌, ◌%◌, ◌^◌, List, ◌++◌, replicate, nat_lt, Bool, if◌then◌else◌, ◌≡◌, ◌≤◌, ◌<◌, length, slice_index_or}, Int.{w64, to_le_bytes}, List.{list_any}}
+use Rattle.{rand_chacha.specs.ChaCha.{word_at, key_of, ChaCha}, scenario_record.specs.{Record.{covers, Record, link, outages_on}, declared.link.Link.{Link}}, streams.specs.declared.{fate.Fate.{Fate, TheVariants.{Lost, Delay}}, kept.{Pair.{Pair}, Kept.{Kept}}}}
 
 -- the key: the seed as 8 bytes, the least first, and then 24 zero bytes
 unfoldable pub key_of_seed : ℕ → List ℕ
@@ -38,22 +37,23 @@ pub record AreWordsOf (seed from to number first second : ℕ) : Type 0 where
   pub first_word : first ≡ word seed from to (2 * (number - 1))
   pub second_word : second ≡ word seed from to (2 * (number - 1) + 1)
 
--- what is at hand is of a letter of the link, unless it is of none
-abbrev pub IsDrawn : (seed from to : ℕ) → Drawn → Type 0
-IsDrawn seed from to d = 1 ≤ d.number → AreWordsOf seed from to d.number d.first d.second
-
 -- of no letter
-abbrev pub none : Drawn
-none = record { number = 0; first = 0; second = 0 }
+abbrev pub none : Pair
+none = record { first = 0; second = 0 }
 
--- in each row, each is of a letter to the receiver at its place
+-- in so many rows, the pairs at the receiver's place are the words of letters k, k + 1 and so on of its link
+abbrev pub IsRun : (rows seed from to k places : ℕ) → List Pair → Type 0
+IsRun rows seed from to k places pairs = (row : ℕ) → row < rows → let at = row * places + to in at < length pairs
+    → k + row < 2 ^ 64 → let p = slice_index_or pairs at none in AreWordsOf seed from to (k + row) p.first p.second
+
+-- each receiver's 32 pairs are of its letters, counted on from the first that is kept, unless none is
 abbrev pub AreDrawn : (seed from : ℕ) → Kept → Type 0
-AreDrawn seed from kept = (row to : ℕ) → to < kept.places
-    → IsDrawn seed from to (slice_index_or kept.drawn.items (row * kept.places + to) none)
+AreDrawn seed from kept = (to : ℕ) → let begin = slice_index_or kept.begins.items to 0 in 1 ≤ begin
+    → IsRun 32 seed from to begin (length kept.begins.items) kept.pairs.items
 
 -- no receiver's place is beyond those that processes can have
 abbrev pub Fits : Kept → Type 0
-Fits kept = kept.places ≤ 65536
+Fits kept = length kept.begins.items ≤ 65536
 
 -- the generator of the link's stream, where the word at a place comes next
 abbrev pub stands_at : (seed from to place : ℕ) → ChaCha

@@ -2,7 +2,7 @@
 ghost use Rattle.std.specs.Prelude.{◌≡◌, ◌≤◌, ◌<◌, ◌+◌, ◌-◌, ◌*◌, ◌^◌, ℕ, IfOk, MatchOption, ⊤};
 ghost use Rattle.streams.specs.Fate.{key_of_seed, stream_of, word, AreDrawn, AreWordsOf, Fits, IsBefore, stands_at};
 
-use crate::kept::{Drawn, Kept, LETTERS};
+use crate::kept::{Kept, begin_of};
 use process_api::Pid;
 use rand_chacha::ChaCha8Rng;
 use rand_core::SeedableRng;
@@ -17,7 +17,6 @@ pub struct SenderWords {
     seed: u64,
     // the sender's number
     from: u16,
-    // letter k of a link is in row (k - 1) mod 32
     kept: Kept,
 }
 
@@ -63,7 +62,7 @@ fn generator_at(seed: u64, from: Pid, to: Pid, number: u64) -> ChaCha8Rng
 
 /// The next two words.
 #[tactic(auto, unfolding(crate::specs::Fate::word))]
-fn next_pair(generator: &mut ChaCha8Rng) -> (u32, u32)
+pub(crate) fn next_pair(generator: &mut ChaCha8Rng) -> (u32, u32)
     ensures words { (seed from to k : ℕ) → k < 2 ^ 64
         → IsBefore seed from to k generator.old → AreWordsOf seed from to k result.0 result.1 }
     ensures next { (seed from to k : ℕ) → 1 ≤ k → k < 2 ^ 64
@@ -80,38 +79,6 @@ pub(crate) fn pair_of(seed: u64, from: Pid, to: Pid, number: u64) -> (u32, u32)
     ensures { AreWordsOf seed from to number result.0 result.1 }
 {
     next_pair(&mut generator_at(seed, from, to, number))
-}
-
-/// The row of a letter.
-#[inline(always)]
-fn row_of(number: u64) -> usize
-    ensures { result < LETTERS }
-{
-    (number.wrapping_sub(1) % LETTERS as u64) as usize
-}
-
-/// Draws the words of the letters after one, up to the last of their rows, and keeps them.
-fn keep_next(kept: &mut Kept, mut generator: ChaCha8Rng, to: Pid, number: u64)
-    requires number { 1 ≤ number }
-    requires fits { Fits kept.old }
-    ensures fits { Fits kept.new }
-    ensures drawn { (seed from : ℕ) → generator ≡ stands_at seed from to (2 * number)
-        → AreDrawn seed from kept.old → AreDrawn seed from kept.new }
-{
-    let mut last = number;
-    for row in row_of(number) + 1..LETTERS {
-        let Some(number) = last.checked_add(1) else {
-            return;
-        };
-        let (first, second) = next_pair(&mut generator);
-        let drawn = Drawn {
-            number,
-            first,
-            second,
-        };
-        kept.put(row, to, drawn);
-        last = number;
-    }
 }
 
 impl SenderWords {
@@ -155,28 +122,30 @@ impl SenderWords {
         ensures { MatchOption result ⊤
             (λ pair. AreWordsOf self.now.0 self.now.1 to number pair.0 pair.1) }
     {
-        let drawn = self.kept.find(row_of(number), to)?;
-        if drawn.number != number {
-            return None;
-        }
-        Some((drawn.first, drawn.second))
+        let pair = self.kept.find(to, number)?;
+        Some((pair.first, pair.second))
     }
 
-    /// Draws the words of a letter, and keeps those of the next letters of its link.
+    /// Draws the words of a letter, with those of the letters that share its draw, and keeps them.
+    #[inline(never)]
     fn draw(&mut self, from: Pid, to: Pid, number: u64) -> (u32, u32)
         requires number { 1 ≤ number }
         requires from { self.old.1 ≡ from }
         ensures { AreWordsOf self.old.0 from to number result.0 result.1 }
     {
-        let mut generator = generator_at(self.seed, from, to, number);
-        let pair = next_pair(&mut generator);
+        let begin = begin_of(number);
+        let generator = generator_at(self.seed, from, to, begin);
         self.kept.make_ready();
-        keep_next(&mut self.kept, generator, to, number);
-        pair
+        self.kept.keep(generator, to, begin);
+        match self.find(to, number) {
+            Some(pair) => pair,
+            // memory was refused, or the receiver has no place
+            None => pair_of(self.seed, from, to, number),
+        }
     }
 
     /// The words of a letter of a link, by its number from 1. Where they aren't at hand they are drawn, with those of
-    /// the next letters of the link. It stands apart, so that a sure link's fate is found with no call.
+    /// the letters that share its draw. It stands apart, so that a sure link's fate is found with no call.
     #[inline(never)]
     pub fn pair_at(&mut self, seed: u64, from: Pid, to: Pid, number: u64) -> (u32, u32)
         requires { 1 ≤ number }
