@@ -11,8 +11,8 @@
 //! finds a process that the network names and a run doesn't have.
 //!
 //! [`draw`] gives the outages of all sources up to the horizon, in their fixed order (`specs/Drawn.antt`), and
-//! [`laid_links`] gives what the network says of links (`specs/Laid.antt`). `base_tests` has the tests, with values from
-//! outside, by `bench/network.py`.
+//! [`laid_links`] gives what the network says of links (`specs/Laid.antt`). `base_tests` has the tests, with values
+//! from outside, by `bench/network.py`.
 //!
 //! For example, take seed 1 and a burst with gaps of 50 ticks and lengths of 10 on the link from process 1 to process 2
 //! of two. Up to tick 100 it has the outages from tick 6 to 16 and from tick 66 to 76.

@@ -2,10 +2,10 @@
 //!
 //! These are the tests of the crates `streams`, `pending_events`, `deques`, `mailboxes`, `trace_merge` and `windows`, a
 //! module for each: fates of letters, pending events, what threads steal, letters that they post, parts that are
-//! merged, and runs by windows. And these are the tests of `diagnosis`, `study`, `judges`, `reporting`, `runs`, `sweep`,
-//! `svg` and `drawing`: diagnoses of files, grids of runs and networks laid over them, verdicts and outcomes, the table
-//! of letters, measures and outlets, sums and rows of studies, and pictures, over traces and findings that are worked
-//! out by hand. The crate `transcripts` compares what whole runs print.
+//! merged, and runs by windows. And these are the tests of `diagnosis`, `study`, `judges`, `reporting`, `runs`,
+//! `sweep`, `svg` and `drawing`: diagnoses of files, grids of runs and networks laid over them, verdicts and outcomes,
+//! the table of letters, measures and outlets, sums and rows of studies, and pictures, over traces and findings that
+//! are worked out by hand. The crate `transcripts` compares what whole runs print.
 //!
 //! They stand apart from these crates, since a crate with tests is proved twice, without them and with them, and this
 //! crate has nothing else. They stand in one crate, since the check of another would read the same libraries once

@@ -225,10 +225,10 @@ fn part<R: Wait>(
 
 /// Whether the inbox is empty, and the events below a tick are in order.
 #[tactic(auto, using(crate::proofs::Agendas::no_letter))]
-fn is_settled(lists: &Lists, inbox: &Option<Inbox>, end: u32) -> bool
-    ensures { result ≡ true → (lists.now.end ≡ end) × (in_box inbox.now ≡ []) }
+fn is_settled(inner: &Inner, end: u32) -> bool
+    ensures { result ≡ true → (inner.now.lists.end ≡ end) × (in_box inner.now.inbox ≡ []) }
 {
-    lists.end == end && soonest_of(inbox).is_none()
+    inner.lists.end == end && soonest_of(&inner.inbox).is_none()
 }
 
 /// Empties the inbox, and puts the events below a tick in order. Where memory is refused all are gone.
@@ -254,7 +254,7 @@ fn settle<R: Wait>(rt: &R, inner: &mut Inner, end: u32) -> Result<(), AllocError
     ensures inner { IsInner inner.new }
     ensures settled { OnOk result (IsInOrder end inner.old inner.new) }
 {
-    if is_settled(&inner.lists, &inner.inbox, end) {
+    if is_settled(inner, end) {
         return Ok(());
     }
     put_in_order(rt, inner, end)

@@ -35,7 +35,7 @@ pub record AreLists (a : Lists) : Type 0 where
   pub from : AreFrom a.end a.later.items
   pub next : a.next ≡ first_tick a.later.items
 
--- the lists and the inbox of a process
+-- what holds of a process's lists and inbox: the lists are parted, and letters with one key are one event
 abbrev pub IsInner : Inner → Type 0
 IsInner i = AreLists i.lists × AreOne (in_box i.inbox)
 
