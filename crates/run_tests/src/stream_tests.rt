@@ -138,7 +138,11 @@ fn words_of_senders_in_turn(rt: HostRuntime) {
             let (sender, receiver) = (process(&rt, from), process(&rt, to));
             let pair = kept.pair_at(seed, sender, receiver, number);
             let came = if place % 2 == 0 { pair.0 } else { pair.1 };
-            same(&rt, &(seed, (from, to), came), &(seed, (from, to), words[index]));
+            same(
+                &rt,
+                &(seed, (from, to), came),
+                &(seed, (from, to), words[index]),
+            );
         }
     }
 }

@@ -18,6 +18,18 @@ pub(crate) struct Lane {
 }
 
 impl Lane {
+    /// How many entries are left below a tick.
+    #[inline(always)]
+    fn below(&self, end: u32) -> usize {
+        for place in 0..self.rest.len() {
+            match self.rest.get(place) {
+                Some(entry) if entry.key.tick < end => {}
+                _ => return place,
+            }
+        }
+        self.rest.len()
+    }
+
     /// Moves the entries up to a tick to the end of a list. Answers the tick of the next one, or none where all were
     /// moved.
     #[inline(always)]
@@ -45,6 +57,57 @@ impl Lane {
             merged.push(entry)?;
         }
         Ok(None)
+    }
+}
+
+/// How many entries are left below a tick.
+fn count_below(lanes: &[Lane], end: u32) -> usize {
+    lanes.iter().fold(
+        0,
+        |count: usize, lane| count.saturating_add(lane.below(end)),
+    )
+}
+
+/// How far the entries of all parts were counted. Counting reads those of a part one after the other, so that they are
+/// in the processor's cache as they are moved tick by tick.
+#[derive(Drop)]
+pub(crate) struct Reach {
+    /// The entries before this tick were counted.
+    pub(crate) end: u32,
+    // the entries of so many ticks are counted next
+    span: u32,
+}
+
+impl Reach {
+    /// None were counted.
+    pub(crate) fn new() -> Reach {
+        Reach { end: 0, span: 4 }
+    }
+
+    /// Where the entries of a tick weren't counted, it counts them with those of the ticks after it, some `least`
+    /// entries, and makes room for them.
+    pub(crate) fn look_ahead(
+        &mut self,
+        merged: &mut Joined,
+        lanes: &[Lane],
+        tick: u32,
+        least: usize,
+    ) -> Result<(), RunError>
+        ensures same { merged.new.entries.items ≡ merged.old.entries.items }
+        ensures err { IfErr result (λ e. e ≡ RunError.Memory) }
+    {
+        if tick < self.end {
+            return Ok(());
+        }
+        self.end = tick.saturating_add(self.span);
+        let count = count_below(lanes, self.end);
+        if count < least {
+            self.span = self.span.saturating_mul(2);
+        } else if count / 2 >= least {
+            self.span = (self.span / 2).max(1);
+        }
+        merged.entries.reserve(count)?;
+        Ok(())
     }
 }
 

@@ -3,7 +3,7 @@ ghost use Rattle.std.specs.Prelude.{◌≡◌, ◌<◌, ◌≤◌, ◌⊎◌, �
 ghost use Rattle.process_api.specs.Order.{EntryRecord, is_rising};
 ghost use Rattle.trace_merge.specs.Parts.{all_of, AreDisjoint, IsMergeOf};
 
-use crate::by_tick::{Lane, take_tick};
+use crate::by_tick::{Lane, Reach, take_tick};
 use crate::joined::Joined;
 use process_api::{Entry, RunError};
 use std::alloc::Global;
@@ -18,9 +18,7 @@ use std::marker::Model;
 pub struct Merging {
     alloc: Global,
     lanes: Vec<Lane>,
-    // a quarter more entries than the last piece had, and 0 before the first: the next gets memory for so many, or for
-    // twice those that are asked for
-    room: usize,
+    reach: Reach,
 }
 
 impl Model for Merging {
@@ -32,11 +30,6 @@ impl Model for Merging {
     ghost view = { λ m. map (λ lane. lane.rest.items) m.lanes.items };
 
     ghost invariant = { λ m. AllDiffer (all_of (map (λ lane. lane.rest.items) m.lanes.items)) };
-}
-
-/// How many entries are left.
-fn left_in(lanes: &[Lane]) -> usize {
-    lanes.iter().fold(0, |room: usize, lane| room.saturating_add(lane.rest.len()))
 }
 
 impl Merging {
@@ -56,8 +49,12 @@ impl Merging {
             let (next, rest) = (0, part.into());
             lanes.push(Lane { next, rest })?;
         }
-        let room = 0;
-        Ok(Merging { alloc, lanes, room })
+        let reach = Reach::new();
+        Ok(Merging {
+            alloc,
+            lanes,
+            reach,
+        })
     }
 
     /// The first piece of what the parts merge to, and what is left of them. The piece has whole ticks, and at least so
@@ -77,23 +74,26 @@ impl Merging {
         let Merging {
             alloc,
             mut lanes,
-            room,
+            mut reach,
         } = self;
-        // The last tick may bring more than are wanted.
-        let room = room.max(least.saturating_mul(2)).min(left_in(&lanes));
-        let entries = Vec::with_capacity(alloc, room)?;
+        let entries = Vec::new(alloc);
         let rises = true;
         let mut merged = Joined { entries, rises };
         let mut at = Some(0);
         while let Some(tick) = at {
-            if merged.entries.len() >= least {
+            if reach.end <= tick && merged.entries.len() >= least {
                 break;
             }
+            reach.look_ahead(&mut merged, &lanes, tick, least)?;
             at = take_tick(&mut merged, &mut lanes, tick)?;
         }
         let piece = merged.in_order();
-        let room = piece.len().saturating_add(piece.len() / 4);
-        Ok((piece, Merging { alloc, lanes, room }))
+        let rest = Merging {
+            alloc,
+            lanes,
+            reach,
+        };
+        Ok((piece, rest))
     }
 
     /// The memory of the parts, in empty lists, joins others: that of the first part is the last. Where memory is
