@@ -41,17 +41,17 @@ fn three_parts(rt: HostRuntime) {
     }
 }
 
-/// Two parts in pieces: where ticks are far apart, a piece ends with a tick as soon as it has so many entries. The part
-/// of process 2 comes first, so that a piece has to be put in order.
+/// Two parts in pieces: a piece ends with a tick, as soon as it has so many entries. The part of process 2 comes first,
+/// so that a piece has to be put in order.
 #[test]
 fn in_pieces(rt: HostRuntime) {
     let alloc = rt.alloc();
     let keys = [
         own_key(0, pid(1), 0),
         own_key(0, pid(2), 0),
-        own_key(20, pid(2), 1),
-        own_key(50, pid(1), 1),
-        own_key(50, pid(2), 2),
+        own_key(1, pid(2), 1),
+        own_key(4, pid(1), 1),
+        own_key(4, pid(2), 2),
     ];
     for (least, ends) in [(1, [2, 3, 5, 5]), (2, [2, 5, 5, 5]), (4, [5, 5, 5, 5])] {
         let first = vec![in alloc;

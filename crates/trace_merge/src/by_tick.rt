@@ -68,46 +68,38 @@ fn count_below(lanes: &[Lane], end: u32) -> usize {
     )
 }
 
-/// How far the entries of all parts were counted. Counting reads those of a part one after the other, so that they are
-/// in the processor's cache as they are moved tick by tick.
+/// About so many entries are read ahead at once: they are in the processor's second cache then.
+const AHEAD: usize = 1024;
+
+/// How far the parts were read ahead. Those of one part are read one after the other, which is quicker than to wait for
+/// each entry as it is moved, tick by tick. Nothing that is merged depends on it.
 #[derive(Drop)]
 pub(crate) struct Reach {
-    /// The entries before this tick were counted.
-    pub(crate) end: u32,
-    // the entries of so many ticks are counted next
+    // the entries before this tick were read
+    end: u32,
+    // so many ticks are read next
     span: u32,
 }
 
 impl Reach {
-    /// None were counted.
+    /// Nothing was read.
     pub(crate) fn new() -> Reach {
         Reach { end: 0, span: 4 }
     }
 
-    /// Where the entries of a tick weren't counted, it counts them with those of the ticks after it, some `least`
-    /// entries, and makes room for them.
-    pub(crate) fn look_ahead(
-        &mut self,
-        merged: &mut Joined,
-        lanes: &[Lane],
-        tick: u32,
-        least: usize,
-    ) -> Result<(), RunError>
-        ensures same { merged.new.entries.items ≡ merged.old.entries.items }
-        ensures err { IfErr result (λ e. e ≡ RunError.Memory) }
-    {
+    /// Reads the entries of a tick, and of the ticks after it, where they weren't read before. Of more or fewer ticks
+    /// the next time, where these had too few or too many.
+    pub(crate) fn look_ahead(&mut self, lanes: &[Lane], tick: u32) {
         if tick < self.end {
-            return Ok(());
+            return;
         }
         self.end = tick.saturating_add(self.span);
         let count = count_below(lanes, self.end);
-        if count < least {
+        if count < AHEAD {
             self.span = self.span.saturating_mul(2);
-        } else if count / 2 >= least {
+        } else if count / 2 >= AHEAD {
             self.span = (self.span / 2).max(1);
         }
-        merged.entries.reserve(count)?;
-        Ok(())
     }
 }
 

@@ -18,6 +18,9 @@ use std::marker::Model;
 pub struct Merging {
     alloc: Global,
     lanes: Vec<Lane>,
+    // a quarter more entries than the last piece had, and 0 before the first: the next gets memory for so many, or for
+    // twice those that are asked for
+    room: usize,
     reach: Reach,
 }
 
@@ -30,6 +33,11 @@ impl Model for Merging {
     ghost view = { λ m. map (λ lane. lane.rest.items) m.lanes.items };
 
     ghost invariant = { λ m. AllDiffer (all_of (map (λ lane. lane.rest.items) m.lanes.items)) };
+}
+
+/// How many entries are left.
+fn left_in(lanes: &[Lane]) -> usize {
+    lanes.iter().fold(0, |room: usize, lane| room.saturating_add(lane.rest.len()))
 }
 
 impl Merging {
@@ -49,10 +57,11 @@ impl Merging {
             let (next, rest) = (0, part.into());
             lanes.push(Lane { next, rest })?;
         }
-        let reach = Reach::new();
+        let (room, reach) = (0, Reach::new());
         Ok(Merging {
             alloc,
             lanes,
+            room,
             reach,
         })
     }
@@ -74,23 +83,28 @@ impl Merging {
         let Merging {
             alloc,
             mut lanes,
+            room,
             mut reach,
         } = self;
-        let entries = Vec::new(alloc);
+        // The last tick may bring more than are wanted.
+        let room = room.max(least.saturating_mul(2)).min(left_in(&lanes));
+        let entries = Vec::with_capacity(alloc, room)?;
         let rises = true;
         let mut merged = Joined { entries, rises };
         let mut at = Some(0);
         while let Some(tick) = at {
-            if reach.end <= tick && merged.entries.len() >= least {
+            if merged.entries.len() >= least {
                 break;
             }
-            reach.look_ahead(&mut merged, &lanes, tick, least)?;
+            reach.look_ahead(&lanes, tick);
             at = take_tick(&mut merged, &mut lanes, tick)?;
         }
         let piece = merged.in_order();
+        let room = piece.len().saturating_add(piece.len() / 4);
         let rest = Merging {
             alloc,
             lanes,
+            room,
             reach,
         };
         Ok((piece, rest))

@@ -20,9 +20,9 @@ use std::sync::Wait;
 use std::thread::Threads;
 use trace_merge::Merging;
 
-/// How many entries a piece of a window has at least, but for the last one. A piece and the entries that it is made of
-/// are in the processor's second cache as it is handed on.
-const PIECE: usize = 1024;
+/// How many entries a piece of a window has at least, but for the last one. A piece is still in the processor's first
+/// cache as it is handed on, where one of 1,024 entries is not.
+const PIECE: usize = 256;
 
 /// Merges the parts, and hands them on in pieces that rise end to end. Their memory joins that of others.
 ///
