@@ -17,7 +17,7 @@ use std::alloc::Global;
 use std::marker::Sync;
 use std::mem::replace;
 use std::sync::Wait;
-use std::thread::Threads;
+use std::thread::{Threads, yield_now};
 use trace_merge::Merging;
 
 /// How many entries a piece of a window has at least, but for the last one. A piece is still in the processor's first
@@ -54,6 +54,27 @@ fn hand_on<K: Sink>(
     }
 }
 
+/// The starter offers its processor so often to a worker that it has just started.
+const OFFERS: usize = 4;
+
+/// Fewer entries than these are handed on at once.
+const MANY_ENTRIES: usize = 1024;
+
+/// Lets the worker that was just started go first, where many entries wait to be handed on. A new thread often waits
+/// behind the one that started it, until the system moves one of them to a free processor some milliseconds later. What
+/// the starter does can wait so long, as the worker's part takes longer.
+fn let_worker_begin(parts: &[Vec<Entry>]) {
+    let waiting = parts
+        .iter()
+        .fold(0, |count: usize, part| count.saturating_add(part.len()));
+    if waiting < MANY_ENTRIES {
+        return;
+    }
+    for _ in 0..OFFERS {
+        yield_now();
+    }
+}
+
 /// Parts that wait to be handed on, memory of those that were, and what the sink answered to these.
 #[derive(Drop)]
 struct Left {
@@ -66,6 +87,8 @@ struct Left {
 #[derive(Drop)]
 struct Handing<'k, K: Sink> {
     left: Left,
+    // more workers have use for every processor, so that the starter has to end early
+    one_worker: bool,
     sink: &'k mut K,
 }
 
@@ -82,6 +105,9 @@ impl<K: Sink> Chore for Handing<'_, K> {
 
     fn work(&mut self, alloc: Global) {
         let parts = replace(&mut self.left.parts, Vec::new(alloc));
+        if self.one_worker {
+            let_worker_begin(&parts);
+        }
         self.left.told = hand_on(alloc, self.sink, parts, &mut self.left.rooms);
     }
 
@@ -117,9 +143,17 @@ fn run_and_hand_on<M: Process, G: Gate, K: Sink, R: Threads + Wait + Sync>(
         rooms: Vec::new(alloc),
         told: Ok(()),
     };
-    let mut handing = Handing { left, sink };
+    let mut handing = Handing {
+        left,
+        one_worker: plan.workers() == 1,
+        sink,
+    };
     let ran = run_parts(rt, alloc, stage, plan, gate, &mut handing);
-    let Handing { left, sink: _sink } = handing;
+    let Handing {
+        left,
+        sink: _sink,
+        ..
+    } = handing;
     (ran, left)
 }
 
