@@ -179,8 +179,8 @@ starts 8 $fdstudy check one.toml --seeds 1 --vary detector.timeout=1..=7 --threa
 starts 0 taskset -c "$(taskset -cp $$ | sed 's/.*: //; s/[-,].*//')" $fdstudy sweep one.toml --seeds 1..=7
 end
 
-# Each of 70 processes has something to do at each of six ticks, and no letter comes, so that the starter alone closes each
-# window. In the last of five windows of the other file one of two processes has something to do.
+# Each of 70 processes has something to do at each of six ticks, and no letter comes. In the last of five windows of the
+# other file one of two processes has something to do.
 begin "each window has its workers, and no more than there are processes" 0
 cat > seventy.toml << 'END'
 version = 2
@@ -235,6 +235,8 @@ ended $?
 [ "$(wc -l < million)" -eq 1498005 ] || is_wrong "$(wc -l < million) lines, not 1498005"
 [ "$(tail -n 1 million)" = "250000,2,2,500000,check,0,0," ] || is_wrong "the last row is $(tail -n 1 million)"
 wants 0 million $fdbench run million.toml --workers 2 --window 1000 --print trace
+sed -i 's/^limit.*/limit = 1498003/' million.toml
+wants "3 fdbench: run: Limit" nothing $fdbench run million.toml --workers 2 --window 1000
 rm million out
 end
 

@@ -114,11 +114,10 @@ for order in "run --workers 3 --window 2 --print both" "compare --workers 2 --wi
 done
 end
 
-# windows that several threads close: such a thread that can't be had doesn't end the run
 crowd="$root/bench/crowd_64.toml"
 "$fdbench" list "$crowd" --print both > "$folder/listed" || give_up "list $crowd"
 order="run --workers 4 --window 2 --print both"
-begin "each start of a thread refused in turn, 64 processes, 4 workers" 0 "3 fdbench: run: Spawn"
+begin "each start of a worker refused in turn, 64 processes, 4 workers" "3 fdbench: run: Spawn"
 refuse_in_turn "$order" "$crowd" "$folder/listed" REFUSE_THREAD "$(step 1 4)"
 end
 split "$order"

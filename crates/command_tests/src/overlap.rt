@@ -1,4 +1,5 @@
-//! Two workers that must be at work at the same time, or the run fails, over machines of the test's own, in boxes.
+//! Two workers that must be at work at the same time, or the run fails, or one worker, over machines of the test's own,
+//! in boxes.
 ghost use Rattle.std.specs.Prelude.{◌≡◌, IfOk, map};
 ghost use Rattle.{process_api.specs.Place.{numbers_to}, scenario_record.specs.Record.{opening_mind}};
 ghost use Rattle.windows.specs.Plan.{IsPlanFor};
@@ -57,10 +58,12 @@ impl Process for Counted {
     }
 }
 
-/// A gate for two processes and two workers. Of the two calls in each window it holds the first, until the machine of
-/// the other process has taken an input of this window.
+/// A gate for two processes. Where there are two workers, it holds the first of the two calls in each window, until the
+/// machine of the other process has taken an input of this window.
 #[derive(Drop)]
 struct Holding {
+    // whether there are two workers
+    holds: bool,
     calls: AtomicUsize,
     // calls at which the process that was taken had taken no input of the window
     kept: AtomicU64,
@@ -72,8 +75,9 @@ struct Holding {
 }
 
 impl Holding {
-    fn new(alloc: Global) -> Result<Holding, AllocError> {
+    fn new(alloc: Global, holds: bool) -> Result<Holding, AllocError> {
         Ok(Holding {
+            holds,
             calls: AtomicUsize::new(0),
             kept: AtomicU64::new(0),
             workers: AtomicU64::new(0),
@@ -121,7 +125,7 @@ impl Gate for Holding {
             return;
         };
         let is_first = pid.number() == 1;
-        let goes_on = call % 2 == 1 || rises_above(self.taken(!is_first), *before);
+        let goes_on = !self.holds || call % 2 == 1 || rises_above(self.taken(!is_first), *before);
         let own = self.taken(is_first).load(Ordering::SeqCst);
         if goes_on && own == *before {
             self.kept.fetch_add(1, Ordering::SeqCst);
@@ -198,35 +202,38 @@ fn counted_machines(
     Ok(machines)
 }
 
-/// The trace's text of a run of machines that the gate counts: by the list, or by two workers and windows of 2 ticks.
+/// The trace's text of a run of machines that the gate counts: by the list, or by so many workers and windows of 2
+/// ticks.
 fn text_of<R: Abort + Threads + Wait + Sync>(
     rt: &R,
     alloc: Global,
     scenario: &Scenario,
+    workers: u64,
     gate: &Holding,
     start: Start,
 ) -> MemoryOutlet {
-    let plan = Plan::new(scenario, 2, 2).expect(rt, NO_RUN);
+    let plan = Plan::new(scenario, workers, 2).expect(rt, NO_RUN);
     let machines = counted_machines(alloc, scenario, gate).expect(rt, NO_MEMORY);
     text_by(rt, alloc, scenario, machines, &plan, gate, start)
 }
 
-/// Where the crash is at the horizon, each of the ten calls finds its process as it was before the window, and five of
-/// them wait for the other process. In each window worker 1 makes one call, and worker 2 the other. The text is the one
-/// that the list gives, also of these machines.
+/// Where the crash is at the horizon, each of the ten calls finds its process as it was before the window. Of two workers
+/// worker 1 makes one call in each window, and worker 2 the other, and five calls wait for the other process. A single
+/// worker makes both. The text is the one that the list gives, also of these machines.
 #[test]
 fn overlaps(rt: HostRuntime) {
     let alloc = rt.alloc();
     let file = changed(&rt, alloc, ONE_CRASH, "at = 3", "at = 10");
     let listed = printed(&rt, alloc, "fdbench list - --print trace", &file);
     let scenario = scenario_of(&rt, alloc, &file);
-    for (start, calls) in [
-        (Start::Listed, (0, 0, 0)),
-        (Start::Trace, (10, 10, 15)),
-        (Start::Texts, (10, 10, 15)),
+    for (start, by, calls) in [
+        (Start::Listed, 2, (0, 0, 0)),
+        (Start::Trace, 2, (10, 10, 15)),
+        (Start::Texts, 2, (10, 10, 15)),
+        (Start::Trace, 1, (10, 10, 10)),
     ] {
-        let gate = Holding::new(alloc).expect(&rt, NO_MEMORY);
-        let outlet = text_of(&rt, alloc, &scenario, &gate, start);
+        let gate = Holding::new(alloc, by == 2).expect(&rt, NO_MEMORY);
+        let outlet = text_of(&rt, alloc, &scenario, by, &gate, start);
         let (count, kept, workers) = calls;
         same(
             &rt,

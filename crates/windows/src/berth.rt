@@ -15,7 +15,8 @@ use std::sync::Wait;
 use steps::{Nobody, Seat};
 use streams::Streams;
 
-/// How many entries a part can have. No memory takes so many, and the counts on a link have room for twice of them.
+/// How many entries a part can have. No memory takes so many, and the counts on a link have room for the letters of
+/// twice as many.
 pub(crate) const MOST_IN_PART: u64 = 1 << 50;
 
 /// A machine in its seat, with the events that are pending for it, and its part of the open window's trace. The

@@ -15,7 +15,7 @@
 //! the trace. [`run_window`] takes a worker for each process that has an event below the window's end, but no more than
 //! the plan has, and deals these processes to the workers' deques in turn, by rising number. Then it starts the
 //! workers, each a thread. A worker takes a berth, tells the [`Gate`], and runs it to the window's end as [`run_berth`]
-//! does, but for the letters: they wait in the worker's tray until it has run its last berth, or one with many entries.
+//! does, but for the letters: they wait in the worker's tray until it has run its last berth, or some 1,024 wait there.
 //! It pops its own deque. When that is empty it steals from the others, the next one first, until it has found each of
 //! them empty. Its berths share one memory for the window's events. When all workers are joined, the starter takes what
 //! is left in the deques. Then each process gets its mailbox as it is: the worker that runs the process next empties

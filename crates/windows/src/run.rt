@@ -57,7 +57,7 @@ fn hand_on<K: Sink>(
 /// The starter offers its processor so often to a worker that it has just started.
 const OFFERS: usize = 4;
 
-/// Fewer entries than these are handed on at once.
+/// Where fewer entries wait, the starter hands them on without an offer.
 const MANY_ENTRIES: usize = 1024;
 
 /// Lets the worker that was just started go first, where many entries wait to be handed on. A new thread often waits
@@ -87,7 +87,7 @@ struct Left {
 #[derive(Drop)]
 struct Handing<'k, K: Sink> {
     left: Left,
-    // more workers have use for every processor, so that the starter has to end early
+    // more workers may need all processors, so that the starter doesn't wait then
     one_worker: bool,
     sink: &'k mut K,
 }
@@ -167,7 +167,8 @@ fn run_and_hand_on<M: Process, G: Gate, K: Sink, R: Threads + Wait + Sync>(
 ///
 /// `Spawn` where a thread was refused, `Memory` where memory was, and `Limit` only where the whole trace has more
 /// entries than the scenario's limit; `Memory` or `Write` where the sink refused a part. The machines are gone then,
-/// and the sink has a front of the trace: after `Limit` and `Spawn` just the entries of the windows that were closed.
+/// and the sink has a front of the trace: after `Limit` and `Spawn` the entries below some tick. No clause says which
+/// tick that is; it is the end of the last window that was closed.
 pub fn run_windows_into<M: Process, G: Gate, K: Sink, R: Threads + Wait + Sync>(
     rt: &R,
     alloc: Global,

@@ -18,7 +18,8 @@ use std::sync::Wait;
 use std::thread::{Promise, PromisedHandle, Scope, Threads};
 
 /// A worker posts its letters when a process's turn ends and about so many wait in its tray, or when it has run its
-/// last process. Fewer wait, so that more of them go to one receiver in a row. More would leave the processor's caches.
+/// last process. Fewer are kept back, so that more of them go to one receiver in a row. More would leave the
+/// processor's caches.
 const MANY_LETTERS: usize = 1024;
 
 /// The place of the receiver to whom a worker posts first. Workers begin far from one another, so that they seldom post

@@ -1,4 +1,4 @@
-//! Whom a gate is told of: seventy processes, by their own numbers, and seven workers.
+//! Whom a gate is told of: seventy processes, by their own numbers, and seven workers, or one.
 
 use super::both_ways::{list_of, run_by};
 use super::same_entries;
@@ -26,19 +26,21 @@ link = { min = 2, max = 2 }
 
 const PROCESSES: u16 = 70;
 
-const WORKERS: u16 = 7;
-
 /// How often a held worker looks, and yields, before it is let go.
 const TURNS: u32 = 2_000_000;
 
-/// A gate that holds each of seven workers in its first call of a window until all have made one.
+/// A gate that holds each worker in its first call of a window until all have made one.
 #[derive(Drop)]
 struct Hearing {
+    // how many workers there are
+    workers: u16,
     calls: AtomicU64,
     // how many calls told of each process, by its number
     told: Vec<AtomicU64>,
-    // how many of the first seven calls of a window each worker made, by its number
+    // how many of a window's first calls, as many as there are workers, each worker made, by its number
     began: Vec<AtomicU64>,
+    // how many calls were made under a number that no worker has
+    by_nobody: AtomicU64,
 }
 
 /// A count of 0 for each number up to one.
@@ -62,10 +64,14 @@ impl Gate for Hearing {
         let before = self.calls.fetch_add(1, Ordering::SeqCst);
         let in_window = before % u64::from(PROCESSES);
         count_one(&self.told, pid.number());
-        if in_window < u64::from(WORKERS) {
+        if worker == 0 || self.workers < worker {
+            self.by_nobody.fetch_add(1, Ordering::SeqCst);
+        }
+        let workers = u64::from(self.workers);
+        if in_window < workers {
             count_one(&self.began, worker);
         }
-        let all = (before - in_window).wrapping_add(u64::from(WORKERS));
+        let all = (before - in_window).wrapping_add(workers);
         wait_for(&self.calls, all, TURNS);
     }
 }
@@ -79,20 +85,25 @@ fn all_are<R: Abort>(rt: &R, counts: &[AtomicU64], times: u64) {
     }
 }
 
-/// In each of three windows the gate is told of each process once, by its own number, and all seven workers are at
-/// work, under the numbers from 1 to 7.
+/// In each of three windows the gate is told of each process once, by its own number, and all workers are at work, under
+/// the numbers from 1. The starter takes no process, and no call has another number.
 #[test]
 fn told_of_all(rt: HostRuntime) {
     let alloc = rt.alloc();
     let scenario = scenario_of(&rt, alloc, SEVENTY);
     let list = list_of(&rt, alloc, &scenario);
-    let gate = Hearing {
-        calls: AtomicU64::new(0),
-        told: counts_to(alloc, PROCESSES).expect(&rt, NO_MEMORY),
-        began: counts_to(alloc, WORKERS).expect(&rt, NO_MEMORY),
-    };
-    let windows = run_by(&rt, alloc, &scenario, u64::from(WORKERS), &gate);
-    same_entries(&rt, windows.entries(), list.entries());
-    all_are(&rt, &gate.told, 3);
-    all_are(&rt, &gate.began, 3);
+    for workers in [7, 1] {
+        let gate = Hearing {
+            workers,
+            calls: AtomicU64::new(0),
+            told: counts_to(alloc, PROCESSES).expect(&rt, NO_MEMORY),
+            began: counts_to(alloc, workers).expect(&rt, NO_MEMORY),
+            by_nobody: AtomicU64::new(0),
+        };
+        let windows = run_by(&rt, alloc, &scenario, u64::from(workers), &gate);
+        same_entries(&rt, windows.entries(), list.entries());
+        all_are(&rt, &gate.told, 3);
+        all_are(&rt, &gate.began, 3);
+        same(&rt, &gate.by_nobody.load(Ordering::SeqCst), &0);
+    }
 }

@@ -1,4 +1,4 @@
--- A window that is run and closed, whose parts are merged later. The parts of a closed window, which are merged later.
+-- A window that is run and closed, and its parts, which are merged later.
 use Rattle.std.specs.{Prelude.{◌≡◌, ◌+◌, ◌++◌, ◌<◌, ◌≤◌, ℕ, List, [], ◌∷◌, length, map, ◌⊎◌, IsTrue, Result, OnOk, OnErr, IfErr}, Global.{Vec}, List.{All}}
 use Rattle.{process_api.specs.{Order.{EntryRecord, is_rising}, Mind.{Mind}, declared.{message.Letter.{Letter}, run_error.RunError.{RunError}}}, trace_laws.specs.{Step.{Events}, Taken.{event_of}, World.{joined}}}
 use Rattle.{trace_merge.specs.Parts.{all_of, AreDisjoint, IsMergeOf}, mailboxes.specs.Mailboxes.{SlipView, list_of, posted_to}, steps.specs.declared.seat.Seat.{Seat}, window_laws.specs.Theorems.{end_to_end}}
