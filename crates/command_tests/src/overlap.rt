@@ -202,8 +202,8 @@ fn counted_machines(
     Ok(machines)
 }
 
-/// The trace's text of a run of machines that the gate counts: by the list, or by so many workers and windows of 2
-/// ticks.
+/// The trace's text of a run of machines that the gate counts: by the list, or by this number of workers and windows of
+/// 2 ticks.
 fn text_of<R: Abort + Threads + Wait + Sync>(
     rt: &R,
     alloc: Global,
@@ -217,9 +217,9 @@ fn text_of<R: Abort + Threads + Wait + Sync>(
     text_by(rt, alloc, scenario, machines, &plan, gate, start)
 }
 
-/// Where the crash is at the horizon, each of the ten calls finds its process as it was before the window. Of two workers
-/// worker 1 makes one call in each window, and worker 2 the other, and five calls wait for the other process. A single
-/// worker makes both. The text is the one that the list gives, also of these machines.
+/// Where the crash is at the horizon, each of the ten calls finds its process as it was before the window. Of two
+/// workers each makes one of the two calls in a window, and five calls wait for the other process. A single worker
+/// makes both. The text is the one that the list gives, also of these machines.
 #[test]
 fn overlaps(rt: HostRuntime) {
     let alloc = rt.alloc();

@@ -5,10 +5,10 @@
 //! slips come back and the mailboxes are emptied.
 //!
 //! The contracts for the layers above are those of [`Mailboxes::into_inboxes`] and [`Inbox::empty`];
-//! [`Mailboxes::collect`] does both. Under every schedule of the threads, the list of receiver r has the letters that the slips
-//! posted to r, each as often as it was posted, and no others. No order of a list is promised. The proof uses the
-//! ledger of the queue (`ledger`): counted with repetitions, the letters that all passes have put are those that they
-//! have taken and those that the queue holds. Nothing is promised about how long a call waits, or that it returns.
+//! [`Mailboxes::collect`] does both. Under every schedule of the threads, the list of receiver r has the letters that
+//! the slips posted to r, each as often as it was posted, and no others. No order of a list is promised. The proof uses
+//! the ledger of the queue (`ledger`): counted with repetitions, the letters that all passes have put are those that
+//! they have taken and those that the queue holds. Nothing is promised about how long a call waits, or that it returns.
 //!
 //! For example, there are three mailboxes and two slips. One thread posts letter a to 2 and letter b to 3 by the first
 //! slip, while another posts letter c to 2 by the second. Then `collect` with both slips gives an empty list, a list of

@@ -92,8 +92,9 @@ impl Links {
         ensures horizon { self.new.horizon ≡ self.old.horizon }
     {
         let place = usize::from(to.number());
-        self.counts[place] += 1;
-        self.counts[place]
+        let number = self.counts[place] + 1;
+        self.counts[place] = number;
+        number
     }
 
     /// What becomes of the letter with this number on the link to another process, sent at this tick.

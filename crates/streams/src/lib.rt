@@ -14,6 +14,7 @@
 #![tactic(auto)]
 
 mod fate;
+mod inverse;
 mod kept;
 mod streams;
 mod words;

@@ -4,6 +4,7 @@ ghost use Rattle.scenario_record.specs.Record.{Record};
 ghost use Rattle.streams.specs.Fate.{fate_of, fate_by as fate_for, fate_by_words};
 
 use crate::fate::Fate;
+use crate::inverse::Inverse;
 use crate::words::{SenderWords, pair_of};
 use process_api::Pid;
 use scenario_record::{Link, Scenario};
@@ -13,6 +14,8 @@ use std::marker::Model;
 #[derive(Drop)]
 pub struct Streams<'a> {
     scenario: &'a Scenario,
+    // of the span of delays that many links have
+    usual: Inverse,
 }
 
 impl<'a> Model for Streams<'a> {
@@ -23,7 +26,7 @@ impl<'a> Model for Streams<'a> {
 
 /// The fate by a letter's two words.
 #[inline(always)]
-fn fate_by(link: Link, words: (u32, u32)) -> Fate
+fn fate_by(link: Link, usual: Inverse, words: (u32, u32)) -> Fate
     requires { (link.min ≤ link.max) × (link.max < 2 ^ 31) }
     ensures { result ≡ fate_for link words.0 words.1 }
 {
@@ -31,8 +34,17 @@ fn fate_by(link: Link, words: (u32, u32)) -> Fate
     if a % 1000 < link.loss {
         Fate::Lost
     } else {
-        Fate::Delay(link.min + b % (link.max - link.min + 1))
+        Fate::Delay(link.min + usual.remainder(b, link.max - link.min + 1))
     }
+}
+
+/// How many delays the first link has. Most links of a scenario are alike.
+fn usual_span(scenario: &Scenario) -> u32 {
+    if scenario.processes() < 2 {
+        return 1;
+    }
+    let link = scenario.link(Pid::after(0), Pid::after(1));
+    link.max.wrapping_sub(link.min).wrapping_add(1)
 }
 
 impl<'a> Streams<'a> {
@@ -40,7 +52,10 @@ impl<'a> Streams<'a> {
     pub fn new(scenario: &'a Scenario) -> Streams<'a>
         ensures { result ≡ scenario.now }
     {
-        Streams { scenario }
+        Streams {
+            scenario,
+            usual: Inverse::of(usual_span(scenario)),
+        }
     }
 
     /// The fate of a letter that has no need of words, as it is lost in an outage, or its link has no loss and one
@@ -77,7 +92,11 @@ impl<'a> Streams<'a> {
     {
         match self.sure_fate(from, to, sent_at) {
             Ok(fate) => fate,
-            Err(link) => fate_by(link, pair_of(self.scenario.seed(), from, to, number)),
+            Err(link) => fate_by(
+                link,
+                self.usual,
+                pair_of(self.scenario.seed(), from, to, number),
+            ),
         }
     }
 
@@ -101,7 +120,11 @@ impl<'a> Streams<'a> {
     {
         match self.sure_fate(from, to, sent_at) {
             Ok(fate) => fate,
-            Err(link) => fate_by(link, words.pair_at(self.scenario.seed(), from, to, number)),
+            Err(link) => fate_by(
+                link,
+                self.usual,
+                words.pair_at(self.scenario.seed(), from, to, number),
+            ),
         }
     }
 }

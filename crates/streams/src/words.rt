@@ -145,8 +145,8 @@ impl SenderWords {
     }
 
     /// The words of a letter of a link, by its number from 1. Where they aren't at hand they are drawn, with those of
-    /// the letters that share its draw. It stands apart, so that a sure link's fate is found with no call.
-    #[inline(never)]
+    /// the letters that share its draw. The draw stands apart, so that words at hand are found with no call.
+    #[inline(always)]
     pub fn pair_at(&mut self, seed: u64, from: Pid, to: Pid, number: u64) -> (u32, u32)
         requires { 1 ≤ number }
         ensures { AreWordsOf seed from to number result.0 result.1 }

@@ -9,7 +9,7 @@ use crate::chore::Chore;
 use crate::gate::Gate;
 use crate::plan::Plan;
 use crate::sink::Sink;
-use crate::stage::Stage;
+use crate::stage::{Stage, count_within};
 use crate::window::run_parts;
 use process_api::{Entry, Process, RunError, Trace};
 use scenario_record::Scenario;
@@ -54,23 +54,20 @@ fn hand_on<K: Sink>(
     }
 }
 
-/// The starter offers its processor so often to a worker that it has just started.
-const OFFERS: usize = 4;
+/// How often the starter yields its processor to the worker that it has just started.
+const YIELDS: usize = 4;
 
-/// Where fewer entries wait, the starter hands them on without an offer.
-const MANY_ENTRIES: usize = 1024;
+/// The starter doesn't yield where no more entries than these wait.
+const FEW_ENTRIES: u64 = 1023;
 
-/// Lets the worker that was just started go first, where many entries wait to be handed on. A new thread often waits
-/// behind the one that started it, until the system moves one of them to a free processor some milliseconds later. What
-/// the starter does can wait so long, as the worker's part takes longer.
-fn let_worker_begin(parts: &[Vec<Entry>]) {
-    let waiting = parts
-        .iter()
-        .fold(0, |count: usize, part| count.saturating_add(part.len()));
-    if waiting < MANY_ENTRIES {
+/// Yields to the worker that was just started, where many entries wait to be handed on. A new thread often waits behind
+/// the one that started it, until the system moves one of them to a free processor some milliseconds later. In wide
+/// windows the worker usually takes longer than the starter, so that the starter can wait.
+fn yield_to_worker(parts: &[Vec<Entry>]) {
+    if count_within(parts, FEW_ENTRIES).is_some() {
         return;
     }
-    for _ in 0..OFFERS {
+    for _ in 0..YIELDS {
         yield_now();
     }
 }
@@ -106,7 +103,7 @@ impl<K: Sink> Chore for Handing<'_, K> {
     fn work(&mut self, alloc: Global) {
         let parts = replace(&mut self.left.parts, Vec::new(alloc));
         if self.one_worker {
-            let_worker_begin(&parts);
+            yield_to_worker(&parts);
         }
         self.left.told = hand_on(alloc, self.sink, parts, &mut self.left.rooms);
     }

@@ -144,7 +144,7 @@ fn hand_over<M: Process, R: Wait>(
 }
 
 /// How many entries the parts have together, if that is at most `left`.
-fn count_within(parts: &[Vec<Entry>], left: u64) -> Option<u64>
+pub(crate) fn count_within(parts: &[Vec<Entry>], left: u64) -> Option<u64>
     ensures over { IfNone result (left < length (all_of (map (λ part. part.items) parts.now))) }
     ensures within { IfSome result (λ made.
         (made ≡ length (all_of (map (λ part. part.items) parts.now))) × (made ≤ left)) }

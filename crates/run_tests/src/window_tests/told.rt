@@ -85,8 +85,8 @@ fn all_are<R: Abort>(rt: &R, counts: &[AtomicU64], times: u64) {
     }
 }
 
-/// In each of three windows the gate is told of each process once, by its own number, and all workers are at work, under
-/// the numbers from 1. The starter takes no process, and no call has another number.
+/// In each of three windows the gate is told of each process once, by its own number, and all workers are at work,
+/// under the numbers from 1. The starter takes no process, and no call has another number.
 #[test]
 fn told_of_all(rt: HostRuntime) {
     let alloc = rt.alloc();
