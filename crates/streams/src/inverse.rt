@@ -15,8 +15,8 @@ impl Inverse {
         Inverse { factor }
     }
 
-    /// The remainder of a number by a divisor. Where the factor is that of this divisor no division is made. The
-    /// quotient is tested once it is found, so no proof speaks of the factor.
+    /// The remainder of a number by a divisor. Where the factor is that of this divisor, and the divisor isn't 1, no
+    /// division is made. The quotient is tested once it is found, so no proof speaks of the factor.
     #[inline(always)]
     pub fn remainder(self, number: u32, divisor: u32) -> u32
         requires { 1 ≤ divisor }
