@@ -92,11 +92,10 @@ impl<'a> Streams<'a> {
     {
         match self.sure_fate(from, to, sent_at) {
             Ok(fate) => fate,
-            Err(link) => fate_by(
-                link,
-                self.usual,
-                pair_of(self.scenario.seed(), from, to, number),
-            ),
+            Err(link) => {
+                let words = pair_of(self.scenario.seed(), from, to, number);
+                fate_by(link, self.usual, words)
+            }
         }
     }
 
