@@ -9,26 +9,29 @@ use Rattle.{runs.specs.Letters.{AreLetters}, reporting.specs.declared.letter.Let
 use Rattle.study_line.specs.declared.order.{Picture.{Picture}, PictureTexts.{PictureTexts}, SourceTexts.{SourceTexts}}
 use Rattle.study_line.specs.declared.order.Picture.TheVariants as picture
 
--- the text is the picture of who suspects whom at these ticks of the scenario's run, and nothing speaks against it
-pub record ShowsSuspicions (s : Record) (from until : ℕ) (text : List ℕ) : Type 0 where
-  pub trace : List EntryRecord
-  pub is_trace : IsTrace (setting_of s) trace
+-- the text is the picture of who suspects whom at these ticks of the scenario's trace, and nothing speaks against it
+pub record ShowsSuspicions (s : Record) (trace : List EntryRecord) (from until : ℕ) (text : List ℕ) : Type 0 where
   pub allowed : refusal s from until ≡ None
   pub draws : DrawsSuspicions s trace from until text
 
 -- the text is the picture of letters at these ticks of the run, of these processes or all, which nothing speaks against
-pub record ShowsLetters (s : Record) (of : List ℕ) (from until : ℕ) (text : List ℕ) : Type 0 where
-  pub trace : List EntryRecord
-  pub is_trace : IsTrace (setting_of s) trace
+pub record ShowsLetters (s : Record) (trace : List EntryRecord) (of : List ℕ) (from until : ℕ) (text : List ℕ)
+    : Type 0 where
   pub letters : List Letter
   pub are_letters : AreLetters s letters
   pub allowed : letters_refusal s letters of from until ≡ None
   pub draws : DrawsLetters s trace letters of from until text
 
+-- the text is that picture of the scenario's trace
+abbrev pub ShowsTrace : Picture → Record → List EntryRecord → (of : List ℕ) (from until : ℕ) → List ℕ → Type 0
+ShowsTrace picture.Suspicions s trace of from until text = ShowsSuspicions s trace from until text
+ShowsTrace picture.Letters s trace of from until text = ShowsLetters s trace of from until text
+
 -- the text is that picture of the scenario's run
-abbrev pub Shows : Picture → Record → (of : List ℕ) (from until : ℕ) → List ℕ → Type 0
-Shows picture.Suspicions s of from until text = ShowsSuspicions s from until text
-Shows picture.Letters s of from until text = ShowsLetters s of from until text
+pub record Shows (named : Picture) (s : Record) (of : List ℕ) (from until : ℕ) (text : List ℕ) : Type 0 where
+  pub trace : List EntryRecord
+  pub is_trace : IsTrace (setting_of s) trace
+  pub shows : ShowsTrace named s trace of from until text
 
 -- the process of this number, in digits
 abbrev pub process_said : Word → Option ℕ
