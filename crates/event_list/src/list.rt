@@ -102,8 +102,7 @@ impl<M: Process> EventList<M> {
         let seat = &mut self.seats[place];
         let pending = &mut self.pending;
         let actions = &mut self.actions;
-        let entry = seat.turn(streams, (key, input), actions, pending, listener)?;
-        Ok(entry)
+        seat.turn(streams, (key, input), actions, pending, listener)
     }
 }
 
@@ -145,8 +144,11 @@ pub fn run_list_into<M: Process, F: Follower, L: Listener>(
         if taken >= limit {
             return Err(RunError::Limit);
         }
-        let entry = list.take(&streams, event, listener)?;
-        follower.follow(&entry)?;
+        // the entry is read where it lies, as moving it copies it
+        let Ok(entry) = &list.take(&streams, event, listener) else {
+            return Err(RunError::Memory);
+        };
+        follower.follow(entry)?;
         taken += 1;
     }
     Ok(())

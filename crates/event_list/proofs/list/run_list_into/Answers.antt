@@ -1,6 +1,7 @@
 use Rattle.event_list.proofs.Words.{◌≡◌, ◌+◌, ◌*◌, List, length, map, refl, append-nil, sym, subst, ◌∙◌, arith, Some, slice_get, ◌-◌, ◌++◌, ◌∷◌, [], All, length-map, length_push, MatchOption-at_none, MatchOption-at_some, most_step_actions, Mind, HaveJoined, posted_in, setting_of, process_of, IsSeated, IsProcess, IsStepped, Process, step, trace_rises, setting_sound}
 use Rattle.event_list.proofs.{Recording.{Going, taken_next, cut_short}, Standing.{first_longer, first_receiver, first_process, first_own, stands_next, stands_end}}
 use Rattle.trace_laws.proofs.{Effects.{trace_has_causes, trace_takes_once}, Joining.{joined_then}}
+use Rattle.std.proofs.lemmas.Result.{MatchResult-at_ok}
 use Rattle.event_list.proofs.list.run_list_into.Goals as goal
 
 pub returns-then-taken-limit-clause-limit : goal.returns-then-taken-limit-clause-limit
@@ -47,8 +48,8 @@ loop-list-init g c =
       within = omega arith;
     }
 
-pub loop-list-preserved : goal.loop-list-preserved
-loop-list-preserved g c =
+pub loop-list-preserved-in_ok-follow : goal.loop-list-preserved-in_ok-follow
+loop-list-preserved-in_ok-follow g c =
     let mind = g.M.Process.mind in
     let s = c.args.scenario.now in
     let S = setting_of s in
@@ -57,8 +58,9 @@ loop-list-preserved g c =
     let trace = i.going.trace in
     let letters = i.going.letters in
     let old = c.loop-list.taken in
-    let entry = c.in_ok-entry.entry in
-    let done = c.in_ok-entry.ensures in
+    let entry = c.in-Ok.entry in
+    let done = c.take.ensures in
+    let is_ok = c.in-Ok.is in
     let least = (MatchOption-at_some _ _ _ c.in-Some.is c.in_ok-event.ensures.least) in
     let key = c.in-Some.event.0 in
     let input = c.in-Some.event.1 in
@@ -66,12 +68,12 @@ loop-list-preserved g c =
     let is : c.new-streams.result ≡ s = c.new-streams.ensures in
     let long : length ps ≡ s.processes = omega (arith, i.count, c.loop-list.list.seats.ok.0, length-map c.loop-list.list.seats.items (process_of mind)) in
     let stepped : (p : Process Mind) → slice_get ps (key.receiver - 1) ≡ Some p → IsStepped {S = S} ps later c.take_least.new.self c.take.new.self.pending key entry (step S p key input) =
-    subst (λ r. (p : Process Mind) → slice_get ps (key.receiver - 1) ≡ Some p → IsStepped {S = setting_of r} ps later c.take_least.new.self c.take.new.self.pending key entry (step (setting_of r) p key input)) is done.stepped in
+    subst (λ r. (p : Process Mind) → slice_get ps (key.receiver - 1) ≡ Some p → IsStepped {S = setting_of r} ps later c.take_least.new.self c.take.new.self.pending key entry (step (setting_of r) p key input)) is (MatchResult-at_ok _ _ _ is_ok done.stepped) in
     let heard = g.L.Listener.heard in
     let told : (p : Process Mind) → slice_get ps (key.receiver - 1) ≡ Some p → HaveJoined heard c.loop-list.listener c.take.new.listener (posted_in S p key input) =
-    subst (λ r. (p : Process Mind) → slice_get ps (key.receiver - 1) ≡ Some p → HaveJoined heard c.loop-list.listener c.take.new.listener (posted_in (setting_of r) p key input)) is done.heard in
+    subst (λ r. (p : Process Mind) → slice_get ps (key.receiver - 1) ≡ Some p → HaveJoined heard c.loop-list.listener c.take.new.listener (posted_in (setting_of r) p key input)) is (MatchResult-at_ok _ _ _ is_ok done.heard) in
     let seated : All (IsSeated mind s (most_step_actions * old + most_step_actions)) c.take.new.self.seats.items =
-    subst (λ r. All (IsSeated mind r (most_step_actions * old + most_step_actions)) c.take.new.self.seats.items) is (done.seated (most_step_actions * old) (subst (λ r. All (IsSeated mind r (most_step_actions * old)) c.loop-list.list.seats.items) (sym is) i.seated)) in
+    subst (λ r. All (IsSeated mind r (most_step_actions * old + most_step_actions)) c.take.new.self.seats.items) is (MatchResult-at_ok _ _ _ is_ok done.seated (most_step_actions * old) (subst (λ r. All (IsSeated mind r (most_step_actions * old)) c.loop-list.list.seats.items) (sym is) i.seated)) in
     record {
       going = record {
         trace = trace ++ entry ∷ [];
@@ -84,7 +86,7 @@ loop-list-preserved g c =
             (told _ (first_process S ps c.loop-list.list.pending trace letters i.going.stands key input least));
       };
       seated = let same : most_step_actions * old + most_step_actions ≡ most_step_actions * (old + 1) = omega arith in subst (λ n. All (IsSeated mind s n) c.take.new.self.seats.items) same seated;
-      count = done.count ∙ i.count;
+      count = MatchResult-at_ok _ _ _ is_ok done.count ∙ i.count;
       within = omega (arith, c.if-taken-limit.false, c.limit-limit.ensures.value);
     }
 
