@@ -1,13 +1,12 @@
 -- Why an order isn't carried out: there is no scenario for it, its plan is refused, or its run is.
 use Rattle.std.specs.Prelude.{◌≡◌, ◌⊎◌, ◌<◌, ℕ, List, length, false, Option, IfSome}
-use Rattle.command_line.specs.declared.order.Order.{Order}
+use Rattle.{command_line.specs.declared.order.Order.{Order}, windows.specs.Plan.{IsFirst, NoneApplies}}
 use Rattle.command_line.specs.declared.order.Order.TheVariants as order
 use Rattle.process_api.specs.declared.run_error.RunError.{RunError}
 use Rattle.process_api.specs.declared.run_error.RunError.TheVariants as run
 use Rattle.bench_commands.specs.{Answer.{path_of, IsScenarioAt, IsTooLong}, declared.{bench.Mode.{Mode}, fault.Fault.{Fault, TheVariants.{Plan, Run, Scenario, TooLong, Unreadable}}}}
 use Rattle.bench_commands.specs.declared.bench.Mode.TheVariants as mode
 use Rattle.{scenario.specs.{Refusals.{Refuses, is_memory}, declared.error.ScenarioError.{ScenarioError}}, scenario_record.specs.Record.{Record}, shell.specs.Ending.{AreAllOf, input_path, most_bytes}}
-use Rattle.windows.specs.Plan.{IsFirst, NoneApplies}
 
 module _ (input : Option (List ℕ)) (path : List ℕ) where
   -- the file's bytes are refused. Of a path other than `-` they aren't known

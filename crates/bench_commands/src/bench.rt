@@ -40,7 +40,7 @@ pub fn bench<R: Threads + Wait + Sync, G: Gate, O: Outlet>(
         (RefusesBy mode scenario.now print O.told O.failed outlet.old outlet.new) }
     ensures threads { mode ≡ Mode.List → result ≢ Err RunError.Spawn }
 {
-    let _ticks = scenario.horizon();
+    scenario.recall_ranges();
     let machines = machines_of(alloc, scenario)?;
     match mode {
         Mode::List => bench_list(alloc, scenario, machines, print, outlet),

@@ -3,9 +3,8 @@ use Rattle.std.specs.{Prelude.{◌≡◌, ◌++◌, ℕ, Bool, true, false, Opti
 use Rattle.std.specs.FinSet as set
 use Rattle.std.specs.BTreeSet as tree_set
 use Rattle.process_api.specs.{Answer.{Answer, still, after}, Coordinator.{count_to, is_own, Coordinator, opening_coordinator, step_coordinator, Seen, relay, best_to, end_wait, settle}, Mind.{AlgorithmState, Coordinating}, Sets.{Processes}}
-use Rattle.process_api.specs.Letters.{by_number}
+use Rattle.process_api.specs.{Letters.{by_number}, declared.letters.Letters.{Letters}}
 use Rattle.process_api.specs.declared.{action.Action.{Action}, consensus.{Phase.{Phase, TheVariants.{Opening, Collect, Await, Tally, Decided, Ended}}, Estimate.{Estimate}}, membership.Membership.{Membership}, message.StepInput.{StepInput}}
-use Rattle.process_api.specs.declared.letters.Letters.{Letters}
 use Rattle.process_api.specs.Letters as kept
 use Rattle.{scenario_record.specs.{Opening.{place_of}, declared.opening.Opening.{Opening as ProcessOpening}}, consensus_es.specs.declared.{progress.Progress.{Progress}, proposals.Proposals.{Proposals}, diffusion.Diffusion.{Diffusion}}}
 

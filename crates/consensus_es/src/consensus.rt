@@ -21,9 +21,9 @@ pub struct EsConsensus {
     // the tick at which the run ends
     horizon: u32,
     progress: Progress,
-    failed: bool,
+    has_failed: bool,
     // why one input makes few actions; after an `Err` it may be broken
-    ghost orderly: { failed ≡ false → IsOrderly membership.processes membership.own (state_of progress) },
+    ghost orderly: { has_failed ≡ false → IsOrderly membership.processes membership.own (state_of progress) },
 }
 
 impl EsConsensus {
@@ -41,7 +41,7 @@ impl EsConsensus {
             membership: Membership::new(opening.own, opening.processes),
             horizon: opening.horizon,
             progress: Progress::open(alloc, opening.proposal.unwrap()),
-            failed: false,
+            has_failed: false,
         })
     }
 }
@@ -60,15 +60,13 @@ impl Algorithm for EsConsensus {
         suspects: &ProcSet,
         out: &mut Vec<Action>,
     ) -> Result<(), AllocError> {
-        if self.failed {
+        if self.has_failed {
             return Err(AllocError);
         }
-        match self.progress.take(&self.membership, input, suspects, out) {
-            Ok(()) => Ok(()),
-            Err(error) => {
-                self.failed = true;
-                Err(error)
-            }
-        }
+        // so it stays where the step answers `Err`
+        self.has_failed = true;
+        self.progress.take(&self.membership, input, suspects, out)?;
+        self.has_failed = false;
+        Ok(())
     }
 }

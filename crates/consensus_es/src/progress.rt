@@ -10,13 +10,10 @@ ghost use Rattle.consensus_es.specs.Inside.Steps.{begun, entered, left, replied,
 use crate::diffusion::Diffusion;
 use crate::proposals::Proposals;
 use process_api::{
-    Action, Estimate, Letters, Membership, Note, Payload, Phase, Pid, ProcSet, StepInput,
-    note_that, send_to, send_to_all,
+    Action, Estimate, GREATEST_ROUND, Letters, Membership, Note, Payload, Phase, Pid, ProcSet,
+    StepInput, note_that, send_to, send_to_all,
 };
 use std::alloc::{AllocError, Global};
-
-/// The greatest round.
-const GREATEST_ROUND: u64 = 1_000_000_000_000;
 
 /// How far a process has come, and what it has received for its round and for later ones.
 #[derive(Drop)]

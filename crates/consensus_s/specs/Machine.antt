@@ -11,4 +11,4 @@ opening_algorithm o = Exchanging (place_of o) (opening_exchange o.processes o.ow
 
 -- a call of `take` has answered `Err`
 abbrev pub is_failed : SConsensus → Bool
-is_failed s = s.failed
+is_failed s = s.has_failed

@@ -12,8 +12,8 @@ use std::alloc::{AllocError, Global};
 pub struct SConsensus {
     opening: Opening,
     exchange: Exchange,
-    failed: bool,
-    ghost orderly: { failed ≡ false → IsOrderly opening.own (exchange_of exchange) } by { Prim.hlevel props },
+    has_failed: bool,
+    ghost orderly: { has_failed ≡ false → IsOrderly opening.own (exchange_of exchange) } by { Prim.hlevel props },
 }
 
 impl SConsensus {
@@ -35,7 +35,7 @@ impl SConsensus {
         Ok(SConsensus {
             opening: *opening,
             exchange,
-            failed: false,
+            has_failed: false,
         })
     }
 }
@@ -55,15 +55,13 @@ impl Algorithm for SConsensus {
         suspects: &ProcSet,
         out: &mut Vec<Action>,
     ) -> Result<(), AllocError> {
-        if self.failed {
+        if self.has_failed {
             return Err(AllocError);
         }
-        match self.exchange.step(&self.opening, input, suspects, out) {
-            Ok(()) => Ok(()),
-            Err(e) => {
-                self.failed = true;
-                Err(e)
-            }
-        }
+        // so it stays where the step answers `Err`
+        self.has_failed = true;
+        self.exchange.step(&self.opening, input, suspects, out)?;
+        self.has_failed = false;
+        Ok(())
     }
 }

@@ -13,6 +13,5 @@ pub fn law_bounds(scenario: &Scenario)
     ensures shared { (trace : List EntryRecord) → IsTrace (setting_of scenario.now) trace
         → SharesDetection scenario.now trace }
 {
-    // A reader says that the scenario's fields are in their ranges.
-    let _horizon = scenario.horizon();
+    scenario.recall_ranges();
 }

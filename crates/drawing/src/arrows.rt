@@ -1,6 +1,6 @@
 //! The arrows of letters.
 ghost use Rattle.std.specs.Prelude.{◌≡◌, ◌++◌, ◌≤◌, ◌<◌, ◌*◌, ◌/◌, length, OnOk};
-ghost use Rattle.drawing.specs.{Frame.{placeless, without_place, on_way}, LettersPicture.{class_of, count_others, is_of, sent_among}};
+ghost use Rattle.{process_api.specs.Place.{last_tick}, drawing.specs.{Frame.{placeless, without_place, on_way}, LettersPicture.{class_of, count_others, is_of, sent_among}}};
 
 use crate::frame::push_mark;
 use crate::groups::Run;
@@ -60,7 +60,7 @@ fn class_of(kind: Kind) -> Class
 fn part_of(way: u32, part: u64, whole: u64) -> u32
     requires some { 0 < whole }
     requires inside { part ≤ whole }
-    requires small { part ≤ 10000000 }
+    requires small { part ≤ last_tick }
     ensures value { result ≡ (way * part) / whole }
     ensures within { result ≤ way }
 {
@@ -72,7 +72,7 @@ fn part_of(way: u32, part: u64, whole: u64) -> u32
 fn on_way(from: u32, to: u32, part: u64, whole: u64) -> u32
     requires some { 0 < whole }
     requires inside { part ≤ whole }
-    requires small { part ≤ 10000000 }
+    requires small { part ≤ last_tick }
     ensures { result ≡ on_way from to part whole }
 {
     if from <= to {

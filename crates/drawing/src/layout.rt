@@ -1,5 +1,6 @@
 //! Where things stand in a picture, in whole user units.
 ghost use Rattle.std.specs.Prelude.{◌≡◌, ◌≤◌, ◌<◌, IfSome};
+ghost use Rattle.process_api.specs.Place.{last_tick};
 
 /// The most processes that are drawn.
 pub const MOST_DRAWN: u16 = 16;
@@ -49,7 +50,7 @@ pub(crate) struct Ticks {
     /// The tick after the last.
     pub until: u32,
     ghost some: { from < until },
-    ghost high: { until ≤ 10000000 },
+    ghost high: { until ≤ last_tick },
 }
 
 impl Ticks {

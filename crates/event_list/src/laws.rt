@@ -25,6 +25,5 @@ pub fn law_only_history(scenario: &Scenario)
     ensures once { IsTakenOnce (setting_of scenario.now) }
     ensures plain { PlainMakesTrace (setting_of scenario.now) }
 {
-    // A reader says that the scenario's fields are in their ranges.
-    let _horizon = scenario.horizon();
+    scenario.recall_ranges();
 }

@@ -2,12 +2,14 @@
 ghost use Rattle.std.specs.{Prelude.{◌≡◌, ℕ, false, nat_le, ◌||◌}, Option.{option_map_or}};
 ghost use Rattle.process_api.specs.Freshness as freshness;
 
-/// The number of the next heartbeat, or of the next point. They are counted up to 1,000,000,000,000, and stay there; no
-/// scenario reaches it.
+use process_api::GREATEST_COUNT;
+
+/// The number of the next heartbeat, or of the next point. They are counted up to [`GREATEST_COUNT`], and stay there;
+/// no scenario reaches it.
 pub(crate) fn next(count: u64) -> u64
     ensures { result ≡ freshness.next count }
 {
-    count.saturating_add(1).min(1_000_000_000_000)
+    count.saturating_add(1).min(GREATEST_COUNT)
 }
 
 /// Whether a number of `i` or more came, by the greatest that did.

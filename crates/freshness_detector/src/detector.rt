@@ -201,6 +201,7 @@ impl Detector for FreshnessDetector {
         if self.has_failed {
             return Err(AllocError);
         }
+        // so it stays where the step answers `Err`
         self.has_failed = true;
         self.step(input, out)?;
         self.has_failed = false;

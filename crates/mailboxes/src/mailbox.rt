@@ -105,6 +105,7 @@ impl Mailbox {
         ensures { IfOk result (λ made. made.1 ≡ home_of made.0 0 []) }
     {
         let (queue, mut pass) = Queue::with_rule(alloc)?;
+        // This makes the first pass count (`Opening`). The second one, which rests, isn't needed.
         let _rests = queue.another::<Opening>(&mut pass);
         let home = Home {
             pass,

@@ -2,7 +2,7 @@
 use Rattle.std.proofs.Common.{◌≡◌, ℕ, zero, suc, ◌≤◌, ◌==◌, ◌&&◌, ℤ, pos, negsuc, min, nat_le, nat_lt, List, [], ◌∷◌, length, find, Bool, true, false, not, Option, Some, None, option_map, option_and_then, is_some, refl, ap, sym, ◌∙◌, subst, arith, codes, if◌then◌else◌}
 use Rattle.std.proofs.lemmas.{Bool.{leb-true, ltb-true, ltb-false, not-false}, List.Sorted.{All-permutation, length_permutation}, Slice.Zip.{AllZip-long}}
 use Rattle.network.proofs.Basics.{All, AllZip, option_map_or, option_or, All-nil, All-cons, All-head, All-tail, All-weaker, Data, Items, Members, no_items, item, table, integer, array, get_member, all_items, is_number, tables_at, count, Outage, Field, both_field, burst_fields, cut_fields, fault_at, fault_of_value, first_of, first_outside, group_field, has_fault, has_more, is_empty_array, is_numbers, is_spell_table, items_in, key_of, lacks_member, needed, number_outside, outside, pause_fields, replay_fields, spell_field, takes, Said, SaysBurst, SaysCut, SaysNetwork, SaysPause, SaysReplay, SaysRhythm, each, lasts_in, mean, number_of, outage_of, outages_in, said_at, said_in, said_of, ticks, values, IsNetworkFile, IsTableOf, lies_within, replay_fault, most_tables, Replay, Rhythm}
-use Rattle.{scenario.specs.{Text.{natural}, Rules.{is_within}}, scenario.proofs.Within.{neither}}
+use Rattle.{process_api.specs.Place.{last_tick}, scenario.specs.{Text.{natural}, Rules.{is_within}}, scenario.proofs.Within.{neither}}
 use Rattle.network.specs.Ranges.{IsNetwork, IsReplay, IsRhythm, IsSpell, IsTicks, IsWithin, most_values}
 use Rattle.network.specs.declared.{field.{Shape.{Shape}, TableKind.TheVariants.{Bursts, Cuts, Pauses, Replays}}, network.{Burst.{Burst}, Cut.{Cut}, Network.{Network}, Pause.{Pause}}, spell.Spell.{Spell}}
 use Rattle.network.specs.declared.field.Shape.TheVariants as shape
@@ -102,16 +102,16 @@ unfolding number_of
 number_inside low high (integer z) fits is none = integer_inside low high z fits (inside_of (is_within low high z) z none)
 number_inside low high _ fits is none = cc
 
-is_ticks : (d : Data) → is_number d ≡ true → outside 1 10000000 d ≡ None → IsTicks (number_of d)
+is_ticks : (d : Data) → is_number d ≡ true → outside 1 last_tick d ≡ None → IsTicks (number_of d)
 is_ticks d is none =
-    let ends = number_inside 1 10000000 d (omega arith) is none in
+    let ends = number_inside 1 last_tick d (omega arith) is none in
     record { low = ends.0; high = ends.1 }
 
-each_ticks : (ds : Items) → all_items is_number ds ≡ true → first_of (outside 1 10000000) ds ≡ None → All IsTicks (each number_of ds)
+each_ticks : (ds : Items) → all_items is_number ds ≡ true → first_of (outside 1 last_tick) ds ≡ None → All IsTicks (each number_of ds)
 each_ticks no_items are none = All-nil IsTicks
 each_ticks (item d ds) are none =
     let numbers = both (is_number d) (all_items is_number ds) are in
-    let inside = neither_of (outside 1 10000000 d) (first_of (outside 1 10000000) ds) none in
+    let inside = neither_of (outside 1 last_tick d) (first_of (outside 1 last_tick) ds) none in
     All-cons IsTicks (number_of d) (each number_of ds) (is_ticks d numbers.0 inside.0) (each_ticks ds numbers.1 inside.1)
 
 each_counted : {T : Type 0} (f : Data → T) (ds : Items) → length (each f ds) ≡ count ds
@@ -131,7 +131,7 @@ IsGoodSaid (values ns) = AreGood ns
 IsGoodSaid (mean m) = IsTicks m
 
 good_values : (v : Data) → is_numbers v ≡ true → is_empty_array v ≡ false → nat_lt most_values (count (items_in v)) ≡ false
-    → first_outside 1 10000000 v ≡ None → AreGood (each number_of (items_in v))
+    → first_outside 1 last_tick v ≡ None → AreGood (each number_of (items_in v))
 good_values (array ds) are some few none =
     let long = each_counted number_of ds in
     record {
@@ -143,16 +143,16 @@ good_values _ are some few none = cc
 
 good_table : (b : Bool) (m v : Option Data) → (b && option_map_or is_number m (option_map_or is_numbers v false)) ≡ true
     → option_map_or is_empty_array v false ≡ false → option_map_or (λ v. nat_lt most_values (count (items_in v))) v false ≡ false
-    → option_or (option_and_then (outside 1 10000000) m) (option_and_then (first_outside 1 10000000) v) ≡ None
+    → option_or (option_and_then (outside 1 last_tick) m) (option_and_then (first_outside 1 last_tick) v) ≡ None
     → IsGoodSaid (option_map_or (λ m. mean (number_of m)) m (values (option_map_or (λ v. each number_of (items_in v)) v [])))
 good_table b (Some m) v are some few none =
-    is_ticks m (both b (is_number m) are).1 (neither_of (outside 1 10000000 m) (option_and_then (first_outside 1 10000000) v) none).0
+    is_ticks m (both b (is_number m) are).1 (neither_of (outside 1 last_tick m) (option_and_then (first_outside 1 last_tick) v) none).0
 good_table b None (Some v) are some few none = good_values v (both b (is_numbers v) are).1 some few none
 good_table b None None are some few none = let no : false ≡ true = (both b false are).1 in cc
 
-good_said : (d : Data) → IsGood shape.Spell 1 10000000 d → IsGoodSaid (said_in d)
+good_said : (d : Data) → IsGood shape.Spell 1 last_tick d → IsGoodSaid (said_in d)
 unfolding is_spell_table
-good_said (integer z) good = is_ticks (integer z) refl (neither_of (outside 1 10000000 (integer z)) None good.inside).0
+good_said (integer z) good = is_ticks (integer z) refl (neither_of (outside 1 last_tick (integer z)) None good.inside).0
 good_said (table ms) good = good_table _ (get_member (codes "mean") ms) (get_member (codes "values") ms) good.shaped good.some good.few good.inside
 good_said _ good = let e = good.shaped in cc
 
@@ -163,7 +163,7 @@ good_spell (spell.Mean m) good = good
 
 spell_in_range : (key : List ℕ) (t : Members) (s : Spell) → said_of s ≡ said_at key t → fault_at (spell_field key) t ≡ None → IsSpell s
 spell_in_range key t s is e =
-    let its = has key shape.Spell 1 10000000 t e in
+    let its = has key shape.Spell 1 last_tick t e in
     let said : said_of s ≡ said_in its.value = is ∙ ap (λ o. option_map_or said_in o (values [])) its.there in
     good_spell s (subst IsGoodSaid (sym said) (good_said its.value its.good))
 
@@ -210,15 +210,15 @@ all_within t e =
     (none_found (λ o. not (lies_within (lasts_in t) o)) (outages_in t)
     (nothing_mapped (λ o. together.NotWithin o.begin o.until (lasts_in t)) (find (λ o. not (lies_within (lasts_in t) o)) (outages_in t)) e))
 
-some_outages : (d : Data) → IsGood shape.Outages 0 10000000 d → 1 ≤ length (each outage_of (items_in d))
+some_outages : (d : Data) → IsGood shape.Outages 0 last_tick d → 1 ≤ length (each outage_of (items_in d))
 some_outages (array ds) good = let n = some_counted (count ds) good.some in omega (arith, each_counted outage_of ds, n)
 some_outages _ good = let e = good.shaped in cc
 
-record_in_range : (t : Members) (r : Replay) → SaysReplay t r → fault_at (needed (codes "lasts") shape.Number 1 10000000) t ≡ None
-    → fault_at (needed (codes "outages") shape.Outages 0 10000000) t ≡ None → replay_fault t ≡ None → IsReplay r
+record_in_range : (t : Members) (r : Replay) → SaysReplay t r → fault_at (needed (codes "lasts") shape.Number 1 last_tick) t ≡ None
+    → fault_at (needed (codes "outages") shape.Outages 0 last_tick) t ≡ None → replay_fault t ≡ None → IsReplay r
 record_in_range t r says lasts outages together =
-    let long = has (codes "lasts") shape.Number 1 10000000 t lasts in
-    let its = has (codes "outages") shape.Outages 0 10000000 t outages in
+    let long = has (codes "lasts") shape.Number 1 last_tick t lasts in
+    let its = has (codes "outages") shape.Outages 0 last_tick t outages in
     let ticks : lasts_in t ≡ number_of long.value = ap (λ o. option_map_or number_of o 0) long.there in
     let list : outages_in t ≡ each outage_of (items_in its.value) = ap (λ o. option_map_or (λ d. each outage_of (items_in d)) o []) its.there in
     let counted : length r.outages.items ≡ length (each outage_of (items_in its.value)) = length_permutation (outages_in t) r.outages.items says.outages ∙ ap length list in

@@ -1,6 +1,6 @@
 -- The keys that the tables of a network file may have, and which values a key may have.
 use Rattle.std.specs.{Prelude.{ℕ, ◌==◌, nat_lt, ℤ, List, [], ◌∷◌, map, Bool, true, false, not, ◌&&◌, ◌||◌, if◌then◌else◌, Option, Some, None, option_map, option_and_then, unwrap_or, is_some, codes, length}, List.{list_any}}
-use Rattle.{std.specs.Option.{option_map_or, option_or}, toml.specs.Data.{Data, Items, no_items, item, Members, get_member, as_integer, as_str, as_bool, as_array, as_table}, process_api.specs.Place.{most_processes}}
+use Rattle.{std.specs.Option.{option_map_or, option_or}, toml.specs.Data.{Data, Items, no_items, item, Members, get_member, as_integer, as_str, as_bool, as_array, as_table}, process_api.specs.Place.{last_tick, most_processes, most_ticks}}
 use Rattle.scenario.specs.{Table.{all_items, is_number, is_of, keys_of, same_text}, Rules.{is_within}, Faults.{count}}
 use Rattle.scenario.specs.declared.field.Kind.TheVariants as kind
 use Rattle.network.specs.{Ranges.{most_values}, declared.{field.{TableKind.{TableKind, TheVariants.{Links, Bursts, Cuts, Pauses, Replays}}, Shape.{Shape}}, refusal.ValueFault.{ValueFault}}}
@@ -44,11 +44,11 @@ abbrev pub both_field : Field
 both_field = record (needed (codes "both") shape.Flag 0 0) { needed = false }
 
 abbrev pub spell_field : List ℕ → Field
-spell_field key = needed key shape.Spell 1 10000000
+spell_field key = needed key shape.Spell 1 last_tick
 
 unfoldable pub link_fields : List Field
 link_fields = group_field (codes "from") ∷ group_field (codes "to") ∷ both_field
-    ∷ needed (codes "min") shape.Number 1 1000000 ∷ needed (codes "max") shape.Number 1 1000000
+    ∷ needed (codes "min") shape.Number 1 most_ticks ∷ needed (codes "max") shape.Number 1 most_ticks
     ∷ record (needed (codes "loss") shape.Number 0 1000) { needed = false } ∷ []
 
 unfoldable pub burst_fields : List Field
@@ -64,7 +64,7 @@ pause_fields = group_field (codes "processes") ∷ spell_field (codes "gap") ∷
 
 unfoldable pub replay_fields : List Field
 replay_fields = group_field (codes "from") ∷ group_field (codes "to") ∷ both_field
-    ∷ needed (codes "lasts") shape.Number 1 10000000 ∷ needed (codes "outages") shape.Outages 0 10000000 ∷ []
+    ∷ needed (codes "lasts") shape.Number 1 last_tick ∷ needed (codes "outages") shape.Outages 0 last_tick ∷ []
 
 abbrev pub fields_in : TableKind → List Field
 fields_in Links = link_fields

@@ -1,6 +1,6 @@
 -- What drawing asks of the numbers of a network.
 use Rattle.std.specs.{Prelude.{ℕ, ◌≤◌, ◌<◌, List, length}, List.{All, Sorted.{IsSorted}}, Ordering.{ordering_then, nat_cmp}, declared.cmp.Ordering.{Ordering}}
-use Rattle.scenario_record.specs.declared.outage.Outage.{Outage}
+use Rattle.{process_api.specs.Place.{last_tick}, scenario_record.specs.declared.outage.Outage.{Outage}}
 use Rattle.network.specs.{Words.{most_tables}, declared.{spell.Spell.{Spell, TheVariants.{Ticks, Values, Mean}}, rhythm.Rhythm.{Rhythm}, network.{Burst.{Burst}, Cut.{Cut}, Pause.{Pause}, Replay.{Replay}, Network.{Network}}}}
 
 -- the most values of a gap or a length
@@ -10,7 +10,7 @@ most_values = 100000
 -- a number of ticks that a network file may say
 pub record IsTicks (n : ℕ) : Type 0 where
   pub low : 1 ≤ n
-  pub high : n ≤ 10000000
+  pub high : n ≤ last_tick
 
 pub record AreValues (values : List ℕ) : Type 0 where
   pub some : 1 ≤ length values

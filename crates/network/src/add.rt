@@ -1,6 +1,6 @@
 //! Outages of several links at once, and the course of a run.
 ghost use Rattle.std.specs.Prelude.{◌≡◌, ◌≤◌, ◌++◌, map, OnOk};
-ghost use Rattle.{process_api.specs.Place.{most_processes}, network.specs.Drawn.{OnTooMany, outage_on}};
+ghost use Rattle.{process_api.specs.Place.{last_tick, most_processes}, network.specs.Drawn.{OnTooMany, outage_on}};
 
 use crate::error::DrawError;
 use crate::group::Ends;
@@ -21,7 +21,7 @@ pub(crate) struct Course {
     /// The seed of all random streams.
     pub(crate) seed: u64,
     ghost few: { processes ≤ most_processes },
-    ghost ends: { horizon ≤ 10000000 },
+    ghost ends: { horizon ≤ last_tick },
 }
 
 impl Drawn {

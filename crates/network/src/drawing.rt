@@ -1,6 +1,6 @@
 //! All outages of a network.
 ghost use Rattle.std.specs.{Prelude.{◌≡◌, ◌≤◌, ◌++◌, length, OnOk, IfOk}, List.{All}};
-ghost use Rattle.process_api.specs.Place.{most_processes};
+ghost use Rattle.process_api.specs.Place.{last_tick, most_processes};
 ghost use Rattle.network.specs.{Drawn.{drawn_of, OnTooMany, most_outages, of_each}, Ranges.{IsNetwork}, Words.{most_tables}};
 
 use crate::add::Course;
@@ -44,7 +44,7 @@ pub fn draw(
 ) -> Result<Vec<LinkOutage>, DrawError>
     requires numbers { IsNetwork network.now }
     requires processes { processes ≤ most_processes }
-    requires horizon { horizon ≤ 10000000 }
+    requires horizon { horizon ≤ last_tick }
     ensures ok { IfOk result (λ v. v.items ≡ drawn_of processes horizon seed network.now) }
     ensures few { IfOk result (λ v. length v.items ≤ most_outages) }
     ensures full { OnTooMany result (drawn_of processes horizon seed network.now) }

@@ -3,6 +3,8 @@ ghost use Rattle.std.specs.Prelude.{◌≡◌, map};
 ghost use Rattle.network.specs.Fields as spec;
 ghost use Rattle.network.specs.Fields.{fields_of, fields_in, keys_in, key_of};
 
+use process_api::{LAST_TICK, MOST_PROCESSES, MOST_TICKS};
+
 /// The tables of a network file, by their kinds: each kind is an array of tables at a key of the file.
 #[derive(Clone, Copy, Debug, PartialEq, Eq)]
 pub enum TableKind {
@@ -52,7 +54,7 @@ pub(crate) struct Field {
 
 /// A key, what its value must be, whether it must be there, and what numbers it may have.
 macro_rules! field {
-    ($key:literal, $shape:ident, $needed:literal, $low:literal, $high:literal) => {
+    ($key:literal, $shape:ident, $needed:literal, $low:literal, $high:expr) => {
         Field {
             key: $key,
             shape: Shape::$shape,
@@ -64,40 +66,40 @@ macro_rules! field {
 }
 
 const LINKS: [Field; 6] = [
-    field!("from", Group, true, 1, 256),
-    field!("to", Group, true, 1, 256),
+    field!("from", Group, true, 1, MOST_PROCESSES as u32),
+    field!("to", Group, true, 1, MOST_PROCESSES as u32),
     field!("both", Flag, false, 0, 0),
-    field!("min", Number, true, 1, 1_000_000),
-    field!("max", Number, true, 1, 1_000_000),
+    field!("min", Number, true, 1, MOST_TICKS),
+    field!("max", Number, true, 1, MOST_TICKS),
     field!("loss", Number, false, 0, 1_000),
 ];
 
 const BURSTS: [Field; 5] = [
-    field!("from", Group, true, 1, 256),
-    field!("to", Group, true, 1, 256),
+    field!("from", Group, true, 1, MOST_PROCESSES as u32),
+    field!("to", Group, true, 1, MOST_PROCESSES as u32),
     field!("both", Flag, false, 0, 0),
-    field!("gap", Spell, true, 1, 10_000_000),
-    field!("length", Spell, true, 1, 10_000_000),
+    field!("gap", Spell, true, 1, LAST_TICK),
+    field!("length", Spell, true, 1, LAST_TICK),
 ];
 
 const CUTS: [Field; 3] = [
-    field!("between", Sides, true, 1, 256),
-    field!("gap", Spell, true, 1, 10_000_000),
-    field!("length", Spell, true, 1, 10_000_000),
+    field!("between", Sides, true, 1, MOST_PROCESSES as u32),
+    field!("gap", Spell, true, 1, LAST_TICK),
+    field!("length", Spell, true, 1, LAST_TICK),
 ];
 
 const PAUSES: [Field; 3] = [
-    field!("processes", Group, true, 1, 256),
-    field!("gap", Spell, true, 1, 10_000_000),
-    field!("length", Spell, true, 1, 10_000_000),
+    field!("processes", Group, true, 1, MOST_PROCESSES as u32),
+    field!("gap", Spell, true, 1, LAST_TICK),
+    field!("length", Spell, true, 1, LAST_TICK),
 ];
 
 const REPLAYS: [Field; 5] = [
-    field!("from", Group, true, 1, 256),
-    field!("to", Group, true, 1, 256),
+    field!("from", Group, true, 1, MOST_PROCESSES as u32),
+    field!("to", Group, true, 1, MOST_PROCESSES as u32),
     field!("both", Flag, false, 0, 0),
-    field!("lasts", Number, true, 1, 10_000_000),
-    field!("outages", Outages, true, 0, 10_000_000),
+    field!("lasts", Number, true, 1, LAST_TICK),
+    field!("outages", Outages, true, 0, LAST_TICK),
 ];
 
 /// The keys that a network file itself may have, each of which has an array of tables.

@@ -1,6 +1,6 @@
 //! What a source draws.
 ghost use Rattle.std.specs.Prelude.{◌≡◌, ◌≤◌, ◌++◌, ℕ, List, OnOk};
-ghost use Rattle.scenario_record.specs.declared.outage.Outage.{Outage};
+ghost use Rattle.{process_api.specs.Place.{last_tick}, scenario_record.specs.declared.outage.Outage.{Outage}};
 ghost use Rattle.network.specs.{Drawn.{OnTooMany, on_each}, Words.{Words}, Inside.Coming.{to_come}};
 
 use crate::error::DrawError;
@@ -25,7 +25,7 @@ pub(crate) trait Source {
         drawn: &mut Drawn,
     ) -> Result<(), DrawError>
         requires ranges { is_in_range self.now }
-        requires ends { horizon ≤ 10000000 }
+        requires ends { horizon ≤ last_tick }
         ensures ok { OnOk result
             (drawn.new ≡ drawn.old ++ on_each links.now (outages self.now (to_come words.old) horizon)) }
         ensures full { OnTooMany result

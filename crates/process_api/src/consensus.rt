@@ -1,5 +1,8 @@
 //! The parts of the rotating coordinator's state.
 
+/// The greatest round.
+pub const GREATEST_ROUND: u64 = 1_000_000_000_000;
+
 /// What a process would decide, and since which round: Chandra and Toueg's estimate with its time stamp
 /// (Journal of the ACM 43(2), 1996).
 #[derive(Clone, Copy)]

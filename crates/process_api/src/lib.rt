@@ -43,7 +43,7 @@ mod words;
 
 pub use action::{Action, Note, note_that, send_to, send_to_all, send_to_others, wake_after};
 pub use cells::Cells;
-pub use consensus::{Estimate, Phase};
+pub use consensus::{Estimate, GREATEST_ROUND, Phase};
 pub use entry::{Entry, Kind};
 pub use follower::{Follower, follow_all};
 pub use key::Key;
@@ -52,7 +52,9 @@ pub use letters::{Letters, drop_rounds_before};
 pub use membership::Membership;
 pub use message::{Letter, Payload, StepInput, Tag};
 pub use noting::note_changes;
-pub use numbers::{DetectorNumbers, FreshnessNumbers, TimeoutNumbers, Watch};
+pub use numbers::{
+    DetectorNumbers, FreshnessNumbers, GREATEST_COUNT, LAST_TICK, MOST_TICKS, TimeoutNumbers, Watch,
+};
 pub use parts::{Algorithm, Detector};
 pub use pid::{MOST_PROCESSES, Pid};
 pub use print_choice::PrintChoice;

@@ -1,8 +1,17 @@
-//! The numbers of a detector.
+//! The numbers of a detector, and the bounds of ticks and of counts.
 ghost use Rattle.std.specs.Prelude.{◌≡◌, ◌≢◌, ◌≤◌, true};
 ghost use Rattle.process_api.specs.Place.{is_watched};
 
 use crate::pid::Pid;
+
+/// The most ticks that a delay, a period, a time-out or the lookahead may have.
+pub const MOST_TICKS: u32 = 1_000_000;
+
+/// The last tick that a horizon, a crash or an outage may have.
+pub const LAST_TICK: u32 = 10_000_000;
+
+/// The greatest number of a heartbeat or of a freshness point: counting stays there.
+pub const GREATEST_COUNT: u64 = 1_000_000_000_000;
 
 /// Whom a detector watches.
 #[derive(Clone, Copy, Debug, PartialEq, Eq)]
@@ -40,7 +49,7 @@ pub enum DetectorNumbers {
     Freshness(FreshnessNumbers),
 }
 
-/// The numbers of the time-out detector, each 1 to 1,000,000 in an accepted scenario.
+/// The numbers of the time-out detector, each 1 to [`MOST_TICKS`] in an accepted scenario.
 #[derive(Clone, Copy, Debug, PartialEq, Eq)]
 pub struct TimeoutNumbers {
     /// Ticks between two rounds of Alive letters.
@@ -55,7 +64,7 @@ pub struct TimeoutNumbers {
     pub watch: Watch,
 }
 
-/// The numbers of the detector with freshness points, each 1 to 1,000,000 in an accepted scenario.
+/// The numbers of the detector with freshness points, each 1 to [`MOST_TICKS`] in an accepted scenario.
 #[derive(Clone, Copy, Debug, PartialEq, Eq)]
 pub struct FreshnessNumbers {
     /// Ticks between two heartbeats, and between two freshness points.

@@ -1,7 +1,7 @@
 //! The tick by which the crash of a process is detected.
 ghost use Rattle.std.specs.Prelude.{◌≡◌, ◌≤◌, ◌<◌, ◌+◌, ◌^◌};
 ghost use Rattle.detector_bounds.specs.Detected.{detected_by, grown, last_letter};
-ghost use Rattle.scenario_record.specs.Ranges.{AreInRange};
+ghost use Rattle.{process_api.specs.Place.{most_ticks}, scenario_record.specs.Ranges.{AreInRange}};
 
 use crate::periods::{last_before, multiple_from};
 use process_api::{DetectorNumbers, TimeoutNumbers};
@@ -21,8 +21,8 @@ fn last_letter(its: TimeoutNumbers, link: Link, crash: u32) -> u64
 
 /// What a time-out has grown to by so many trusts, at most.
 fn grown(its: TimeoutNumbers, trusts: u32) -> u64
-    requires timeout { its.timeout ≤ 1000000 }
-    requires grow { its.grow ≤ 1000000 }
+    requires timeout { its.timeout ≤ most_ticks }
+    requires grow { its.grow ≤ most_ticks }
     ensures value { result ≡ grown its trusts }
     ensures small { result < 2 ^ 62 }
 {

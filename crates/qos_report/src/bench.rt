@@ -3,7 +3,7 @@ ghost use Rattle.std.specs.Prelude.{◌≡◌, ◌^◌, ◌-◌, ◌<◌, map, I
 ghost use Rattle.{process_api.specs.Place.{numbers_to}, runs.specs.Finishing.{BreaksOff, Finishes}};
 ghost use Rattle.{scenario_record.specs.Record.{opening_mind}, windows.specs.Plan.{IsPlanFor}};
 
-use crate::streaming::{stream_windows, write_header};
+use crate::streaming::{Begun, ByWindows, stream_windows, write_header};
 use process_api::{PrintChoice, Process, RunError};
 use reporting::{
     Outlet, Summary, close_running, open_running, prints_report, prints_trace, write_if_any,
@@ -51,13 +51,13 @@ pub fn bench_windows<M: Process, G: Gate, O: Outlet, R: Threads + Wait + Sync>(
     ensures done { IfOk result (Finishes scenario.now print O.told O.failed outlet.old outlet.new) }
     ensures refused { IfErr result (BreaksOff scenario.now print O.told O.failed outlet.old outlet.new) }
 {
-    let _ticks = scenario.horizon();
+    scenario.recall_ranges();
     let is_traced = prints_trace(print);
     let running = open_running(alloc, scenario, prints_report(print))?;
     write_header(is_traced, outlet)?;
-    let run = stream_windows(
-        rt, alloc, scenario, machines, plan, gate, is_traced, running, outlet,
-    )?;
+    let by_windows = ByWindows { plan, gate };
+    let begun = Begun { running, is_traced };
+    let run = stream_windows(rt, alloc, scenario, machines, by_windows, begun, outlet)?;
     let (summary, report) = close_running(alloc, scenario, run)?;
     write_if_any(report, outlet)?;
     Ok(summary)

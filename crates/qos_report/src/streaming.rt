@@ -123,8 +123,22 @@ fn run_into<M: Process, G: Gate, O: Outlet, R: Threads + Wait + Sync>(
     ensures count { O.failed sink.new.outlet.now ≡ O.failed sink.old.outlet.now + writes_of result }
     ensures limit { IsErrOf result RunError.Limit → IsLonger scenario.now }
 {
-    let _ticks = scenario.horizon();
+    scenario.recall_ranges();
     run_windows_into(rt, alloc, scenario, machines, plan, gate, sink)
+}
+
+/// By which windows a run goes, and whom its workers tell.
+#[derive(Drop)]
+pub(crate) struct ByWindows<'a, G> {
+    pub plan: &'a Plan,
+    pub gate: &'a G,
+}
+
+/// What is measured of a run as it begins, and whether its trace is asked for.
+#[derive(Drop)]
+pub(crate) struct Begun {
+    pub running: Running,
+    pub is_traced: bool,
 }
 
 /// Runs machines by windows, and answers what is measured of the run. Where the trace is asked for, the rows of a
@@ -140,22 +154,22 @@ pub(crate) fn stream_windows<M: Process, G: Gate, O: Outlet, R: Threads + Wait +
     alloc: Global,
     scenario: &Scenario,
     machines: Vec<M>,
-    plan: &Plan,
-    gate: &G,
-    is_traced: bool,
-    running: Running,
+    by_windows: ByWindows<'_, G>,
+    begun: Begun,
     outlet: &mut O,
 ) -> Result<Running, RunError>
     requires machines { map M.mind machines.items
         ≡ map (opening_mind scenario.now) (numbers_to scenario.now.processes) }
-    requires plan { IsPlanFor scenario.now plan.now }
+    requires plan { IsPlanFor scenario.now by_windows.plan.now }
     requires failures { O.failed outlet.old < 2 ^ 64 - 1 }
-    ensures took { IfOk result (λ run. StreamedTrace scenario.now O.told O.failed is_traced running outlet.old
-        run outlet.new) }
-    ensures front { OnErr result (StreamedFront scenario.now O.told O.failed is_traced outlet.old outlet.new) }
+    ensures took { IfOk result (λ run. StreamedTrace scenario.now O.told O.failed begun.is_traced begun.running
+        outlet.old run outlet.new) }
+    ensures front { OnErr result (StreamedFront scenario.now O.told O.failed begun.is_traced outlet.old outlet.new) }
     ensures count { O.failed outlet.new ≡ O.failed outlet.old + writes_of result }
     ensures limit { IsErrOf result RunError.Limit → IsLonger scenario.now }
 {
+    let ByWindows { plan, gate } = by_windows;
+    let Begun { running, is_traced } = begun;
     let mut sink = Streaming {
         running,
         is_traced,

@@ -14,7 +14,7 @@ use std::alloc::AllocError;
 pub struct Reduced<D: Detector> {
     detector: D,
     gathering: Gathering,
-    failed: bool,
+    has_failed: bool,
     ghost base: { layer_of (D.lower detector) ≡ 1 },
     ghost place: { (D.lower detector).place ≡ place_of gathering.opening },
 }
@@ -38,7 +38,7 @@ impl<D: Detector> Reduced<D> {
                     period,
                     output: ProcSet::new(),
                 },
-                failed: false,
+                has_failed: false,
             },
             None => unreachable!(),
         }
@@ -50,7 +50,7 @@ impl<D: Detector> Detector for Reduced<D> {
 
     ghost lower = { λ s. record (D.lower s.detector) { reduction = Some (state_of s.gathering) } };
 
-    ghost has_failed = { λ s. s.failed };
+    ghost has_failed = { λ s. s.has_failed };
 
     fn take(
         &mut self,
@@ -58,15 +58,15 @@ impl<D: Detector> Detector for Reduced<D> {
         input: &StepInput,
         out: &mut Vec<Action>,
     ) -> Result<(), AllocError> {
-        if self.failed {
+        if self.has_failed {
             return Err(AllocError);
         }
         // so it stays where a part answers `Err`
-        self.failed = true;
+        self.has_failed = true;
         self.detector.take(now, input, out)?;
         let suspects = self.detector.suspects();
         self.gathering.step(input, &suspects, out)?;
-        self.failed = false;
+        self.has_failed = false;
         Ok(())
     }
 

@@ -2,9 +2,8 @@
 use Rattle.std.specs.{Prelude.{◌≡◌, ℕ, List, [], ◌∷◌, ◌++◌, false, codes}, Global.{Vec}, List.{join_with_byte}}
 use Rattle.csv.specs.{Writing.{default_writer, with_style, writer_setup, fields_written, has_written, writer_under, writer_pending}, declared.writer.{Writer.{Writer}, WriterBuilder.{WriterBuilder}}}
 use Rattle.csv.specs.declared.writer.QuoteStyle.TheVariants as style
-use Rattle.process_api.specs.declared.entry.Kind.{Kind}
+use Rattle.{process_api.specs.declared.entry.Kind.{Kind}, reporting.specs.declared.rows.Rows.{Rows}}
 use Rattle.process_api.specs.declared.entry.Kind.TheVariants as kind
-use Rattle.reporting.specs.declared.rows.Rows.{Rows}
 
 abbrev pub line_feed : ℕ
 line_feed = 10

@@ -38,7 +38,7 @@ pub fn bench_list<M: Process, O: Outlet>(
     ensures refused { IfErr result (Refuses scenario.now print O.told O.failed outlet.old outlet.new) }
     ensures threads { result ≢ Err RunError.Spawn }
 {
-    let _ticks = scenario.horizon();
+    scenario.recall_ranges();
     let mut recording = open_recording(alloc, scenario, print)?;
     run_list_into(alloc, scenario, machines, &mut recording, &mut Nobody)?;
     write_recorded(alloc, scenario, recording, outlet)

@@ -36,7 +36,7 @@ pub fn measure_list<M: Process>(
     ensures errors { IfErr result IsRefusal }
     ensures limit { IsErrOf result RunError.Limit → IsTooLong (setting_of scenario.now) scenario.now.limit }
 {
-    let _ticks = scenario.horizon();
+    scenario.recall_ranges();
     let measuring = open_measuring(alloc, scenario, true)?;
     let trusts = Trusts::open(alloc, scenario)?;
     let mut followers = (measuring, trusts);

@@ -38,7 +38,7 @@ pub fn measures(
         → All (IsBounded scenario.now trace.now) rows.items) }
     ensures shares { IsTrace (setting_of scenario.now) trace.now → SharesSuspicions trace.now }
 {
-    let _ticks = scenario.horizon();
+    scenario.recall_ranges();
     let mut measuring = open_measuring(alloc, scenario, false)?;
     follow_all(&mut measuring, trace.entries())?;
     let (found, _durations) = close_measuring(alloc, measuring)?;

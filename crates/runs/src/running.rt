@@ -42,7 +42,7 @@ pub fn letters<M: Process>(
     ensures errors { IfErr result IsRefusal }
     ensures limit { IsErrOf result RunError.Limit → IsTooLong (setting_of scenario.now) scenario.now.limit }
 {
-    let _horizon = scenario.horizon();
+    scenario.recall_ranges();
     let mut book = LetterBook::new(alloc, scenario);
     run_list_into(alloc, scenario, machines, &mut (), &mut book)?;
     Ok(book.letters)

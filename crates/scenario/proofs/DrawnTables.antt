@@ -1,12 +1,12 @@
 -- A file's table with drawn outages.
 use Rattle.scenario.proofs.Words.{◌≡◌, ℕ, ◌+◌, ◌<◌, length, take, get_or, nat_le, ◌==◌, List, [], ◌∷◌, ◌++◌, map, Bool, true, false, not, ◌&&◌, ◌||◌, Option, Some, None, is_some, refl, ap, sym, ◌∙◌, Ordering, Less, Equal, Greater, or-true, list_any, nat_cmp, match_ordering, is_eq, slice_cmp, take_more, map-append, length-map, get_or-map, list_any-append, list_any_at, Data, table, Members, no_members, member, get_member, items_of, Field, number_or, all_items, is_table, the_tables, is_listed, keys_of, has_unlisted, is_lacking, has_lacking, is_mistyped, has_mistyped, outage_fields, number_at, pair_of, outage_of, is_outside, is_bad_outage, put, outage_table, LinkOutage}
-use Rattle.std.proofs.lemmas.{Map.Lookups.{exact_bytes}, Cmp.{nat_list_cmp_total, tied_itself}}
+use Rattle.{std.proofs.lemmas.{Map.Lookups.{exact_bytes}, Cmp.{nat_list_cmp_total, tied_itself}}, process_api.specs.Place.{last_tick}}
 
 -- ---- one drawn outage
 
 pub bad_drawn : (n : ℕ) (o : LinkOutage) → is_bad_outage n (outage_table o)
     ≡ (not (nat_le 1 o.from && nat_le o.from n) || (not (nat_le 1 o.to && nat_le o.to n) || ((o.from == o.to)
-    || (not (nat_le 0 o.begin && nat_le o.begin 10000000) || (not (nat_le 0 o.until && nat_le o.until 10000000) || nat_le o.until o.begin)))))
+    || (not (nat_le 0 o.begin && nat_le o.begin last_tick) || (not (nat_le 0 o.until && nat_le o.until last_tick) || nat_le o.until o.begin)))))
 unfolding is_bad_outage is_outside number_at number_or
 bad_drawn n o = refl
 

@@ -4,7 +4,7 @@ use Rattle.scenario.proofs.{Firsts.{are_none, untrue, no_pair}, Within.{neither,
 use Rattle.process_api.specs.declared.numbers.DetectorNumbers.TheVariants as numbers
 use Rattle.scenario_record.specs.{Ranges.{AreInRange, AreTimeoutInRange, AreFreshnessInRange, is_idle}, declared.algorithm.AlgorithmKind.{AlgorithmKind}}
 use Rattle.scenario_record.specs.declared.algorithm.AlgorithmKind.TheVariants as kind
-use Rattle.process_api.specs.Place.{most_processes}
+use Rattle.process_api.specs.Place.{last_tick, most_processes, most_ticks}
 
 -- the same fact in two forms
 for_some : {T : Type 0} (o : Option T) (P : T → Type 0) → IfSome o P → ForSome o P
@@ -46,9 +46,9 @@ detector_in_range d e =
       | false ↦ timeout_in_range d
     ] (neither _ _ e).1
 
-share_in_range : (o : Option Members) → option_map_or is_bad_share o false ≡ false → IfSome (option_map share_of o) (λ period. (1 ≤ period) × (period ≤ 1000000))
+share_in_range : (o : Option Members) → option_map_or is_bad_share o false ≡ false → IfSome (option_map share_of o) (λ period. (1 ≤ period) × (period ≤ most_ticks))
 share_in_range None e = tt
-share_in_range (Some s) e = within 1 1000000 (codes "period") 0 s e
+share_in_range (Some s) e = within 1 most_ticks (codes "period") 0 s e
 
 -- ---- the proposals
 
@@ -75,9 +75,9 @@ good_pair : (n : ℕ) (l : Members) → is_bad_pair n l ≡ false → is_bad_lin
 unfolding is_bad_pair
 good_pair n l e = (neither _ _ e).0
 
-good_crash : (n : ℕ) (c : Members) → is_bad_crash n c ≡ false → crash_tick c ≤ 10000000
+good_crash : (n : ℕ) (c : Members) → is_bad_crash n c ≡ false → crash_tick c ≤ last_tick
 unfolding is_bad_crash
-good_crash n c e = (within 0 10000000 (codes "at") 0 c (neither _ _ e).1).1
+good_crash n c e = (within 0 last_tick (codes "at") 0 c (neither _ _ e).1).1
 
 -- what a search finds passes where all do
 found_good : (p bad : Members → Bool) (P : Members → Type 0) → ((t : Members) → bad t ≡ false → P t) → (ts : List Members) → list_any bad ts ≡ false → IfSome (find p ts) P
@@ -96,21 +96,21 @@ pair_in_range n common tables pair good clean =
     chosen_link common (find (λ l. same_pair (pair_of l) pair) tables) good
     (found_good (λ l. same_pair (pair_of l) pair) (is_bad_pair n) (λ l. IsLink (delays_of l)) (λ l e. link_in_range l (good_pair n l e)) tables (neither _ _ clean).0)
 
-crash_in_range : (n : ℕ) (tables : List Members) (p : ℕ) → are_bad_crashes n tables ≡ false → IfSome (crash_among tables p) (λ at. at ≤ 10000000)
+crash_in_range : (n : ℕ) (tables : List Members) (p : ℕ) → are_bad_crashes n tables ≡ false → IfSome (crash_among tables p) (λ at. at ≤ last_tick)
 unfolding crash_among
 crash_in_range n tables p clean =
-    its (find (λ c. crash_process c == p) tables) (found_good (λ c. crash_process c == p) (is_bad_crash n) (λ c. crash_tick c ≤ 10000000) (good_crash n) tables (neither _ _ clean).0)
+    its (find (λ c. crash_process c == p) tables) (found_good (λ c. crash_process c == p) (is_bad_crash n) (λ c. crash_tick c ≤ last_tick) (good_crash n) tables (neither _ _ clean).0)
   where
-    its : (o : Option Members) → IfSome o (λ c. crash_tick c ≤ 10000000) → IfSome (option_map crash_tick o) (λ at. at ≤ 10000000)
+    its : (o : Option Members) → IfSome o (λ c. crash_tick c ≤ last_tick) → IfSome (option_map crash_tick o) (λ at. at ≤ last_tick)
     its None found = tt
     its (Some c) found = found
 
-each_in_range : (f : ℕ → Option ℕ) → ((p : ℕ) → IfSome (f p) (λ at. at ≤ 10000000)) → (xs : List ℕ) (i : ℕ) → IfSome (get_or (map f xs) i None) (λ at. at ≤ 10000000)
+each_in_range : (f : ℕ → Option ℕ) → ((p : ℕ) → IfSome (f p) (λ at. at ≤ last_tick)) → (xs : List ℕ) (i : ℕ) → IfSome (get_or (map f xs) i None) (λ at. at ≤ last_tick)
 each_in_range f good [] i = tt
 each_in_range f good (x ∷ xs) zero = good x
 each_in_range f good (x ∷ xs) (suc i) = each_in_range f good xs i
 
-crashes_in_range : (n : ℕ) (tables : List Members) (i : ℕ) → are_bad_crashes n tables ≡ false → IfSome (get_or (crashes_among tables n) i None) (λ at. at ≤ 10000000)
+crashes_in_range : (n : ℕ) (tables : List Members) (i : ℕ) → are_bad_crashes n tables ≡ false → IfSome (get_or (crashes_among tables n) i None) (λ at. at ≤ last_tick)
 unfolding crashes_among
 crashes_in_range n tables i clean = each_in_range (crash_among tables) (λ p. crash_in_range n tables p clean) (range_with_len 1 n) i
 
@@ -210,8 +210,8 @@ in_range t none seed =
     let parts = numbers.1.1.1.1.1.1 in
     let processes = within 1 (most_in (is_second t)) (codes "processes") 0 t (untrue _ _ numbers.1.0) in
     let few : most_in (is_second t) ≤ most_processes = most_few (is_second t) in
-    let horizon = within 1 10000000 (codes "horizon") 0 t (untrue _ _ numbers.1.1.0) in
-    let lookahead = within 1 1000000 (codes "lookahead") 0 t (untrue _ _ numbers.1.1.1.0) in
+    let horizon = within 1 last_tick (codes "horizon") 0 t (untrue _ _ numbers.1.1.0) in
+    let lookahead = within 1 most_ticks (codes "lookahead") 0 t (untrue _ _ numbers.1.1.1.0) in
     let limit = within 1 100000000 (codes "limit") 1000000 t (untrue _ _ numbers.1.1.1.1.0) in
     let algorithm : algorithm_in t ≡ Some (unwrap_or (algorithm_in t) kind.Idle) = algorithm_is t (untrue _ _ parts.0) in
     let proposals : AreProposals n t (unwrap_or (algorithm_in t) kind.Idle) =
@@ -228,10 +228,10 @@ in_range t none seed =
       limit_high = limit.1;
       seed_high = seed;
       numbers = detector_in_range (table_or_empty (codes "detector") t) (untrue _ _ parts.1.1.0);
-      share = for_some (option_map share_of (table_at (codes "share") t)) (λ period. (1 ≤ period) × (period ≤ 1000000)) (share_in_range (table_at (codes "share") t) (untrue _ _ parts.1.1.1.0));
+      share = for_some (option_map share_of (table_at (codes "share") t)) (λ period. (1 ≤ period) × (period ≤ most_ticks)) (share_in_range (table_at (codes "share") t) (untrue _ _ parts.1.1.1.0));
       proposals = λ p. for_some (proposal (record_of t) p) (λ value. value < 2 ^ 32) (proposals.high (p - 1));
       proposed = λ p low high. proposals.each (p - 1) (omega arith);
-      crashes = λ p. for_some (crash (record_of t) p) (λ at. at ≤ 10000000) (crashes_in_range (processes_of t) (tables_at (codes "crash") t) (p - 1) (untrue _ _ parts.1.1.1.1.1.1.0));
+      crashes = λ p. for_some (crash (record_of t) p) (λ at. at ≤ last_tick) (crashes_in_range (processes_of t) (tables_at (codes "crash") t) (p - 1) (untrue _ _ parts.1.1.1.1.1.1.0));
       proposed_above = λ p above. proposals.above (p - 1) (omega arith);
       crashed_above = λ p above. no_crash_above (processes_of t) (tables_at (codes "crash") t) p above;
       linked = links_length (delays_of (table_or_empty (codes "link") t)) (tables_at (codes "links") t) (processes_of t);

@@ -1,6 +1,6 @@
 -- What a file's tables may have at their keys, by refusal: the ranges of numbers, and the names that texts may be.
 use Rattle.std.specs.Prelude.{ℕ, List, [], ◌∷◌, ◌++◌, Bool, true, false, Option, Some, None, if◌then◌else◌, codes}
-use Rattle.{toml.specs.Data.{Members}, scenario.specs.{Table.{same_text}, Text.{is_second, processes_of}, Rules.{most_in}, declared.{error.ScenarioError.{ScenarioError}, place.{Section.{Section}, Place.{Place}}}}}
+use Rattle.{toml.specs.Data.{Members}, process_api.specs.Place.{last_tick, most_ticks}, scenario.specs.{Table.{same_text}, Text.{is_second, processes_of}, Rules.{most_in}, declared.{error.ScenarioError.{ScenarioError}, place.{Section.{Section}, Place.{Place}}}}}
 use Rattle.scenario.specs.declared.error.ScenarioError.TheVariants as error
 use Rattle.scenario.specs.declared.place.Section.TheVariants as section
 use Rattle.scenario.specs.declared.place.TableArray.TheVariants as array
@@ -16,7 +16,7 @@ abbrev pub range : List ℕ → ℕ → ℕ → Range
 range key low high = record { key = key; low = low; high = high }
 
 abbrev pub ticks : List ℕ → Range
-ticks key = range key 1 1000000
+ticks key = range key 1 most_ticks
 
 -- the ends of a key's range
 abbrev pub ends_of : List Range → List ℕ → Option (ℕ × ℕ)
@@ -76,11 +76,11 @@ abbrev pub pair_subject : ℕ → Subject
 pair_subject n = record (numbers (delay_ranges ++ pair_ranges n)) { delays = true; pair = true }
 
 abbrev pub crash_subject : ℕ → Subject
-crash_subject n = numbers (range (codes "process") 1 n ∷ range (codes "at") 0 10000000 ∷ [])
+crash_subject n = numbers (range (codes "process") 1 n ∷ range (codes "at") 0 last_tick ∷ [])
 
 abbrev pub outage_subject : ℕ → Subject
 outage_subject n =
-    record (numbers (pair_ranges n ++ range (codes "begin") 0 10000000 ∷ range (codes "until") 0 10000000 ∷ [])) {
+    record (numbers (pair_ranges n ++ range (codes "begin") 0 last_tick ∷ range (codes "until") 0 last_tick ∷ [])) {
       pair = true;
       ends = true;
     }
@@ -88,7 +88,7 @@ outage_subject n =
 abbrev pub subject_of : ScenarioError → Place → (file : Members) → Subject
 subject_of error.Version place.Top file = numbers (range (codes "version") 1 2 ∷ [])
 subject_of error.Processes place.Top file = numbers (range (codes "processes") 1 (most_in (is_second file)) ∷ [])
-subject_of error.Horizon place.Top file = numbers (range (codes "horizon") 1 10000000 ∷ [])
+subject_of error.Horizon place.Top file = numbers (range (codes "horizon") 1 last_tick ∷ [])
 subject_of error.Lookahead place.Top file = numbers (ticks (codes "lookahead") ∷ [])
 subject_of error.Limit place.Top file = numbers (range (codes "limit") 1 100000000 ∷ [])
 subject_of error.Seed place.Top file = numbers (range (codes "seed") 0 9223372036854775807 ∷ [])

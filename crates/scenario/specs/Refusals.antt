@@ -1,6 +1,6 @@
 -- Which refusal the bytes of a scenario's file get, or which record they stand for.
 use Rattle.std.specs.{Prelude.{◌≡◌, ℕ, List, [], ◌∷◌, ◌++◌, Bool, true, false, Option, Some, None, option_map, Result, Ok, Err, is_none, IsUtf8, codes}, Option.{option_map_or}}
-use Rattle.{toml.specs.{Data.{Members}, Parse.{parse_document}}, scenario_record.specs.Record.{Record}, scenario.specs.{Table.{has_unlisted, has_lacking, has_mistyped}, Keys.{some_table}, Text.{is_second, algorithm_in, record_of}}}
+use Rattle.{toml.specs.{Data.{Members}, Parse.{parse_document}}, process_api.specs.Place.{last_tick, most_ticks}, scenario_record.specs.Record.{Record}, scenario.specs.{Table.{has_unlisted, has_lacking, has_mistyped}, Keys.{some_table}, Text.{is_second, algorithm_in, record_of}}}
 use Rattle.scenario.specs.{Rules.{is_outside, is_negative, most_in, proposals_refused, detector_refused, share_refused, links_refused, pair_below, crashes_refused, outages_refused}, declared.error.ScenarioError.{ScenarioError}}
 use Rattle.scenario.specs.declared.error.ScenarioError.TheVariants as error
 
@@ -29,8 +29,8 @@ module _ (t : Members) where
   abbrev pub number_refusals : List (Option ScenarioError)
   number_refusals = when (is_outside 1 2 (codes "version") 0 t) error.Version
       ∷ when (is_outside 1 (most_in (is_second t)) (codes "processes") 0 t) error.Processes
-      ∷ when (is_outside 1 10000000 (codes "horizon") 0 t) error.Horizon
-      ∷ when (is_outside 1 1000000 (codes "lookahead") 0 t) error.Lookahead
+      ∷ when (is_outside 1 last_tick (codes "horizon") 0 t) error.Horizon
+      ∷ when (is_outside 1 most_ticks (codes "lookahead") 0 t) error.Lookahead
       ∷ when (is_outside 1 100000000 (codes "limit") 1000000 t) error.Limit
       ∷ when (is_negative (codes "seed") 0 t) error.Seed ∷ []
 

@@ -1,10 +1,9 @@
 -- The rules by which a scenario's table is refused, each by itself.
 use Rattle.std.specs.{Prelude.{ℕ, ◌==◌, nat_le, nat_lt, ℤ, pos, List, [], ◌∷◌, length, map, filter, find, Bool, true, false, not, ◌&&◌, ◌||◌, if◌then◌else◌, Option, Some, is_none, codes}, List.{list_any, range_with_len, flat_map}}
-use Rattle.{std.specs.Option.{option_map_or}, toml.specs.Data.{Members}, scenario_record.specs.{Record.{Record, link}, declared.{algorithm.AlgorithmKind.{AlgorithmKind}, link.Link.{Link}}}}
+use Rattle.{std.specs.Option.{option_map_or}, toml.specs.Data.{Members}, process_api.specs.Place.{last_tick, most_processes, most_ticks}, scenario_record.specs.{Record.{Record, link}, declared.{algorithm.AlgorithmKind.{AlgorithmKind}, link.Link.{Link}}}}
 use Rattle.scenario.specs.Table.{number_or, same_text, integers_at, has_key, table_at, table_or_empty, tables_at}
 use Rattle.scenario.specs.Text.{natural_of, kind_in, is_fresh, algorithm_in, watch_in, delays_of, pair_of, same_pair, outage_of, crash_process, processes_of}
 use Rattle.scenario_record.specs.declared.algorithm.AlgorithmKind.TheVariants as kind
-use Rattle.process_api.specs.Place.{most_processes}
 
 -- the number lies between the ends
 abbrev pub is_within : ℕ → ℕ → ℤ → Bool
@@ -49,13 +48,13 @@ proposals_refused t = are_bad_proposals (algorithm_in t) (processes_of t)
     (has_key (codes "proposals") t) (integers_at (codes "proposals") t)
 
 unfoldable pub is_bad_timeout : Members → Bool
-is_bad_timeout d = is_outside 1 1000000 (codes "period") 0 d || (is_outside 1 1000000 (codes "check") 0 d
-    || (is_outside 1 1000000 (codes "timeout") 0 d || (is_outside 1 1000000 (codes "grow") 1 d
+is_bad_timeout d = is_outside 1 most_ticks (codes "period") 0 d || (is_outside 1 most_ticks (codes "check") 0 d
+    || (is_outside 1 most_ticks (codes "timeout") 0 d || (is_outside 1 most_ticks (codes "grow") 1 d
     || is_none (watch_in d))))
 
 unfoldable pub is_bad_freshness : Members → Bool
 is_bad_freshness d =
-    is_outside 1 1000000 (codes "eta") 0 d || (is_outside 1 1000000 (codes "delta") 0 d || is_none (watch_in d))
+    is_outside 1 most_ticks (codes "eta") 0 d || (is_outside 1 most_ticks (codes "delta") 0 d || is_none (watch_in d))
 
 -- the table names another kind than the two
 unfoldable pub is_other_kind : Members → Bool
@@ -69,14 +68,14 @@ abbrev pub detector_refused : Members → Bool
 detector_refused t = is_bad_detector (table_or_empty (codes "detector") t)
 
 abbrev pub is_bad_share : Members → Bool
-is_bad_share s = is_outside 1 1000000 (codes "period") 0 s
+is_bad_share s = is_outside 1 most_ticks (codes "period") 0 s
 
 abbrev pub share_refused : Members → Bool
 share_refused t = option_map_or is_bad_share (table_at (codes "share") t) false
 
 -- min or max out of range, min above max, or loss out of range
 unfoldable pub is_bad_link : Members → Bool
-is_bad_link l = is_outside 1 1000000 (codes "min") 0 l || (is_outside 1 1000000 (codes "max") 0 l
+is_bad_link l = is_outside 1 most_ticks (codes "min") 0 l || (is_outside 1 most_ticks (codes "max") 0 l
     || (nat_lt (delays_of l).max (delays_of l).min || is_outside 0 1000 (codes "loss") 0 l))
 
 -- of n processes: the delays are refused, from or to isn't a process, or both are one
@@ -110,7 +109,7 @@ pair_below s = find (is_below (λ pair. link s pair.0 pair.1) s.lookahead) (pair
 
 -- of n processes: the process isn't one of them, or the tick is out of range
 unfoldable pub is_bad_crash : ℕ → Members → Bool
-is_bad_crash n c = is_outside 1 n (codes "process") 0 c || is_outside 0 10000000 (codes "at") 0 c
+is_bad_crash n c = is_outside 1 n (codes "process") 0 c || is_outside 0 last_tick (codes "at") 0 c
 
 -- some table is refused by itself, or two are of one process
 abbrev pub are_bad_crashes : ℕ → List Members → Bool
@@ -123,7 +122,7 @@ crashes_refused t = are_bad_crashes (processes_of t) (tables_at (codes "crash") 
 unfoldable pub is_bad_outage : ℕ → Members → Bool
 is_bad_outage n o =
     is_outside 1 n (codes "from") 0 o || (is_outside 1 n (codes "to") 0 o || ((pair_of o).0 == (pair_of o).1
-    || (is_outside 0 10000000 (codes "begin") 0 o || (is_outside 0 10000000 (codes "until") 0 o
+    || (is_outside 0 last_tick (codes "begin") 0 o || (is_outside 0 last_tick (codes "until") 0 o
     || nat_le (outage_of o).until (outage_of o).begin))))
 
 abbrev pub are_bad_outages : ℕ → List Members → Bool

@@ -4,7 +4,8 @@ ghost use Rattle.toml.specs.View.{table_view};
 ghost use Rattle.scenario.specs.{Table.{tables_at}, Text.{crash_process, crash_tick, record_of}, Rules.{is_bad_crash, crashes_refused}, Refusals.{Judges, when}, Inside.Parts.{tables_in, IsTop}, Parts.{IsProcess}};
 
 use crate::error::ScenarioError;
-use crate::numbers::{LAST_TICK, Top, ranged};
+use crate::numbers::{Top, ranged};
+use process_api::LAST_TICK;
 use std::alloc::Global;
 use toml::Table;
 

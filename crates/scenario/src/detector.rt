@@ -4,9 +4,9 @@ ghost use Rattle.toml.specs.View.{table_view};
 ghost use Rattle.scenario.specs.{Text.{detector_of, freshness_of, record_of, timeout_of}, Rules.{detector_refused, is_bad_detector, is_bad_freshness, is_bad_timeout, is_other_kind, share_refused}};
 
 use crate::names::watch_of;
-use crate::numbers::{MOST_TICKS, ranged};
+use crate::numbers::ranged;
 use crate::table::{inner_table, is_fresh, text};
-use process_api::{DetectorNumbers, FreshnessNumbers, TimeoutNumbers};
+use process_api::{DetectorNumbers, FreshnessNumbers, MOST_TICKS, TimeoutNumbers};
 use toml::Table;
 
 /// Whether a detector's table names another kind than the two.

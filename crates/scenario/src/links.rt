@@ -5,8 +5,9 @@ ghost use Rattle.scenario.specs.{Table.{table_or_empty, tables_at}, Text.{delays
 ghost use Rattle.scenario.specs.{Inside.Parts.{tables_in, AreProcesses, IsTop, pairs_refused}, Parts.{links_of}};
 
 use crate::error::ScenarioError;
-use crate::numbers::{MOST_TICKS, Top, ranged};
+use crate::numbers::{Top, ranged};
 use crate::table::inner_table;
+use process_api::MOST_TICKS;
 use scenario_record::Link;
 use std::alloc::{AllocError, Global};
 use toml::Table;

@@ -6,7 +6,7 @@ ghost use Rattle.scenario.specs.Inside.Parts.{AreNumbersOf};
 
 use crate::error::ScenarioError::{self, Horizon, Limit, Lookahead, Processes, Seed, Version};
 use crate::table::{is_second, number};
-use process_api::MOST_PROCESSES;
+use process_api::{LAST_TICK, MOST_PROCESSES, MOST_TICKS};
 use toml::Table;
 
 /// The number, where it isn't negative.
@@ -66,12 +66,6 @@ pub(crate) fn ranged(
     }
     Some(value as u32)
 }
-
-/// The most ticks that a delay, a period or a time-out may have.
-pub(crate) const MOST_TICKS: u32 = 1_000_000;
-
-/// The last tick that a horizon, a crash or an outage may have.
-pub(crate) const LAST_TICK: u32 = 10_000_000;
 
 /// How many processes a file of version 1 may have.
 const MOST_IN_FIRST: u32 = 64;

@@ -7,7 +7,8 @@ ghost use Rattle.scenario.specs.{Inside.{Parts.{tables_in, AreProcesses, IsTop},
 use crate::drawn::LinkOutage;
 use crate::error::ScenarioError;
 use crate::links::place_of;
-use crate::numbers::{LAST_TICK, Top, ranged};
+use crate::numbers::{Top, ranged};
+use process_api::LAST_TICK;
 use scenario_record::{LinkOutages, Outage};
 use std::alloc::{AllocError, Global};
 use toml::Table;

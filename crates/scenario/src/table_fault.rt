@@ -7,13 +7,14 @@ ghost use Rattle.scenario.specs.Inside.Private.{element_subject, section_error, 
 use crate::error::ScenarioError;
 use crate::fault::{Fault, MinAboveMax, NotBefore, OtherName, Outside};
 use crate::links::MOST_LOSS;
-use crate::numbers::{LAST_TICK, lies_within, most_of_version};
+use crate::numbers::{lies_within, most_of_version};
 use crate::place::{Place, Section, TableArray};
 use crate::table::{integer_at, text_at};
+use process_api::LAST_TICK;
 use toml::Table;
 
-/// The most ticks that a delay, a period or a time-out may have.
-const MOST_TICKS: u64 = 1_000_000;
+/// The most ticks that a delay, a period or a time-out may have, as the numbers of files are.
+const MOST_TICKS: u64 = process_api::MOST_TICKS as u64;
 
 /// The fault of the number at a key, if there is one and it lies outside these ends.
 #[tactic(auto, unfolding(crate::specs::Inside::Private::IsFoundBy))]

@@ -1,8 +1,7 @@
 -- The mind with which a process opens.
-use Rattle.std.specs.Prelude.{None, option_map, unwrap_or}
+use Rattle.{std.specs.Prelude.{None, option_map, unwrap_or}, scenario_record.specs.declared.opening.Opening.{Opening}}
 use Rattle.process_api.specs.{Place.{Place}, Detector.{opening_detector}, Reduction.{opening_reduction}, ConsensusS.{opening_exchange}, Coordinator.{opening_coordinator}, Mind.{Lower, AlgorithmState, Idle, Exchanging, Coordinating, Mind}}
 use Rattle.scenario_record.specs.declared.algorithm.AlgorithmKind.TheVariants as kind
-use Rattle.scenario_record.specs.declared.opening.Opening.{Opening}
 
 abbrev pub place_of : Opening → Place
 place_of o = record { own = o.own; processes = o.processes; horizon = o.horizon }

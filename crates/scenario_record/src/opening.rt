@@ -1,6 +1,6 @@
 //! Openings: the settings with which processes open.
 ghost use Rattle.std.specs.{Prelude.{◌≡◌, ◌≤◌, not, is_some}, Option.{ForSome}};
-ghost use Rattle.process_api.specs.Place.{most_processes};
+ghost use Rattle.process_api.specs.Place.{last_tick, most_processes, most_ticks};
 ghost use Rattle.scenario_record.specs.Ranges.{AreInRange, AreInRange-prop, is_idle};
 
 use crate::algorithm::AlgorithmKind;
@@ -25,8 +25,8 @@ pub struct Opening {
     pub proposal: Option<u32>,
     ghost one_of_them: { own ≤ processes },
     ghost few: { processes ≤ most_processes },
-    ghost lasts: { (1 ≤ horizon) × (horizon ≤ 10000000) },
+    ghost lasts: { (1 ≤ horizon) × (horizon ≤ last_tick) },
     ghost numbers: { AreInRange detector } by { AreInRange-prop detector },
-    ghost shares: { ForSome share (λ period. (1 ≤ period) × (period ≤ 1000000)) },
+    ghost shares: { ForSome share (λ period. (1 ≤ period) × (period ≤ most_ticks)) },
     ghost proposes: { is_some proposal ≡ not (is_idle algorithm) },
 }

@@ -86,6 +86,15 @@ impl Scenario {
         Scenario { fields }
     }
 
+    /// Does nothing when it runs: a proof that needs the ranges of the scenario's numbers has them from this call's
+    /// contract.
+    pub fn recall_ranges(&self)
+        ensures { IsInRange self.now }
+    {
+        // What a scenario promises of its fields is known once one is read.
+        let _horizon = self.fields.horizon;
+    }
+
     /// How many processes there are, 1 to 256.
     pub fn processes(&self) -> u16
         ensures value { result ≡ self.now.processes }

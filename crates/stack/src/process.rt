@@ -11,7 +11,7 @@ pub struct Stack<D: Detector, A: Algorithm> {
     pid: Pid,
     detector: D,
     algorithm: A,
-    failed: bool,
+    has_failed: bool,
     ghost own: { pid ≡ (D.lower detector).place.own },
     ghost together: { IsTrue (stands_at (D.lower detector).place (A.state algorithm)) },
 }
@@ -30,7 +30,7 @@ impl<D: Detector, A: Algorithm> Stack<D, A> {
             pid,
             detector,
             algorithm,
-            failed: false,
+            has_failed: false,
         }
     }
 }
@@ -38,7 +38,7 @@ impl<D: Detector, A: Algorithm> Stack<D, A> {
 impl<D: Detector, A: Algorithm> Process for Stack<D, A> {
     ghost mind = { λ s. record { lower = D.lower s.detector; algorithm = A.state s.algorithm } };
 
-    ghost has_failed = { λ s. s.failed };
+    ghost has_failed = { λ s. s.has_failed };
 
     fn pid(&self) -> Pid {
         self.pid
@@ -50,19 +50,19 @@ impl<D: Detector, A: Algorithm> Process for Stack<D, A> {
         input: &StepInput,
         out: &mut Vec<Action>,
     ) -> Result<(), AllocError> {
-        if self.failed {
+        if self.has_failed {
             return Err(AllocError);
         }
         // so it stays where a part answers `Err`
-        self.failed = true;
+        self.has_failed = true;
         self.detector.take(now, input, out)?;
         let suspects = self.detector.suspects();
         self.algorithm.take(now, input, &suspects, out)?;
-        self.failed = false;
+        self.has_failed = false;
         Ok(())
     }
 
     fn failed(&self) -> bool {
-        self.failed
+        self.has_failed
     }
 }

@@ -2,7 +2,7 @@
 use Rattle.std.specs.{Prelude.{◌≡◌, ◌<◌, ◌≤◌, ◌==◌, ℕ, pos, List, [], ◌∷◌, ◌++◌, map, filter, length, codes, Bool, true, false, not, ◌&&◌, ◌||◌, nat_le, Option, None, MatchOption, if◌then◌else◌, Some, Result, Ok, Err}, List.{list_any}}
 use Rattle.std.specs.Option.{option_map_or}
 use Rattle.toml.specs.{Data.{Data, integer, array, table, Items, no_items, item, Members, no_members, get_member, as_array, as_table, members_depth, members_have_valid_dates}, View.{items_of}, Parse.{parse_document}}
-use Rattle.{process_api.specs.Place.{most_processes}, scenario_record.specs.Record.{Record}}
+use Rattle.{process_api.specs.Place.{last_tick, most_processes}, scenario_record.specs.Record.{Record}}
 use Rattle.scenario.specs.{Drawn.{put, with_outages}, Table.{is_of}, Text.{number_at, is_second, pair_of, same_pair, processes_of, record_of}, Refusals.{Accepts, refusal_of, is_memory as is_scenario_memory}}
 use Rattle.scenario.specs.declared.{drawn.LinkOutage.{LinkOutage}, error.ScenarioError.{ScenarioError}}
 use Rattle.scenario.specs.declared.field.Kind.TheVariants as kind
@@ -21,7 +21,7 @@ seed_of t = number_at (codes "seed") 0 t
 
 -- the processes and the horizon of the table are those that a run can have
 unfoldable pub is_run : Members → Bool
-is_run t = (nat_le 1 (processes_of t) && nat_le (processes_of t) most_processes) && nat_le (horizon_of t) 10000000
+is_run t = (nat_le 1 (processes_of t) && nat_le (processes_of t) most_processes) && nat_le (horizon_of t) last_tick
 
 -- what the network lays over the links of the run, and what it draws
 abbrev pub laid_in : Members → Network → List LaidLink

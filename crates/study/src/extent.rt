@@ -1,6 +1,6 @@
 //! How far a run goes.
 ghost use Rattle.std.specs.Prelude.{◌≤◌};
-ghost use Rattle.process_api.specs.Place.{most_processes};
+ghost use Rattle.process_api.specs.Place.{last_tick, most_processes};
 
 /// How far a run goes: what of it a network's draws depend on.
 #[derive(Clone, Copy)]
@@ -9,5 +9,5 @@ pub(crate) struct Extent {
     pub(crate) horizon: u32,
     pub(crate) seed: u64,
     ghost few: { processes ≤ most_processes },
-    ghost high: { horizon ≤ 10000000 },
+    ghost high: { horizon ≤ last_tick },
 }

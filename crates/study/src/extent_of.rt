@@ -6,11 +6,8 @@ ghost use Rattle.study.specs.{Laid.{is_run}, Inside.Private.{IsExtentOf}};
 
 use crate::extent::Extent;
 use crate::placed::value_at;
-use process_api::MOST_PROCESSES;
+use process_api::{LAST_TICK, MOST_PROCESSES};
 use toml::Table;
-
-/// The greatest horizon that a run can have, in ticks.
-const MOST_HORIZON: u64 = 10_000_000;
 
 /// The integer at a key, if there is one.
 fn integer_at(table: &Table, key: &str) -> Option<i64>
@@ -52,7 +49,7 @@ pub(crate) fn extent_of(table: &Table) -> Option<Extent>
 {
     let processes = natural_at(table, "processes");
     let horizon = natural_at(table, "horizon");
-    if processes < 1 || processes > u64::from(MOST_PROCESSES) || horizon > MOST_HORIZON {
+    if processes < 1 || processes > u64::from(MOST_PROCESSES) || horizon > u64::from(LAST_TICK) {
         return None;
     }
     Some(Extent {

@@ -135,6 +135,18 @@ impl Grid {
         self.mixes * self.seeds
     }
 
+    /// Does nothing when it runs: a proof that needs the ranges of the grid's numbers has them from this call's
+    /// contract.
+    pub fn recall_ranges(&self)
+        ensures points { length (points self.now) ≤ 1000000 }
+        ensures some_run { 1 ≤ length (runs self.now) }
+        ensures runs { length (runs self.now) ≤ 1000000000000 }
+    {
+        // The readers say it.
+        let _points = self.points();
+        let _runs = self.runs();
+    }
+
     /// The settings of a point, from 0.
     pub fn point(&self, alloc: Global, number: u64) -> Result<Vec<Choice<'_>>, AllocError>
         requires { number < length (points self.now) }

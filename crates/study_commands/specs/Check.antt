@@ -1,8 +1,8 @@
 -- What `check` answers. What no run of a scenario breaks, in lines.
 use Rattle.std.specs.Prelude.{◌≡◌, ℕ, if◌then◌else◌, nat_lt, List, [], length, ◌++◌, codes, decimal, Option, ◌==◌, nat_le, Bool, None, Some}
-use Rattle.{process_api.specs.declared.numbers.DetectorNumbers.{DetectorNumbers, TheVariants.{Timeout, Freshness}}, promised.specs.{Promised.{promised}, declared.bounds.PromisedBounds.{PromisedBounds}}}
+use Rattle.{process_api.specs.{Place.{most_ticks}, declared.numbers.DetectorNumbers.{DetectorNumbers, TheVariants.{Timeout, Freshness}}}, promised.specs.{Promised.{promised}, declared.bounds.PromisedBounds.{PromisedBounds}}}
 use Rattle.{diagnosis.specs.Diagnosis.{entries_in, longest_window}, study.specs.{Sources.{SourcesRecord}, Grid.{GridRecord, runs, ShardRecord}}}
-use Rattle.study_commands.specs.{File.{IsScenario}, Sweep.{IsSaid}, declared.{checking.TheConstants.{WORTH_FOUR_WORKERS}, bounds_lines.TheConstants.{MOST_TICKS}}}
+use Rattle.study_commands.specs.{File.{IsScenario}, Sweep.{IsSaid}, declared.checking.TheConstants.{WORTH_FOUR_WORKERS}}
 use Rattle.{study_line.specs.declared.order.{SourceTexts.{SourceTexts}, StudyTexts.{StudyTexts}}, sweep.specs.{Layout.{LayoutRecord}, Outcome.{AreReady}, StudyText.{numbers_of}}, scenario_record.specs.Record.{Record}}
 
 -- within how many ticks crashes are detected; with time-outs, under which condition
@@ -43,7 +43,7 @@ key_of (Freshness its) = codes "delta"
 -- with which numbers of that key the other links can bring no mistake, where there are others
 abbrev pub needed_text : (key : List ℕ) → Option ℕ → List ℕ
 needed_text key None = []
-needed_text key (Some ticks) = if nat_le ticks MOST_TICKS
+needed_text key (Some ticks) = if nat_le ticks most_ticks
     then codes "with " ++ (key ++ (codes " " ++ (decimal ticks
     ++ codes " or more no link without loss and outages can bring a mistake\n")))
     else codes "no "

@@ -12,7 +12,7 @@ use std::alloc::{AllocError, Global};
 const LATE: &str = "the detection of some crash is not promised before the horizon\n";
 
 /// The greatest `delta` and the greatest `timeout` of a file, in ticks.
-pub const MOST_TICKS: u64 = 1_000_000;
+const MOST_TICKS: u64 = process_api::MOST_TICKS as u64;
 
 /// Within how many ticks crashes are detected.
 fn within_line(alloc: Global, detector: DetectorNumbers, ticks: u64) -> Result<String, AllocError>

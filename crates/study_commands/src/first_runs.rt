@@ -45,7 +45,7 @@ fn first_table(
     requires { point < length (points grid.now) }
     ensures { IfOk result (λ t. IsFirst (sources_of sources.now) grid.now point (table_view t)) }
 {
-    let _runs = grid.runs();
+    grid.recall_ranges();
     let settings = grid.point(alloc, point)?;
     let run = grid.run(alloc, 0)?;
     match run_table(alloc, sources, &settings, &run) {
@@ -83,7 +83,7 @@ pub(crate) fn first_runs<R: Threads + Sync>(
     ensures count { IfOk result (λ v. length v.items ≡ end - begin) }
     ensures first { IfOk result (λ v. AreFirst (sources_of sources.now) grid.now begin v.items) }
 {
-    let _points = grid.points();
+    grid.recall_ranges();
     let mut all = Vec::new(alloc);
     let mut next = begin;
     while next < end {

@@ -15,7 +15,7 @@ use std::rt::Files;
 use std::thread::Threads;
 use std::time::Clock;
 use study_line::{SourceTexts, StudyTexts};
-use sweep::check_study;
+use sweep::{SweptStudy, check_study};
 
 /// Reads the scenarios of all runs of a shard's points, and then tells the watcher what may mislead of the study. The
 /// fault is that of the first run that can't be run, or of memory.
@@ -34,16 +34,14 @@ fn make_ready<R: Threads + Sync + Clock, W: Warned>(
     ensures hidden { W.shows watcher.new ≡ false }
 {
     let (shard, threads) = (said.shard, said.threads);
-    match check_study(
-        rt,
-        alloc,
-        &said.sources,
-        &said.grid,
+    let swept = SweptStudy {
+        sources: &said.sources,
+        grid: &said.grid,
         shard,
-        &said.layout,
+        layout: &said.layout,
         threads,
-        watcher,
-    ) {
+    };
+    match check_study(rt, alloc, &swept, watcher) {
         Ok(()) => Ok(warn_of_study(
             rt,
             alloc,

@@ -42,7 +42,7 @@ pub(crate) fn name_of_point(alloc: Global, grid: &Grid, point: u64) -> Result<St
     requires { point < length (points grid.now) }
     ensures { IfOk result (λ s. string_bytes s ≡ point_name grid.now point) }
 {
-    let _points = grid.points();
+    grid.recall_ranges();
     let number = point.saturating_add(1);
     let mut name = format!(in alloc; "point {number}")?;
     push_choices(&mut name, " with ", &grid.point(alloc, point)?)?;

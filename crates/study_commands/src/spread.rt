@@ -1,6 +1,6 @@
 //! Ticks that leave a part of a period out.
 ghost use Rattle.std.specs.Prelude.{◌≡◌, ◌<◌, ◌≤◌, All, IfOk, get_or, length, map};
-ghost use Rattle.study_commands.specs.Warnings.{greatest_gap as greatest_gap_of, period_of as period_in, next_phases, phases as phases_in, uneven_in};
+ghost use Rattle.{process_api.specs.Place.{most_ticks}, study_commands.specs.Warnings.{greatest_gap as greatest_gap_of, period_of as period_in, next_phases, phases as phases_in, uneven_in}};
 
 use crate::first_run::FirstRun;
 use process_api::DetectorNumbers;
@@ -31,7 +31,7 @@ fn phases_of(alloc: Global, period: u64, ticks: &[u64]) -> Result<Vec<u64>, Allo
 
 /// The phase after the one at a place; after the last comes the first, a period later.
 fn next_phase(period: u64, phases: &[u64], place: usize) -> u64
-    requires high { period ≤ 1000000 }
+    requires high { period ≤ most_ticks }
     requires low { All (λ phase. phase < period) phases.now }
     requires within { place < length phases.now }
     ensures { result ≡ get_or (next_phases period phases.now) place 0 }
@@ -44,7 +44,7 @@ fn next_phase(period: u64, phases: &[u64], place: usize) -> u64
 
 /// The greatest number of ticks from one of these phases to the next one, around the circle; 0 where there are none.
 fn greatest_gap(period: u64, phases: &[u64]) -> u64
-    requires high { period ≤ 1000000 }
+    requires high { period ≤ most_ticks }
     requires low { All (λ phase. phase < period) phases.now }
     ensures { result ≡ greatest_gap_of period phases.now }
 {
@@ -59,7 +59,7 @@ fn greatest_gap(period: u64, phases: &[u64]) -> u64
 /// How ticks lie in a period, where they leave more than twice as much of it out as its even parts would have.
 fn uneven(alloc: Global, period: u64, ticks: &[u64]) -> Result<Option<Spread>, AllocError>
     requires low { 1 ≤ period }
-    requires high { period ≤ 1000000 }
+    requires high { period ≤ most_ticks }
     ensures { IfOk result (λ o. o ≡ uneven_in period ticks.now) }
 {
     let all = phases_of(alloc, period, ticks)?;

@@ -20,7 +20,7 @@ use std::thread::{Threads, available_parallelism};
 use std::time::Clock;
 use study::{Grid, Shard, Sources};
 use study_line::{Each, SourceTexts, StudyTexts};
-use sweep::{Layout, LayoutError, Rows, SweepError, run_study};
+use sweep::{Layout, LayoutError, Rows, SweepError, SweptStudy, run_study};
 
 /// How many threads share the runs: as many as were asked for, or else one for each processor; at most 64.
 fn threads_for<R: Threads>(rt: &R, asked: Option<u64>) -> u8
@@ -170,18 +170,14 @@ pub(crate) fn serve_sweep<R: Files + Threads + Sync + Clock, I: Read, O: Outlet,
     ensures hidden { W.shows watcher.old ≡ false → W.shows watcher.new ≡ false }
 {
     let said = ready_over(rt, alloc, texts, study, input, watcher)?;
-    let (shard, threads) = (said.shard, said.threads);
-    match run_study(
-        rt,
-        alloc,
-        &said.sources,
-        &said.grid,
-        shard,
-        &said.layout,
-        threads,
-        outlet,
-        watcher,
-    ) {
+    let swept = SweptStudy {
+        sources: &said.sources,
+        grid: &said.grid,
+        shard: said.shard,
+        layout: &said.layout,
+        threads: said.threads,
+    };
+    match run_study(rt, alloc, &swept, outlet, watcher) {
         Ok(()) => Ok(()),
         Err(error) => Err(fault_of(alloc, texts.path, &said.sources, &said.grid, &error)),
     }

@@ -25,7 +25,7 @@ pub(crate) fn warn_of<W: Warned>(
     ensures told { OnOk result (IsWarnedOf W.warned watcher.old watcher.new scenario.now) }
     ensures hidden { W.shows watcher.old ≡ false → W.shows watcher.new ≡ false }
 {
-    let _horizon = scenario.horizon();
+    scenario.recall_ranges();
     if let Some(late) = late_of(scenario.detector(), scenario.horizon()) {
         watcher.warn(line_of_late(alloc, late)?.as_str());
     }

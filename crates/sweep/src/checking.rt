@@ -7,15 +7,15 @@ ghost use Rattle.sweep.specs.{Inside.Progress.{point_of, ArePointsReady, IsLack,
 use crate::batches::Batches;
 use crate::error::SweepError;
 use crate::group::Group;
-use crate::layout::Layout;
 use crate::numbering::{points_of, scenario_of};
+use crate::swept_study::SweptStudy;
 use crate::watcher::{Pass, Standing, Watcher};
 use scenario::{Scenario, ScenarioError};
 use std::alloc::Global;
 use std::marker::Sync;
 use std::thread::Threads;
 use std::time::Clock;
-use study::{Grid, PlaceError, ReadError, Shard, Sources};
+use study::{Grid, PlaceError, ReadError, Sources};
 
 /// Whether memory was refused.
 fn is_want_of_memory(reason: &ReadError) -> bool
@@ -148,7 +148,7 @@ fn check_runs<R: Threads + Sync + Clock, W: Watcher>(
     Ok(())
 }
 
-/// Reads the scenarios of all runs of a shard's points, by so many threads. They have the processes that the layout's
+/// Reads the scenarios of all runs of a shard's points, by the study's threads. They have the processes that the layout's
 /// groups name. The watcher hears how many are read. At the end it takes away what it shows.
 ///
 /// # Errors
@@ -158,22 +158,21 @@ fn check_runs<R: Threads + Sync + Clock, W: Watcher>(
 pub fn check_study<R: Threads + Sync + Clock, W: Watcher>(
     rt: &R,
     alloc: Global,
-    sources: &Sources,
-    grid: &Grid,
-    shard: Shard,
-    layout: &Layout,
-    threads: u8,
+    study: &SweptStudy<'_>,
     watcher: &mut W,
 ) -> Result<(), SweepError>
-    ensures ok { OnOk result (AreReady (sources_of sources.now) grid.now layout.now.groups shard) }
-    ensures err { IfErr result (CantBeRun (sources_of sources.now) grid.now layout.now.groups shard) }
+    ensures ok { OnOk result
+        (AreReady (sources_of study.now.sources.now) study.now.grid.now study.now.layout.now.groups study.now.shard) }
+    ensures err { IfErr result
+        (CantBeRun (sources_of study.now.sources.now) study.now.grid.now study.now.layout.now.groups study.now.shard) }
     ensures heard { HaveJoined W.heard watcher.old watcher.new [] }
     ensures hidden { W.shows watcher.new ≡ false }
 {
-    let _runs = grid.runs();
-    let (begin, end) = points_of(grid, shard);
-    let batches = Batches::new(rt, alloc, threads);
-    let answer = check_runs(batches, sources, grid, layout.groups(), begin, end, watcher);
+    let (sources, grid, groups) = (study.sources, study.grid, study.layout.groups());
+    grid.recall_ranges();
+    let (begin, end) = points_of(grid, study.shard);
+    let batches = Batches::new(rt, alloc, study.threads);
+    let answer = check_runs(batches, sources, grid, groups, begin, end, watcher);
     watcher.hide();
     answer
 }

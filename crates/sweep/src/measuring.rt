@@ -28,7 +28,7 @@ fn measure_scenario(
     ensures { IfOk result (λ n. (r : RunResult) × IsResult scenario.now r
         × AreNumbers groups.now (record { scenario = scenario.now; result = r }) n) }
 {
-    let _ticks = scenario.horizon();
+    scenario.recall_ranges();
     let machines = machines_of(alloc, scenario)?;
     match measure_list(alloc, scenario, machines) {
         Ok((findings, durations, trusts)) => {

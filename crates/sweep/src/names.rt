@@ -78,7 +78,7 @@ fn push_lead_names(
     match rows {
         Rows::Points => Ok(()),
         Rows::Runs => {
-            let _runs = grid.runs();
+            grid.recall_ranges();
             let run = grid.run(alloc, 0)?;
             push_set_keys(alloc, names, &run.settings)?;
             push_names(alloc, names, &["seed", "run"])

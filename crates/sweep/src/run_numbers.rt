@@ -1,7 +1,6 @@
 //! The numbers that one run adds to the sums of its point.
 ghost use Rattle.std.specs.Prelude.{◌≡◌, List, IfOk, is_some};
 ghost use Rattle.judges.specs.declared.outcomes.Outcome.{Outcome as OutcomeRecord};
-ghost use Rattle.scenario_record.specs.Ranges.{IsInRange};
 ghost use Rattle.sweep.specs.{Inside.Adding.{of_verdicts, AreOwnSums}, Columns.{AreDecisionSums}, declared.group.Group.{Group as GroupRecord}, Results.{ForMeasured, limited_run}};
 
 use crate::bounds::bounds_on;
@@ -146,8 +145,7 @@ impl LayerNumbers {
 
 /// Whether there is a reduction, whose output is layer 2.
 fn is_shared(scenario: &Scenario) -> bool
-    ensures value { result ≡ is_some scenario.now.share }
-    ensures ranges { IsInRange scenario.now }
+    ensures { result ≡ is_some scenario.now.share }
 {
     scenario.share().is_some()
 }
@@ -174,7 +172,7 @@ impl GroupNumbers {
         ensures { IfOk result (λ n. ForMeasured scenario.now findings.now durations.now trusts.now
             (λ run. AreGroupNumbers group.now run n)) }
     {
-        let _shared = is_shared(scenario);
+        scenario.recall_ranges();
         let pairs = &findings.measures;
         let own = LayerFindings {
             summary: &findings.summary,

@@ -1,7 +1,7 @@
 //! Sweeps: all runs of a study's points, and the rows that tell of them.
-ghost use Rattle.std.specs.Prelude.{◌≡◌, ◌^◌, ◌-◌, ◌*◌, ◌<◌, ◌≤◌, false, length, [], OnOk, IfErr};
+ghost use Rattle.std.specs.Prelude.{◌≡◌, ◌^◌, ◌-◌, ◌*◌, ◌<◌, ◌≤◌, false, length, [], OnErr, OnOk, IfErr};
 ghost use Rattle.study.specs.{Sources.{sources_of}, Grid.{points, runs}};
-ghost use Rattle.sweep.specs.{Outcome.{WroteStudy, BreaksOff, RefusesRun, HeardLimits, HeardSomeLimits}, Inside.Progress.{WrotePoints, StopsInPoints, numbers_in}, StudyText.{numbers_of}};
+ghost use Rattle.sweep.specs.{Outcome.{WroteStudy, BreaksOff, RefusesRun, HeardLimits, HeardSomeLimits as HeardSome}, Inside.Progress.{WrotePoints, StopsInPoints, numbers_in}, StudyText.{numbers_of}};
 ghost use Rattle.trace_laws.specs.Taken.{HaveJoined};
 
 use crate::batches::Batches;
@@ -12,6 +12,7 @@ use crate::limits::Limits;
 use crate::measuring::measure_batch;
 use crate::numbering::points_of;
 use crate::progress::Progress;
+use crate::swept_study::SweptStudy;
 use crate::texts::write_header;
 use crate::watcher::{Pass, Standing, Watcher};
 use reporting::Outlet;
@@ -19,7 +20,7 @@ use std::alloc::Global;
 use std::marker::Sync;
 use std::thread::Threads;
 use std::time::Clock;
-use study::{Grid, Shard, Sources};
+use study::{Grid, Sources};
 
 /// Runs all runs of the points from one number up to another, in batches, and writes the rows of each unit when its
 /// last run is in. The watcher hears of the beginning, and whenever more runs are in.
@@ -44,7 +45,7 @@ fn write_points<R: Threads + Sync + Clock, O: Outlet, W: Watcher>(
     ensures heard { OnOk result
         (HeardLimits W.heard watcher.old watcher.new (sources_of sources.now) grid.now (numbers_in swept)) }
     ensures heard_some { IfErr result
-        (λ _. HeardSomeLimits W.heard watcher.old watcher.new (sources_of sources.now) grid.now (numbers_in swept)) }
+        (λ _. HeardSome W.heard watcher.old watcher.new (sources_of sources.now) grid.now (numbers_in swept)) }
 {
     let alloc = batches.alloc;
     let (begin, end) = swept;
@@ -82,36 +83,35 @@ fn write_points<R: Threads + Sync + Clock, O: Outlet, W: Watcher>(
 pub fn run_study<R: Threads + Sync + Clock, O: Outlet, W: Watcher>(
     rt: &R,
     alloc: Global,
-    sources: &Sources,
-    grid: &Grid,
-    shard: Shard,
-    layout: &Layout,
-    threads: u8,
+    study: &SweptStudy<'_>,
     outlet: &mut O,
     watcher: &mut W,
 ) -> Result<(), SweepError>
     requires failures { O.failed outlet.old < 2 ^ 64 - 1 }
     ensures done { OnOk result
-        (WroteStudy (sources_of sources.now) grid.now shard layout.now O.told O.failed outlet.old outlet.new) }
+        (WroteStudy (sources_of study.now.sources.now) study.now.grid.now study.now.shard study.now.layout.now
+        O.told O.failed outlet.old outlet.new) }
     ensures breaks_off { IfErr result
-        (BreaksOff (sources_of sources.now) grid.now shard layout.now O.told O.failed outlet.old outlet.new) }
+        (BreaksOff (sources_of study.now.sources.now) study.now.grid.now study.now.shard study.now.layout.now
+        O.told O.failed outlet.old outlet.new) }
     ensures errors { IfErr result (λ e. RefusesRun e → ⊥) }
-    ensures heard { OnOk result (HeardLimits W.heard watcher.old watcher.new (sources_of sources.now) grid.now
-        (numbers_of grid.now shard)) }
-    ensures heard_some { IfErr result (λ _. HeardSomeLimits W.heard watcher.old watcher.new (sources_of sources.now)
-        grid.now (numbers_of grid.now shard)) }
+    ensures heard { OnOk result (HeardLimits W.heard watcher.old watcher.new (sources_of study.now.sources.now)
+        study.now.grid.now (numbers_of study.now.grid.now study.now.shard)) }
+    ensures heard_some { OnErr result (HeardSome W.heard watcher.old watcher.new
+        (sources_of study.now.sources.now) study.now.grid.now (numbers_of study.now.grid.now study.now.shard)) }
     ensures hidden { W.shows watcher.old ≡ false → W.shows watcher.new ≡ false }
 {
-    let _runs = grid.runs();
-    write_header(alloc, grid, shard, layout, outlet)?;
-    let swept = points_of(grid, shard);
-    let batches = Batches::new(rt, alloc, threads);
+    let (sources, grid, layout) = (study.sources, study.grid, study.layout);
+    grid.recall_ranges();
+    write_header(alloc, grid, study.shard, layout, outlet)?;
+    let swept = points_of(grid, study.shard);
+    let batches = Batches::new(rt, alloc, study.threads);
     let answer = write_points(batches, sources, grid, layout, swept, outlet, watcher);
     watcher.hide();
     answer
 }
 
-/// Sweeps the points of a shard of a study: runs all their runs by so many threads, and writes rows with the layout's
+/// Sweeps the points of a shard of a study: runs all their runs by its threads, and writes rows with the layout's
 /// columns, one for each group of pairs and each layer of a point, with sums over its runs, or of each run. The first
 /// shard begins with the header. The threads and the watcher change nothing of the text.
 ///
@@ -133,28 +133,24 @@ pub fn run_study<R: Threads + Sync + Clock, O: Outlet, W: Watcher>(
 pub fn sweep<R: Threads + Sync + Clock, O: Outlet, W: Watcher>(
     rt: &R,
     alloc: Global,
-    sources: &Sources,
-    grid: &Grid,
-    shard: Shard,
-    layout: &Layout,
-    threads: u8,
+    study: &SweptStudy<'_>,
     outlet: &mut O,
     watcher: &mut W,
 ) -> Result<(), SweepError>
     requires failures { O.failed outlet.old < 2 ^ 64 - 1 }
     ensures done { OnOk result
-        (WroteStudy (sources_of sources.now) grid.now shard layout.now O.told O.failed outlet.old outlet.new) }
+        (WroteStudy (sources_of study.now.sources.now) study.now.grid.now study.now.shard study.now.layout.now
+        O.told O.failed outlet.old outlet.new) }
     ensures breaks_off { IfErr result
-        (BreaksOff (sources_of sources.now) grid.now shard layout.now O.told O.failed outlet.old outlet.new) }
-    ensures heard { OnOk result (HeardLimits W.heard watcher.old watcher.new (sources_of sources.now) grid.now
-        (numbers_of grid.now shard)) }
-    ensures heard_some { IfErr result (λ _. HeardSomeLimits W.heard watcher.old watcher.new (sources_of sources.now)
-        grid.now (numbers_of grid.now shard)) }
+        (BreaksOff (sources_of study.now.sources.now) study.now.grid.now study.now.shard study.now.layout.now
+        O.told O.failed outlet.old outlet.new) }
+    ensures heard { OnOk result (HeardLimits W.heard watcher.old watcher.new (sources_of study.now.sources.now)
+        study.now.grid.now (numbers_of study.now.grid.now study.now.shard)) }
+    ensures heard_some { OnErr result (HeardSome W.heard watcher.old watcher.new
+        (sources_of study.now.sources.now) study.now.grid.now (numbers_of study.now.grid.now study.now.shard)) }
     ensures unheard { IfErr result (λ e. RefusesRun e → HaveJoined W.heard watcher.old watcher.new []) }
     ensures hidden { W.shows watcher.new ≡ false }
 {
-    check_study(rt, alloc, sources, grid, shard, layout, threads, watcher)?;
-    run_study(
-        rt, alloc, sources, grid, shard, layout, threads, outlet, watcher,
-    )
+    check_study(rt, alloc, study, watcher)?;
+    run_study(rt, alloc, study, outlet, watcher)
 }

@@ -2,7 +2,7 @@
 use Rattle.trace_laws.proofs.Words.{◌≡◌, ℕ, ◌≤◌, ◌+◌, ◌%◌, ◌-◌, ◌*◌, refl, ap, Bool, true, false, cond, not, arith, nat_lt, nat_le, nat_cmp, Option, Some, None, option_map, ForSome, eq-eqb, is_mind_at, stands_at, Place, same_place, and_true, Record, link, place_in, opening_mind, opening_algorithm, IsInRange, Link, Lost, Delay, fate_of, fate_by, is_cut, word, setting_of, IsSound, IsSlow}
 use Rattle.std.specs.Prelude.{IsTrue}
 use Rattle.std.specs.FinSet as set
-use Rattle.process_api.specs.Reduction.{opening_reduction}
+use Rattle.process_api.specs.{Place.{most_ticks}, Reduction.{opening_reduction}}
 use Rattle.process_api.proofs.{Allowed.{react_allowed}, DetectorLaws.{detector_opens}, Keeping.{react_keeps}}
 use Rattle.scenario_record.specs.declared.algorithm.AlgorithmKind.TheVariants as kind
 use Rattle.scenario_record.proofs.DetectorFacts.{opens_paced}
@@ -16,7 +16,7 @@ at_least_one n h = grind arith
 nobody_in : (q : ℕ) → not (set.contains (set.empty {R = nat_cmp}) q) ≡ true
 nobody_in q = ap not (set.contains-empty nat_cmp q)
 
-shares_paced : (o : Option ℕ) → ForSome o (λ period. (1 ≤ period) × (period ≤ 1000000)) → (elim (option_map opening_reduction o) [ None ↦ true | Some reduction ↦ nat_le 1 reduction.period ]) ≡ true
+shares_paced : (o : Option ℕ) → ForSome o (λ period. (1 ≤ period) × (period ≤ most_ticks)) → (elim (option_map opening_reduction o) [ None ↦ true | Some reduction ↦ nat_le 1 reduction.period ]) ≡ true
 shares_paced None h = refl
 shares_paced (Some period) h = at_least_one period (h period refl).0
 

@@ -4,7 +4,7 @@ use Rattle.trace_laws.proofs.Words.{◌≡◌, ℕ, zero, suc, ◌+◌, ◌-◌,
 use Rattle.trace_laws.proofs.{Alike.{with_minds, same_plain}, Sets.{not_None, same_Some}, Simulate.{plain_trace}, Sound.{setting_sound}, Watching.{Watcher, watch, IsMindOf, watchers_alike}}
 use Rattle.std.specs.FinSet as set
 use Rattle.std.proofs.lemmas.Nat.{mul-add-lt}
-use Rattle.process_api.specs.{Place.{most_processes}, declared.{action.Note.{Note, TheVariants.{Suspect, Trust}}, entry.Kind.{Kind}, numbers.Watch.TheVariants.{All}}}
+use Rattle.process_api.specs.{Place.{last_tick, most_processes, most_ticks}, declared.{action.Note.{Note, TheVariants.{Suspect, Trust}}, entry.Kind.{Kind}, numbers.Watch.TheVariants.{All}}}
 use Rattle.process_api.specs.declared.numbers.DetectorNumbers.TheVariants as kinds
 use Rattle.scenario_record.specs.Ranges.{AreTimeoutInRange}
 use Rattle.scenario_record.specs.declared.algorithm.AlgorithmKind.TheVariants as algorithms
@@ -53,7 +53,7 @@ is_steady zero delay i = (refl, refl)
 is_steady (suc n) delay zero = (refl, refl)
 is_steady (suc n) delay (suc i) = is_steady n delay i
 
-crash_in : (crashes : List (Option ℕ)) → AllByRecursion (λ o. ForSome o (λ at. at ≤ 10000000)) crashes → (i : ℕ) → ForSome (get_or crashes i None) (λ at. at ≤ 10000000)
+crash_in : (crashes : List (Option ℕ)) → AllByRecursion (λ o. ForSome o (λ at. at ≤ last_tick)) crashes → (i : ℕ) → ForSome (get_or crashes i None) (λ at. at ≤ last_tick)
 crash_in [] all i = λ at e. absurd (not_None at e)
 crash_in (o ∷ os) all zero = all.0
 crash_in (o ∷ os) all (suc i) = crash_in os all.1 i
@@ -88,8 +88,8 @@ module _ (processes horizon delay : ℕ) (numbers : TimeoutNumbers) (crashes : L
   abbrev pub IsOver : ℕ → Type 0
   IsOver n = plain_left watchers n (opening_process watchers) (plain_starts processes) ≡ []
 
-  module _ (few : (1 ≤ processes) × (processes ≤ most_processes)) (lasts : (1 ≤ horizon) × (horizon ≤ 10000000)) (ahead : (1 ≤ delay) × (delay ≤ 1000000)) (in_range : AreTimeoutInRange numbers)
-      (one_each : length crashes ≡ processes) (crash_ticks : AllByRecursion (λ o. ForSome o (λ at. at ≤ 10000000)) crashes) where
+  module _ (few : (1 ≤ processes) × (processes ≤ most_processes)) (lasts : (1 ≤ horizon) × (horizon ≤ last_tick)) (ahead : (1 ≤ delay) × (delay ≤ most_ticks)) (in_range : AreTimeoutInRange numbers)
+      (one_each : length crashes ≡ processes) (crash_ticks : AllByRecursion (λ o. ForSome o (λ at. at ≤ last_tick)) crashes) where
     at_link : (from to : ℕ) → 1 ≤ from → from ≤ processes → 1 ≤ to → to ≤ processes → link s from to ≡ steady_link delay
     at_link from to a b c d = get_or-replicate (processes * processes) _ (steady_link delay) no_link (mul-add-lt (from - 1) processes (to - 1) processes (omega arith) (omega arith))
 
@@ -130,10 +130,10 @@ module _ (processes horizon delay : ℕ) (numbers : TimeoutNumbers) (crashes : L
 abbrev entry : (tick receiver sender number : ℕ) → Kind → (sent lost : ℕ) → List Note → EntryRecord
 entry tick receiver sender number kind sent lost notes = record { key = record { tick = tick; receiver = receiver; sender = sender; number = number }; kind = kind; sent = sent; lost = lost; notes = notes }
 
-no_crash : ForSome {T = ℕ} None (λ at. at ≤ 10000000)
+no_crash : ForSome {T = ℕ} None (λ at. at ≤ last_tick)
 no_crash = λ at e. absurd (not_None at e)
 
-crash_at : (at : ℕ) → at ≤ 10000000 → ForSome (Some at) (λ tick. tick ≤ 10000000)
+crash_at : (at : ℕ) → at ≤ last_tick → ForSome (Some at) (λ tick. tick ≤ last_tick)
 crash_at at h = λ tick e. omega (arith, h, same_Some at tick e)
 
 -- ---- two processes that beat every 4 ticks, check every 3, and wait for 5

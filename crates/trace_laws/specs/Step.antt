@@ -6,9 +6,8 @@ use Rattle.process_api.specs.declared.entry.Kind.TheVariants as kind
 use Rattle.process_api.specs.declared.message.Payload.TheVariants as payload
 use Rattle.process_api.specs.declared.message.StepInput.TheVariants as input
 use Rattle.process_api.specs.declared.message.Tag.TheVariants as tag
-use Rattle.streams.specs.declared.fate.Fate.{Fate}
+use Rattle.{streams.specs.declared.fate.Fate.{Fate}, trace_laws.specs.Setting.{Setting, has_crashed}}
 use Rattle.streams.specs.declared.fate.Fate.TheVariants as fate
-use Rattle.trace_laws.specs.Setting.{Setting, has_crashed}
 
 -- an event: its key, and what the receiver takes
 abbrev pub Event : Type 0

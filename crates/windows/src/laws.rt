@@ -23,6 +23,5 @@ pub fn law_any_order(scenario: &Scenario, plan: &Plan)
     ensures windows { MakeTrace (setting_of scenario.now) plan.now.window }
     ensures berths { LawBerths (setting_of scenario.now) plan.now.window }
 {
-    // A reader says that the scenario's fields are in their ranges.
-    let _horizon = scenario.horizon();
+    scenario.recall_ranges();
 }

@@ -189,9 +189,9 @@ pub fn run_windows_into<M: Process, G: Gate, K: Sink, R: Threads + Wait + Sync>(
     ensures count { K.failed sink.new ≡ K.failed sink.old + writes_of result }
     ensures limit { IsErrOf result RunError.Limit → IsOverLimit scenario.now }
 {
-    // Readers say that a window has a tick at least, and that the scenario's fields are in their ranges.
+    // A reader says that a window has a tick at least.
     let _window = plan.window();
-    let _horizon = scenario.horizon();
+    scenario.recall_ranges();
     let mut stage = Stage::open(alloc, scenario, machines)?;
     let mut parts = Vec::new(alloc);
     while !stage.finished() {
@@ -231,7 +231,7 @@ pub fn run_windows<M: Process, G: Gate, R: Threads + Wait + Sync>(
     ensures errors { IfErr result IsRefusal }
     ensures limit { IsErrOf result RunError.Limit → IsOverLimit scenario.now }
 {
-    let _horizon = scenario.horizon();
+    scenario.recall_ranges();
     let mut entries = Vec::new(alloc);
     run_windows_into(rt, alloc, scenario, machines, plan, gate, &mut entries)?;
     Ok(Trace::new(entries))

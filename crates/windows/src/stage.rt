@@ -194,7 +194,7 @@ impl<'s, M: Process> Stage<'s, M> {
         ensures stage { IfOk result (IsStageAfter M.mind []) }
         ensures errors { IfErr result (λ e. e ≡ RunError.Memory) }
     {
-        let _processes = scenario.processes();
+        scenario.recall_ranges();
         let berths = berths_of(alloc, scenario, machines)?;
         Ok(Stage {
             scenario,

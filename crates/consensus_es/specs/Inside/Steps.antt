@@ -61,4 +61,4 @@ algorithm_of c = Coordinating (place_of c) (state_of c.progress)
 
 -- a call has answered Err
 abbrev pub answered_err : EsConsensus → Bool
-answered_err c = c.failed
+answered_err c = c.has_failed

@@ -121,17 +121,8 @@ fn sweep_of<R: Threads + Sync + Clock>(
     study: &Study,
 ) -> (Result<(), SweepError>, MemoryOutlet) {
     let mut outlet = MemoryOutlet::new(alloc);
-    let answer = sweep(
-        rt,
-        alloc,
-        &study.sources,
-        &study.grid,
-        Shard::whole(),
-        &study.layout,
-        2,
-        &mut outlet,
-        &mut Unwatched,
-    );
+    let all = study.part(Shard::whole(), 2);
+    let answer = sweep(rt, alloc, &all, &mut outlet, &mut Unwatched);
     (answer, outlet)
 }
 
@@ -165,16 +156,8 @@ fn no_such_process(rt: HostRuntime) {
     let words = ["1:2", "2:1..=3"];
     let study = study_in(&rt, alloc, "processes=3,2", &words, "pair_ticks");
     let (answer, outlet) = sweep_of(&rt, alloc, &study);
-    let checked = check_study(
-        &rt,
-        alloc,
-        &study.sources,
-        &study.grid,
-        Shard::whole(),
-        &study.layout,
-        2,
-        &mut Unwatched,
-    );
+    let all = study.part(Shard::whole(), 2);
+    let checked = check_study(&rt, alloc, &all, &mut Unwatched);
     for each in [answer, checked] {
         assert!(rt;
             matches!(

@@ -12,7 +12,7 @@ use std::ops::Range;
 use std::thread::Threads;
 use std::time::Clock;
 use study::{Grid, Shard, Sources, law_shards};
-use sweep::{Layout, SweepError, Unwatched, law_one_text, law_shard_texts, sweep};
+use sweep::{Layout, SweepError, SweptStudy, Unwatched, law_one_text, law_shard_texts, sweep};
 
 /// The texts of so many shards, one after the other: it is a text of the whole study.
 fn sweep_shards<R: Threads + Sync + Clock>(
@@ -33,17 +33,14 @@ fn sweep_shards<R: Threads + Sync + Clock>(
         let Some(shard) = Shard::new(before + 1, shards) else {
             unreachable!()
         };
-        sweep(
-            rt,
-            alloc,
+        let study = SweptStudy {
             sources,
             grid,
             shard,
             layout,
             threads,
-            &mut outlet,
-            &mut Unwatched,
-        )?;
+        };
+        sweep(rt, alloc, &study, &mut outlet, &mut Unwatched)?;
     }
     law_shard_texts(sources, grid, layout, shards);
     Ok(outlet)
@@ -64,17 +61,14 @@ fn shards_and_whole<R: Threads + Sync + Clock>(
 {
     let parts = sweep_shards(rt, alloc, sources, grid, layout, shards, threads)?;
     let mut whole = MemoryOutlet::new(alloc);
-    sweep(
-        rt,
-        alloc,
+    let study = SweptStudy {
         sources,
         grid,
-        Shard::whole(),
+        shard: Shard::whole(),
         layout,
-        1,
-        &mut whole,
-        &mut Unwatched,
-    )?;
+        threads: 1,
+    };
+    sweep(rt, alloc, &study, &mut whole, &mut Unwatched)?;
     law_one_text(sources, grid, Shard::whole(), layout);
     Ok((parts, whole))
 }

@@ -9,7 +9,7 @@ use std::process::Abort;
 use std::thread::Threads;
 use std::time::Clock;
 use study::{Grid, Shard, Sources};
-use sweep::{Layout, Rows, Unwatched, sweep};
+use sweep::{Layout, Rows, SweptStudy, Unwatched, sweep};
 
 /// A study of the file in which process 2 of two crashes at tick 3, with rows for points and all columns.
 #[derive(Drop)]
@@ -17,6 +17,19 @@ pub struct Study {
     pub sources: Sources,
     pub grid: Grid,
     pub layout: Layout,
+}
+
+impl Study {
+    /// This shard of it, by so many threads.
+    pub fn part(&self, shard: Shard, threads: u8) -> SweptStudy<'_> {
+        SweptStudy {
+            sources: &self.sources,
+            grid: &self.grid,
+            shard,
+            layout: &self.layout,
+            threads,
+        }
+    }
 }
 
 /// The layout of such rows, which count all pairs, with these columns.
@@ -69,17 +82,8 @@ pub fn swept<R: Threads + Sync + Clock + Abort>(
     threads: u8,
 ) -> MemoryOutlet {
     let mut outlet = MemoryOutlet::new(alloc);
-    let answer = sweep(
-        rt,
-        alloc,
-        &study.sources,
-        &study.grid,
-        Shard::whole(),
-        &study.layout,
-        threads,
-        &mut outlet,
-        &mut Unwatched,
-    );
+    let all = study.part(Shard::whole(), threads);
+    let answer = sweep(rt, alloc, &all, &mut outlet, &mut Unwatched);
     answer.expect(rt, "no sweep");
     outlet
 }

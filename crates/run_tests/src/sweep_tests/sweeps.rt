@@ -20,17 +20,8 @@ fn ends_well<R: Threads + Sync + Clock + Abort>(
     whole: &[u8],
 ) -> bool {
     let mut outlet = FuseOutlet::new(alloc, most, times);
-    let answer = sweep(
-        rt,
-        alloc,
-        &study.sources,
-        &study.grid,
-        Shard::whole(),
-        &study.layout,
-        2,
-        &mut outlet,
-        &mut Unwatched,
-    );
+    let all = study.part(Shard::whole(), 2);
+    let answer = sweep(rt, alloc, &all, &mut outlet, &mut Unwatched);
     match answer {
         Ok(()) => {
             same(rt, &outlet.failures(), &0);

@@ -96,17 +96,7 @@ fn heard_of<R: Threads + Sync + Clock, O: Outlet>(
     requires { O.failed outlet.old < 2 ^ 64 - 1 }
 {
     let mut keeper = Keeper::new();
-    let answer = sweep(
-        rt,
-        alloc,
-        &study.sources,
-        &study.grid,
-        shard,
-        &study.layout,
-        2,
-        outlet,
-        &mut keeper,
-    );
+    let answer = sweep(rt, alloc, &study.part(shard, 2), outlet, &mut keeper);
     (answer, keeper)
 }
 

@@ -1,9 +1,8 @@
 -- The outages of the links, as they are taken from tables one after the other.
 use Rattle.std.specs.{Prelude.{◌≡◌, ℕ, List, [], ◌∷◌, ◌++◌, get_or, slice_set, Result, OnOk}, Global.{Vec}}
-use Rattle.toml.specs.Data.{Members}
+use Rattle.{toml.specs.Data.{Members}, scenario_record.specs.declared.outage.Outage.{Outage}}
 use Rattle.scenario.specs.{Text.{pair_of, outage_of, each_pairs_outages}, Rules.{are_bad_outages}, Refusals.{Judges, when}, Parts.{outages_in}, declared.{error.ScenarioError.{ScenarioError}, outages.PairOutage.{PairOutage}}}
 use Rattle.scenario.specs.declared.error.ScenarioError.TheVariants as error
-use Rattle.scenario_record.specs.declared.outage.Outage.{Outage}
 
 -- the lists with one more outage in that at a place
 abbrev pub with_outage : List (List Outage) → ℕ → Outage → List (List Outage)

@@ -5,11 +5,10 @@ use Rattle.{shell.specs.Ending.{Goes}, study.specs.{Grid.{GridRecord, points, ru
 use Rattle.study_line.specs.{declared.order.{SourceTexts.{SourceTexts}, StudyTexts.{StudyTexts}, Order.{Order}, WordsError.{WordsError}}, Order.{version_text}}
 use Rattle.sweep.specs.declared.error.{SweepError.{SweepError}, LayoutError.{LayoutError}}
 use Rattle.sweep.specs.declared.error.SweepError.TheVariants as error
-use Rattle.printable.specs.Printable.{printable}
+use Rattle.{diagnosis.specs.declared.answer.Accepted.{Accepted}, printable.specs.Printable.{printable}}
 use Rattle.sweep.specs.declared.error.LayoutError.TheVariants as layout
 use Rattle.study_line.specs.declared.order.Order.TheVariants as order
 use Rattle.study_line.specs.declared.order.WordsError.TheVariants as refusal
-use Rattle.diagnosis.specs.declared.answer.Accepted.{Accepted}
 
 abbrev pub accepted_line : Accepted → List ℕ
 accepted_line a =

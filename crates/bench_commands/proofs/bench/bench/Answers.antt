@@ -6,4 +6,4 @@ pub returns-in_err-machines-clause-refused : goal.returns-in_err-machines-clause
 returns-in_err-machines-clause-refused g c =
     let s = c.args.scenario.now in
     if_reason c.from_residual.result _ Memory (search rules)
-    (refused_at_machines s c.args.print g.O.Outlet.told g.O.Outlet.failed (setting_sound s c.horizon-ticks.ensures.ranges) c.args.outlet.now c.args.mode)
+    (refused_at_machines s c.args.print g.O.Outlet.told g.O.Outlet.failed (setting_sound s c.recall_ranges.ensures) c.args.outlet.now c.args.mode)

@@ -5,7 +5,7 @@ use Rattle.event_list.proofs.laws.law_only_history.Goals as goal
 pub returns : goal.returns
 returns c =
     let S = setting_of c.args.scenario.now in
-    let sound = setting_sound c.args.scenario.now c.horizon-horizon.ensures.ranges in
+    let sound = setting_sound c.args.scenario.now c.recall_ranges.ensures in
     record {
       worlds = (opening_world S sound, λ w key input is least. taken_world S w key input sound is least.there);
       trace = has_one_trace S sound;

@@ -8,7 +8,7 @@ returns-clause-done g c =
     let s = c.args.scenario.now in
     let told = g.O.Outlet.told in
     let failed = g.O.Outlet.failed in
-    let ranges = c.horizon-ticks.ensures.ranges in
+    let ranges = c.recall_ranges.ensures in
     let sound : IsSound (setting_of s) = setting_sound s ranges in
     let took = c.in_ok-run.ensures.took in
     let trace = took.trace in
@@ -27,7 +27,7 @@ returns-clause-done g c =
 pub returns-in_err-running-clause-refused : goal.returns-in_err-running-clause-refused
 returns-in_err-running-clause-refused g c =
     let s = c.args.scenario.now in
-    let one = has_trace (setting_of s) (setting_sound s c.horizon-ticks.ensures.ranges) in
+    let one = has_trace (setting_of s) (setting_sound s c.recall_ranges.ensures) in
     if_reason c.from_residual.result _ Memory (search rules)
     (breaks_at_opening s g.O.Outlet.told g.O.Outlet.failed one.0 c.args.print one.1 c.args.outlet.now)
 
@@ -36,7 +36,7 @@ returns-in_err-write_header-clause-refused g c =
     let s = c.args.scenario.now in
     let told = g.O.Outlet.told in
     let failed = g.O.Outlet.failed in
-    let one = has_trace (setting_of s) (setting_sound s c.horizon-ticks.ensures.ranges) in
+    let one = has_trace (setting_of s) (setting_sound s c.recall_ranges.ensures) in
     let part = c.in_err-write_header.ensures.part in
     if_reason c.from_residual-in_err-write_header.result _ Write (search rules)
     (breaks_in_write s told failed one.0 c.args.print one.1 c.args.outlet.now c.write_header.new.outlet Write refl
@@ -47,7 +47,7 @@ returns-in_err-run-clause-refused g c =
     let s = c.args.scenario.now in
     let told = g.O.Outlet.told in
     let failed = g.O.Outlet.failed in
-    let one = has_trace (setting_of s) (setting_sound s c.horizon-ticks.ensures.ranges) in
+    let one = has_trace (setting_of s) (setting_sound s c.recall_ranges.ensures) in
     let traced = c.prints_trace-is_traced.ensures in
     let reason = c.in_err-run.field-0.0 in
     if_reason c.from_residual-in_err-run.result _ reason (search rules)
@@ -75,7 +75,7 @@ returns-in_err-write_if_any-clause-refused g c =
     let failed = g.O.Outlet.failed in
     let took = c.in_ok-run.ensures.took in
     let trace = took.trace in
-    let small : length trace < 2 ^ 64 = omega (arith, took.is_within.within, c.horizon-ticks.ensures.ranges.limit_high) in
+    let small : length trace < 2 ^ 64 = omega (arith, took.is_within.within, c.recall_ranges.ensures.limit_high) in
     let is = c.in_ok-summary.ensures trace c.prints_report.result (took.measured c.prints_report.result c.in_ok-running.ensures) small in
     let traced = c.prints_trace-is_traced.ensures in
     if_reason c.from_residual-in_err-write_if_any.result _ Write (search rules)

@@ -4,7 +4,7 @@ use Rattle.runs.proofs.measured_run.measure_list.Goals as goal
 pub returns-clause-done : goal.returns-clause-done
 returns-clause-done g c =
     let S = c.args.scenario.now in
-    let ranges = c.horizon-ticks.ensures.ranges in
+    let ranges = c.recall_ranges.ensures in
     let r = c.in_ok-run_list_into.ensures.recorded in
     let opened = c.in_ok-measuring.measuring in
     let followed = r.taken [] (measuring_same opened, λ n h. h) in

@@ -12,20 +12,20 @@ returns-clause-rows c =
 
 pub returns-clause-blame : goal.returns-clause-blame
 returns-clause-blame c is_trace =
-    subst (All (RestsOnBlame c.args.scenario.now c.args.trace.now)) (sym (returns-clause-rows c)) (all_rest c.args.scenario.now c.horizon-ticks.ensures.ranges c.args.trace.now is_trace)
+    subst (All (RestsOnBlame c.args.scenario.now c.args.trace.now)) (sym (returns-clause-rows c)) (all_rest c.args.scenario.now c.recall_ranges.ensures c.args.trace.now is_trace)
 
 pub returns-clause-bounds : goal.returns-clause-bounds
 returns-clause-bounds c is_trace =
-    subst (All (IsBounded c.args.scenario.now c.args.trace.now)) (sym (returns-clause-rows c)) (all_bounded c.args.scenario.now c.horizon-ticks.ensures.ranges c.args.trace.now is_trace)
+    subst (All (IsBounded c.args.scenario.now c.args.trace.now)) (sym (returns-clause-rows c)) (all_bounded c.args.scenario.now c.recall_ranges.ensures c.args.trace.now is_trace)
 
 pub returns-in_err-measuring-clause-shares : goal.returns-in_err-measuring-clause-shares
-returns-in_err-measuring-clause-shares c is_trace = shares_suspicions c.args.scenario.now c.horizon-ticks.ensures.ranges c.args.trace.now is_trace
+returns-in_err-measuring-clause-shares c is_trace = shares_suspicions c.args.scenario.now c.recall_ranges.ensures c.args.trace.now is_trace
 
 pub returns-in_err-follow_all-clause-shares : goal.returns-in_err-follow_all-clause-shares
-returns-in_err-follow_all-clause-shares c is_trace = shares_suspicions c.args.scenario.now c.horizon-ticks.ensures.ranges c.args.trace.now is_trace
+returns-in_err-follow_all-clause-shares c is_trace = shares_suspicions c.args.scenario.now c.recall_ranges.ensures c.args.trace.now is_trace
 
 pub returns-in_err-found-clause-shares : goal.returns-in_err-found-clause-shares
-returns-in_err-found-clause-shares c is_trace = shares_suspicions c.args.scenario.now c.horizon-ticks.ensures.ranges c.args.trace.now is_trace
+returns-in_err-found-clause-shares c is_trace = shares_suspicions c.args.scenario.now c.recall_ranges.ensures c.args.trace.now is_trace
 
 pub returns-clause-shares : goal.returns-clause-shares
-returns-clause-shares c is_trace = shares_suspicions c.args.scenario.now c.horizon-ticks.ensures.ranges c.args.trace.now is_trace
+returns-clause-shares c is_trace = shares_suspicions c.args.scenario.now c.recall_ranges.ensures c.args.trace.now is_trace

@@ -14,10 +14,10 @@ returns-clause-letters g c =
     )
 
 pub returns-clause-order : goal.returns-clause-order
-returns-clause-order g c = letters_in_order c.args.scenario.now c.horizon-horizon.ensures.ranges _ (returns-clause-letters g c)
+returns-clause-order g c = letters_in_order c.args.scenario.now c.recall_ranges.ensures _ (returns-clause-letters g c)
 
 pub returns-clause-trace : goal.returns-clause-trace
-returns-clause-trace g c = letters_in_trace c.args.scenario.now c.horizon-horizon.ensures.ranges _ (returns-clause-letters g c)
+returns-clause-trace g c = letters_in_trace c.args.scenario.now c.recall_ranges.ensures _ (returns-clause-letters g c)
 
 pub returns-clause-only : goal.returns-clause-only
 returns-clause-only g c = λ others is. only_letters c.args.scenario.now _ others (returns-clause-letters g c) is

@@ -25,7 +25,7 @@ pub returns-in_err-told-clause-front : goal.returns-in_err-told-clause-front
 returns-in_err-told-clause-front g c =
     let sink = c.run_and_hand_on-ran.new.sink in
     let refused = subst (λ r. OnErr r (TookFrontOf g.K.Sink.took g.K.Sink.took_front c.loop-stage.parts.items c.loop-stage.sink sink)) c.in_err-told.was c.run_and_hand_on-ran.ensures.handed.front in
-    on_err c.from_residual-in_err-told.result _ (front_of c.loop-stage.invariant.0 c.horizon-horizon.ensures.ranges g.K.Sink.took_front sink refused)
+    on_err c.from_residual-in_err-told.result _ (front_of c.loop-stage.invariant.0 c.recall_ranges.ensures g.K.Sink.took_front sink refused)
 
 pub returns-in_err-told-clause-closed : goal.returns-in_err-told-clause-closed
 returns-in_err-told-clause-closed g c is =
@@ -49,7 +49,7 @@ pub returns-in_err-hand_on-clause-front : goal.returns-in_err-hand_on-clause-fro
 returns-in_err-hand_on-clause-front g c =
     let beside = c.run_and_hand_on-ran.ensures.handed in
     let was = handed c.loop-stage.invariant.0 c.run_and_hand_on-ran.new.sink c.run_and_hand_on-ran.result.1.parts.items beside.waiting (IfOk-at_ok _ c.in_ok-told.was beside.took_all) in
-    on_err c.from_residual-in_err-hand_on.result _ (front_of was c.horizon-horizon.ensures.ranges g.K.Sink.took_front c.hand_on.new.sink c.in_err-hand_on.ensures.front)
+    on_err c.from_residual-in_err-hand_on.result _ (front_of was c.recall_ranges.ensures g.K.Sink.took_front c.hand_on.new.sink c.in_err-hand_on.ensures.front)
 
 pub returns-in_err-hand_on-clause-closed : goal.returns-in_err-hand_on-clause-closed
 returns-in_err-hand_on-clause-closed g c is =
@@ -59,13 +59,13 @@ pub returns-in_err-parts-clause-front : goal.returns-in_err-parts-clause-front
 returns-in_err-parts-clause-front g c =
     let beside = c.run_and_hand_on-ran.ensures.handed in
     let u = handed (handed c.loop-stage.invariant.0 c.run_and_hand_on-ran.new.sink c.run_and_hand_on-ran.result.1.parts.items beside.waiting (IfOk-at_ok _ c.in_ok-told.was beside.took_all)) c.hand_on.new.sink [] no_parts c.in_ok-hand_on.ensures.took in
-    on_err c.from_residual-in_err-parts.result _ (front_so_far u c.horizon-horizon.ensures.ranges g.K.Sink.took_front)
+    on_err c.from_residual-in_err-parts.result _ (front_so_far u c.recall_ranges.ensures g.K.Sink.took_front)
 
 pub returns-in_err-parts-clause-closed : goal.returns-in_err-parts-clause-closed
 returns-in_err-parts-clause-closed g c is =
     let beside = c.run_and_hand_on-ran.ensures.handed in
     let u = handed (handed c.loop-stage.invariant.0 c.run_and_hand_on-ran.new.sink c.run_and_hand_on-ran.result.1.parts.items beside.waiting (IfOk-at_ok _ c.in_ok-told.was beside.took_all)) c.hand_on.new.sink [] no_parts c.in_ok-hand_on.ensures.took in
-    closed_so_far u c.horizon-horizon.ensures.ranges
+    closed_so_far u c.recall_ranges.ensures
 
 pub returns-in_err-parts-clause-count : goal.returns-in_err-parts-clause-count
 returns-in_err-parts-clause-count g c =
@@ -108,4 +108,4 @@ returns-clause-within g c =
 
 pub returns-clause-front : goal.returns-clause-front
 returns-clause-front g c =
-    on_err_weaker c.hand_on-2.result (front_of c.loop-stage.invariant.0 c.horizon-horizon.ensures.ranges g.K.Sink.took_front c.hand_on-2.new.sink) c.hand_on-2.ensures.front
+    on_err_weaker c.hand_on-2.result (front_of c.loop-stage.invariant.0 c.recall_ranges.ensures g.K.Sink.took_front c.hand_on-2.new.sink) c.hand_on-2.ensures.front

@@ -5,30 +5,30 @@ use Rattle.process_api.specs.{Mind.{Coordinating}, React.{react_algorithm}}
 use Rattle.consensus_es.specs.Inside.Steps.{place_of, algorithm_of}
 use Rattle.consensus_es.proofs.consensus.EsConsensusAlgorithm.take.Goals as goal
 
-pub invariant_of-self : goal.invariant_of-self
-invariant_of-self c =
+pub invariant_of-self-2 : goal.invariant_of-self-2
+invariant_of-self-2 c =
     let m = c.args.self.now.membership in
     let s = state_of c.args.self.now.progress in
     let few = step_few m.processes m.own m.from_one m.one_of_them (set.contains c.args.suspects.now) (not-true _ c.requires) c.args.input.now s (c.args.self.now.orderly c.if-self.false) in
-    record { orderly = λ alive. subst (IsOrderly m.processes m.own) (sym c.in-Ok.ensures.state) few.0 }
+    record { orderly = λ alive. subst (IsOrderly m.processes m.own) (sym c.in_ok-take.ensures.state) few.0 }
 
-pub returns-in-Ok-clause-state : goal.returns-in-Ok-clause-state
+pub returns-clause-state : goal.returns-clause-state
 unfolding react_algorithm
-returns-in-Ok-clause-state c = ap (Coordinating (place_of c.args.self.now)) c.in-Ok.ensures.state
+returns-clause-state c = ap (Coordinating (place_of c.args.self.now)) c.in_ok-take.ensures.state
 
-pub returns-in-Ok-clause-actions : goal.returns-in-Ok-clause-actions
+pub returns-clause-actions : goal.returns-clause-actions
 unfolding react_algorithm
-returns-in-Ok-clause-actions c = c.in-Ok.ensures.actions
+returns-clause-actions c = c.in_ok-take.ensures.actions
 
-pub returns-in-Ok-clause-allowed : goal.returns-in-Ok-clause-allowed
-returns-in-Ok-clause-allowed c =
+pub returns-clause-allowed : goal.returns-clause-allowed
+returns-clause-allowed c =
     let m = c.args.self.now.membership in
     let place = place_of c.args.self.now in
     algorithm_allowed place (algorithm_of c.args.self.now) c.args.input.now c.args.suspects.now (omega (arith, m.from_one, m.one_of_them)) (same_itself place)
 
-pub returns-in-Ok-clause-few : goal.returns-in-Ok-clause-few
+pub returns-clause-few : goal.returns-clause-few
 unfolding react_algorithm
-returns-in-Ok-clause-few c =
+returns-clause-few c =
     let m = c.args.self.now.membership in
     let s = state_of c.args.self.now.progress in
     let q = set.contains c.args.suspects.now in

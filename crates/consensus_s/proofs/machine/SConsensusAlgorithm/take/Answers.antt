@@ -4,8 +4,8 @@ use Rattle.process_api.proofs.Allowed.{exchange_allowed}
 use Rattle.{process_api.specs.{Answer.{IsAllowed}, React.{react_algorithm}}, consensus_s.specs.State.{exchange_of}}
 use Rattle.consensus_s.proofs.machine.SConsensusAlgorithm.take.Goals as goal
 
-pub returns-in-Ok-clause-allowed : goal.returns-in-Ok-clause-allowed
+pub returns-clause-allowed : goal.returns-clause-allowed
 unfolding react_algorithm
-returns-in-Ok-clause-allowed c =
+returns-clause-allowed c =
     let o = c.args.self.now.opening in
     All-from_recursion (IsAllowed o.processes) _ (exchange_allowed o.processes o.own (set.contains c.args.suspects.now) c.args.input.now (exchange_of c.args.self.now.exchange))

@@ -13,5 +13,5 @@ returns c group =
     let count : c.from.result ≡ cond c.is_shared.result 1 0 = search rules in
     record {
       first = c.of_nothing.ensures.limited refl group 1 S (has_first S);
-      second = second group S c.of_nothing-2.result c.is_shared.result c.from.result c.is_shared.ensures.value count c.of_nothing-2.ensures.limited c.of_nothing-2.ensures.none;
+      second = second group S c.of_nothing-2.result c.is_shared.result c.from.result c.is_shared.ensures count c.of_nothing-2.ensures.limited c.of_nothing-2.ensures.none;
     }

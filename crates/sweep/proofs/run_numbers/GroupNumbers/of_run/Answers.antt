@@ -21,7 +21,7 @@ returns-in-None c found =
     let S = c.args.scenario.now in
     let f = c.args.findings.now in
     record {
-      first = c.in_ok-first-in-None.ensures found.trace (has_first S) (layer_found S f c.args.durations.now c.args.trusts.now found c.is_shared-shared.ensures.ranges 1 f.first c.deref.result.now
+      first = c.in_ok-first-in-None.ensures found.trace (has_first S) (layer_found S f c.args.durations.now c.args.trusts.now found c.recall_ranges.ensures 1 f.first c.deref.result.now
           found.measured.first (c.deref.ensures.value ∙ first_alone S found.trace f found.measured c.in-None.is)) found.lasted.first found.trusted;
       second = c.of_nothing-second.ensures.none refl c.args.group.now 2 (done_run S found.trace) (has_second S ∙ alone S found.trace f found.measured c.in-None.is);
     }
@@ -39,7 +39,7 @@ returns c found =
     let all : c.deref-2.result.now ≡ one ++ two = c.deref-2.ensures.value ∙ both_layers S found.trace f found.measured v c.in-Some.is in
     let front : c.split_at.result.0.now ≡ one = c.split_at.ensures.front ∙ ap (λ n. take n c.deref-2.result.now) place ∙ ap (take (length one)) all ∙ take-append_seam one two in
     let back : c.split_at.result.1.now ≡ two = c.split_at.ensures.back ∙ ap (λ n. drop n c.deref-2.result.now) place ∙ ap (drop (length one)) all ∙ drop-append_seam one two in
-    let ranges = c.is_shared-shared.ensures.ranges in
+    let ranges = c.recall_ranges.ensures in
     record {
       first = c.in_ok-first.ensures found.trace (has_first S) (layer_found S f c.args.durations.now c.args.trusts.now found ranges 1 f.first c.split_at.result.0.now found.measured.first front) found.lasted.first found.trusted;
       second = c.in_ok-second.ensures found.trace (has_second S ∙ is.0) (layer_found S f c.args.durations.now c.args.trusts.now found ranges 2 v c.split_at.result.1.now is.1 back) (found.lasted.second is.0) found.trusted;
