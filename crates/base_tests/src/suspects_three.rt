@@ -9,7 +9,7 @@ use std::alloc::AllocError;
 /// takes, and answers `Err` to all else, and at tick 6.
 #[derive(Drop)]
 pub struct SuspectsThree {
-    pub failed: bool,
+    pub has_failed: bool,
 }
 
 /// Alive to 2 and 3, and the next Beat wake.
@@ -35,7 +35,7 @@ impl Detector for SuspectsThree {
       reduction = None;
     } };
 
-    ghost has_failed = { λ s. s.failed };
+    ghost has_failed = { λ s. s.has_failed };
 
     #[tactic(auto, unfolding(process_api::specs::React::react_lower, process_api::specs::Detector::step_detector))]
     fn take(
@@ -44,10 +44,10 @@ impl Detector for SuspectsThree {
         input: &StepInput,
         out: &mut Vec<Action>,
     ) -> Result<(), AllocError> {
-        if self.failed {
+        if self.has_failed {
             return Err(AllocError);
         }
-        self.failed = true;
+        self.has_failed = true;
         if now == 6 {
             return Err(AllocError);
         }
@@ -64,7 +64,7 @@ impl Detector for SuspectsThree {
             },
             StepInput::Wake(_) => return Err(AllocError),
         }
-        self.failed = false;
+        self.has_failed = false;
         Ok(())
     }
 

@@ -35,7 +35,7 @@ impl EsConsensus {
     pub fn open(alloc: Global, opening: &Opening) -> Result<EsConsensus, AllocError>
         requires { IsSome opening.now.proposal }
         ensures opens { IfOk result (λ c. ⟦<EsConsensus as Algorithm>⟧.state c ≡ opening_algorithm opening.now) }
-        ensures works { IfOk result (λ c. ⟦<EsConsensus as Algorithm>⟧.has_failed c ≡ false) }
+        ensures alive { IfOk result (λ c. ⟦<EsConsensus as Algorithm>⟧.has_failed c ≡ false) }
     {
         Ok(EsConsensus {
             membership: Membership::new(opening.own, opening.processes),
@@ -47,11 +47,11 @@ impl EsConsensus {
 }
 
 impl Algorithm for EsConsensus {
-    ghost use Rattle.consensus_es.specs.Inside.Steps.{algorithm_of, answered_err};
+    ghost use Rattle.consensus_es.specs.Inside.Steps.{algorithm_of};
 
     ghost state = { algorithm_of };
 
-    ghost has_failed = { answered_err };
+    ghost has_failed = { λ c. c.has_failed };
 
     fn take(
         &mut self,
@@ -63,7 +63,7 @@ impl Algorithm for EsConsensus {
         if self.has_failed {
             return Err(AllocError);
         }
-        // so it stays where the step answers `Err`
+        // stays so where the step answers an error
         self.has_failed = true;
         self.progress.take(&self.membership, input, suspects, out)?;
         self.has_failed = false;

@@ -18,7 +18,7 @@ pub struct SConsensus {
 
 impl SConsensus {
     ghost use Rattle.std.specs.Prelude.{IsSome, IfOk};
-    ghost use Rattle.consensus_s.specs.Machine.{opening_algorithm, state_of, is_failed};
+    ghost use Rattle.consensus_s.specs.Machine.{opening_algorithm, state_of};
 
     /// The algorithm of a process that has a proposal, before its start.
     ///
@@ -28,7 +28,7 @@ impl SConsensus {
     pub fn open(alloc: Global, opening: &Opening) -> Result<SConsensus, AllocError>
         requires { IsSome opening.now.proposal }
         ensures state { IfOk result (λ s. state_of s ≡ opening_algorithm opening.now) }
-        ensures alive { IfOk result (λ s. is_failed s ≡ false) }
+        ensures alive { IfOk result (λ s. ⟦<SConsensus as Algorithm>⟧.has_failed s ≡ false) }
     {
         let proposal = opening.proposal.unwrap();
         let exchange = Exchange::open(alloc, opening, proposal)?;
@@ -41,11 +41,11 @@ impl SConsensus {
 }
 
 impl Algorithm for SConsensus {
-    ghost use Rattle.consensus_s.specs.Machine.{state_of, is_failed};
+    ghost use Rattle.consensus_s.specs.Machine.{state_of};
 
     ghost state = { state_of };
 
-    ghost has_failed = { is_failed };
+    ghost has_failed = { λ s. s.has_failed };
 
     #[tactic(auto, unfolding(process_api::specs::React::react_algorithm))]
     fn take(
@@ -58,7 +58,7 @@ impl Algorithm for SConsensus {
         if self.has_failed {
             return Err(AllocError);
         }
-        // so it stays where the step answers `Err`
+        // stays so where the step answers an error
         self.has_failed = true;
         self.exchange.step(&self.opening, input, suspects, out)?;
         self.has_failed = false;

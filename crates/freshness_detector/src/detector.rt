@@ -44,7 +44,7 @@ impl FreshnessDetector {
     pub fn open(alloc: Global, opening: &Opening) -> Result<FreshnessDetector, AllocError>
         requires kind { IsTrue (is_freshness opening.now.detector) }
         ensures opens { IfOk result (λ d. ⟦<FreshnessDetector as Detector>⟧.lower d ≡ base_of opening.now) }
-        ensures works { IfOk result (λ d. ⟦<FreshnessDetector as Detector>⟧.has_failed d ≡ false) }
+        ensures alive { IfOk result (λ d. ⟦<FreshnessDetector as Detector>⟧.has_failed d ≡ false) }
     {
         let DetectorNumbers::Freshness(numbers) = opening.detector else {
             unreachable!()
@@ -201,7 +201,7 @@ impl Detector for FreshnessDetector {
         if self.has_failed {
             return Err(AllocError);
         }
-        // so it stays where the step answers `Err`
+        // stays so where the step answers an error
         self.has_failed = true;
         self.step(input, out)?;
         self.has_failed = false;

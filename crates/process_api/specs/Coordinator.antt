@@ -3,14 +3,14 @@
 -- who receives one for the first time passes it on.
 use Rattle.std.specs.Prelude.{ℕ, zero, suc, ◌+◌, ◌-◌, ◌*◌, Bool, true, false, not, ◌&&◌, nat_eq, nat_le, nat_lt, if◌then◌else◌, [], ◌∷◌, ◌++◌, Option, None, Some, is_some, unwrap_or, List, ◌/◌, ◌%◌}
 use Rattle.process_api.specs.{Answer.{Answer, still, after, to_all}, Rows.{keep_one}}
-use Rattle.process_api.specs.declared.{consensus.{Estimate.{Estimate}, Phase.{Phase, TheVariants.{Opening, Collect, Await, Tally, Decided, Ended}}, TheConstants.{GREATEST_ROUND}}, message.{Payload.{Payload}, StepInput.{StepInput}}, action.Action.{Action}}
+use Rattle.process_api.specs.declared.{consensus.{Estimate.{Estimate}, Phase.{Phase, TheVariants.{Opening, Collect, Await, Tally, Decided, Ended}}}, message.{Payload.{Payload}, StepInput.{StepInput}}, action.Action.{Action}}
 use Rattle.process_api.specs.declared.action.Action.TheVariants as action
 use Rattle.process_api.specs.declared.action.Note.TheVariants as note
 use Rattle.process_api.specs.declared.message.Payload.TheVariants as payload
 use Rattle.process_api.specs.declared.message.StepInput.TheVariants as input
 
 abbrev pub greatest_round : ℕ
-greatest_round = GREATEST_ROUND
+greatest_round = 1_000_000_000_000
 
 -- the coordinator of a round, of n processes
 abbrev pub coordinator : ℕ → ℕ → ℕ

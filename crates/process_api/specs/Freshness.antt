@@ -5,7 +5,7 @@
 use Rattle.std.specs.Prelude.{ℕ, ◌+◌, min, Bool, false, not, ◌&&◌, ◌||◌, nat_le, if◌then◌else◌, List, [], ◌∷◌, ◌++◌, map, filter}
 use Rattle.std.specs.FinSet as set
 use Rattle.process_api.specs.{Place.{numbers_to, change, Place, is_watched}, Sets.{Processes, insert_all, changes}, Answer.{Answer, still, to_others}}
-use Rattle.process_api.specs.declared.{action.Action.{Action}, message.StepInput.{StepInput}, numbers.{FreshnessNumbers.{FreshnessNumbers}, TheConstants.{GREATEST_COUNT}}}
+use Rattle.process_api.specs.declared.{action.Action.{Action}, message.StepInput.{StepInput}, numbers.FreshnessNumbers.{FreshnessNumbers}}
 use Rattle.process_api.specs.declared.action.Action.TheVariants as action
 use Rattle.process_api.specs.declared.message.Payload.TheVariants as payload
 use Rattle.process_api.specs.declared.message.StepInput.TheVariants as input
@@ -23,7 +23,7 @@ opening_freshness = record { sent = 0; reached = 0; came = λ q i. false }
 
 -- the next heartbeat or point: they are counted up to the greatest count, and stay there
 abbrev pub next : ℕ → ℕ
-next i = min (i + 1) GREATEST_COUNT
+next i = min (i + 1) 1_000_000_000_000
 
 module _ (place : Place) (numbers : FreshnessNumbers) where
   abbrev pub watches : ℕ → Bool

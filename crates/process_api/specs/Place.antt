@@ -1,6 +1,6 @@
 -- Where a process stands.
 use Rattle.std.specs.Prelude.{ℕ, Bool, ◌&&◌, nat_eq, zero, suc, not, nat_le, List, [], ◌∷◌, ◌++◌, filter, if◌then◌else◌, ◌+◌, ◌%◌, true}
-use Rattle.process_api.specs.declared.{numbers.{Watch.{Watch, TheVariants.{All, Next}}, TheConstants.{MOST_TICKS, LAST_TICK}}, pid.TheConstants.{MOST_PROCESSES}}
+use Rattle.process_api.specs.declared.{numbers.Watch.{Watch, TheVariants.{All, Next}}, pid.TheConstants.{MOST_PROCESSES}}
 
 -- its own number, how many processes there are, and the tick at which the run ends
 pub record Place : Type 0 where
@@ -50,11 +50,11 @@ most_processes = MOST_PROCESSES
 
 -- ticks of a delay, a period, a time-out or the lookahead
 abbrev pub most_ticks : ℕ
-most_ticks = MOST_TICKS
+most_ticks = 1_000_000
 
 -- the last tick of a horizon, a crash or an outage
 abbrev pub last_tick : ℕ
-last_tick = LAST_TICK
+last_tick = 10_000_000
 
 -- actions of a detector of layer 1
 abbrev pub most_first_actions : ℕ

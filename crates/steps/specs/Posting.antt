@@ -1,8 +1,7 @@
 -- The letters that a run puts on the links between different processes.
 use Rattle.std.specs.Prelude.{◌≡◌, ℕ, ◌+◌, if◌then◌else◌, List, [], ◌∷◌, ◌++◌, nat_eq}
-use Rattle.process_api.specs.declared.{action.Action.{Action}, key.Key.{Key}, message.{Payload.{Payload}, StepInput.{StepInput}}}
 use Rattle.process_api.specs.declared.action.Action.TheVariants as action
-use Rattle.{streams.specs.declared.fate.Fate.{Fate}, trace_laws.specs.{Taken.{HaveJoined}, Setting.{Setting, has_crashed}, Step.{Process, counted}, World.{World, Pair, Run, opening, taken}}}
+use Rattle.{process_api.specs.declared.{action.Action.{Action}, key.Key.{Key}, message.{Payload.{Payload}, StepInput.{StepInput}}}, streams.specs.declared.fate.Fate.{Fate}, trace_laws.specs.{Taken.{HaveJoined}, Setting.{Setting, has_crashed}, Step.{Process, counted}, World.{World, Pair, Run, opening, taken}}}
 
 -- a letter to another process: its key on its link, at the tick when it is sent, what it says, and its fate there
 pub record Posted : Type 0 where

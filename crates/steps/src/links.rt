@@ -2,12 +2,13 @@
 ghost use Rattle.std.specs.{Prelude.{◌≡◌, ◌≢◌, ◌≤◌, ◌<◌, ◌+◌, ◌^◌, ◌++◌, ◌∷◌, [], ℕ, IfNone, IfOk, IfSome, OnOk, length, replicate, vec_len, vec_capacity}, List.{AllByRecursion}};
 ghost use Rattle.{process_api.specs.{Answer.{IsAllowed}, Place.{most_step_actions}}, streams.specs.Fate.{fate_of}};
 ghost use Rattle.trace_laws.specs.{Taken.{HaveJoined, Serves, StillServes}, Step.{raised, in_time, counted, joining, lost_by, counts_after, added as added_by}};
-ghost use Rattle.steps.specs.{Posting.{posting, posted_by}, Inside.Links.{later, wake_key, in_step, with_action, entry_of}, Seat.{count_of}};
+ghost use Rattle.steps.specs.{Posting.{posting, posted_by}, Inside.Links.{later, wake_key, in_step, with_action, done_by, entry_of}, Seat.{count_of}};
 
 use crate::listener::Listener;
 use process_api::{Action, Entry, Key, Kind, Note, Payload, Pid, StepInput, Tag};
 use scenario_record::Scenario;
 use std::alloc::{AllocError, Global};
+use std::marker::Model;
 use streams::{Fate, SenderWords, Streams};
 use trace_laws::{Event, Joins};
 
@@ -19,6 +20,40 @@ pub struct Links {
     // by receiver; place 0 is unused
     counts: Vec<u64>,
     words: SenderWords,
+}
+
+/// What a step did.
+#[derive(Drop)]
+pub struct Done {
+    // letters that it put on links, those to itself and lost ones too
+    sent: u32,
+    // how many of these were lost
+    lost: u32,
+    notes: Vec<Note>,
+}
+
+impl Model for Done {
+    ghost use Rattle.steps.specs.Inside.Links.{DoneRecord};
+
+    ghost Value = { DoneRecord };
+
+    ghost view = { λ d. record { sent = d.sent; lost = d.lost; notes = d.notes.items } };
+}
+
+impl Done {
+    /// The entry of the step, which took the event of this key.
+    #[inline(always)]
+    pub fn entry(self, key: &Key, kind: Kind) -> Entry
+        ensures { result ≡ entry_of key.now kind self }
+    {
+        Entry {
+            key: *key,
+            kind,
+            sent: self.sent,
+            lost: self.lost,
+            notes: self.notes,
+        }
+    }
 }
 
 /// The key of what is due so many ticks after it was sent, where that is below the horizon.
@@ -67,14 +102,12 @@ impl Links {
         })
     }
 
-    /// The entry of an event by which nothing was put on any link yet, and nothing noted.
+    /// What a step did that put nothing on any link yet, and noted nothing.
     #[inline(always)]
-    pub fn empty_entry(&self, key: Key, kind: Kind) -> Entry
-        ensures { result ≡ record { key = key; kind = kind; sent = 0; lost = 0; notes = [] } }
+    pub fn nothing_done(&self) -> Done
+        ensures { result ≡ record { sent = 0; lost = 0; notes = [] } }
     {
-        Entry {
-            key,
-            kind,
+        Done {
             sent: 0,
             lost: 0,
             notes: Vec::new(*self.counts.allocator()),
@@ -203,7 +236,7 @@ impl Links {
         added.add(Event::wake(key, tag))
     }
 
-    /// Does what one action of the step of `key` says; what is left in its place means nothing. The step's entry
+    /// Does what one action of the step of `key` says; what is left in its place means nothing. What the step did
     /// counts a letter that is put on a link, and one that is lost, and takes a note.
     #[inline(always)]
     fn act<J: Joins, L: Listener>(
@@ -213,13 +246,13 @@ impl Links {
         action: &mut Action,
         added: &mut J,
         listener: &mut L,
-        entry: &mut Entry,
+        done: &mut Done,
     ) -> Result<(), AllocError>
         requires horizon { self.old.horizon ≡ streams.now.horizon }
         requires places { vec_len self.old.counts ≡ streams.now.processes + 1 }
         requires own { key.now.receiver ≤ streams.now.processes }
         requires room { (q : ℕ) → count_of self.old.counts.items q + 1 < 2 ^ 64 }
-        requires few { (entry.old.sent + 1 < 2 ^ 32) × (entry.old.lost + 1 < 2 ^ 32) }
+        requires few { (done.old.sent + 1 < 2 ^ 32) × (done.old.lost + 1 < 2 ^ 32) }
         requires allowed { IsAllowed streams.now.processes action.old }
         requires serves { Serves J.serves added.old key.now.receiver streams.now.processes }
 
@@ -232,61 +265,60 @@ impl Links {
             (in_step self.old key.now streams.now joining action.old)) }
         ensures heard { OnOk result (HaveJoined L.heard listener.old listener.new
             (in_step self.old key.now streams.now posting action.old)) }
-        ensures entry { OnOk result (entry.new ≡ with_action self.old key.now streams.now entry.old action.old) }
+        ensures done { OnOk result (done.new ≡ with_action self.old key.now streams.now done.old action.old) }
     {
         match action {
             Action::Send { to, payload } => {
-                entry.sent += 1;
-                entry.lost += self.post(streams, *key, *to, payload, added, listener)?;
+                done.sent += 1;
+                done.lost += self.post(streams, *key, *to, payload, added, listener)?;
                 Ok(())
             }
             &mut Action::Wake { pause, tag } => self.set_wake(*key, pause, tag, added),
             &mut Action::Note(note) => {
-                make_room(&mut entry.notes)?;
-                entry.notes.push_reserved(note);
+                make_room(&mut done.notes)?;
+                done.notes.push_reserved(note);
                 Ok(())
             }
         }
     }
 
     /// Does what the actions of the step of `key` say, in their order, adds the events that join, tells the listener of
-    /// the letters to other processes, and makes the step's entry. The actions are used up: what is in their places
+    /// the letters to other processes, and answers what the step did. The actions are used up: what is in their places
     /// then means nothing.
     pub fn perform<J: Joins, L: Listener>(
         &mut self,
         streams: &Streams<'_>,
-        key: Key,
-        kind: Kind,
+        key: &Key,
         actions: &mut Vec<Action>,
         added: &mut J,
         listener: &mut L,
-    ) -> Result<Entry, AllocError>
+    ) -> Result<Done, AllocError>
         requires horizon { self.old.horizon ≡ streams.now.horizon }
         requires places { vec_len self.old.counts ≡ streams.now.processes + 1 }
-        requires own { key.receiver ≤ streams.now.processes }
+        requires own { key.now.receiver ≤ streams.now.processes }
         requires room { (q : ℕ) → count_of self.old.counts.items q + most_step_actions < 2 ^ 64 }
         requires allowed { AllByRecursion (IsAllowed streams.now.processes) actions.old.items }
         requires few { length actions.old.items ≤ most_step_actions }
-        requires serves { Serves J.serves added.old key.receiver streams.now.processes }
+        requires serves { Serves J.serves added.old key.now.receiver streams.now.processes }
 
         ensures serves { StillServes J.serves added.old added.new }
         ensures counts { OnOk result (count_of self.new.counts.items
-            ≡ counts_after key.receiver (count_of self.old.counts.items) actions.old.items) }
+            ≡ counts_after key.now.receiver (count_of self.old.counts.items) actions.old.items) }
         ensures places { OnOk result (vec_len self.new.counts ≡ vec_len self.old.counts) }
         ensures horizon { OnOk result (self.new.horizon ≡ self.old.horizon) }
         ensures room { OnOk result ((q : ℕ)
             → count_of self.new.counts.items q ≤ count_of self.old.counts.items q + most_step_actions) }
         ensures added { OnOk result (HaveJoined J.grown added.old added.new
-            (in_step self.old key streams.now added_by actions.old.items)) }
+            (in_step self.old key.now streams.now added_by actions.old.items)) }
         ensures heard { OnOk result (HaveJoined L.heard listener.old listener.new
-            (in_step self.old key streams.now posted_by actions.old.items)) }
-        ensures entry { IfOk result (λ e. e ≡ entry_of self.old key streams.now kind actions.old.items) }
+            (in_step self.old key.now streams.now posted_by actions.old.items)) }
+        ensures done { IfOk result (λ d. d ≡ done_by self.old key.now streams.now actions.old.items) }
     {
-        let mut entry = self.empty_entry(key, kind);
+        let mut done = self.nothing_done();
         for place in 0..actions.len() {
             let action = &mut actions[place];
-            self.act(streams, &key, action, added, listener, &mut entry)?;
+            self.act(streams, key, action, added, listener, &mut done)?;
         }
-        Ok(entry)
+        Ok(done)
     }
 }

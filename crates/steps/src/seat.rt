@@ -129,13 +129,14 @@ impl<M: Process> Seat<M> {
     {
         let (key, input) = event;
         if is_down(self.crash, key.tick) {
-            return Ok(self.links.empty_entry(key, Kind::Dead));
+            return Ok(self.links.nothing_done().entry(&key, Kind::Dead));
         }
         let kind = kind_of(&input);
         actions.clear();
         self.machine.on_input(key.tick, &input, actions)?;
         drop(input);
         let links = &mut *self.links;
-        links.perform(streams, key, kind, actions, added, listener)
+        let done = links.perform(streams, &key, actions, added, listener)?;
+        Ok(done.entry(&key, kind))
     }
 }

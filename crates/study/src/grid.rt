@@ -142,7 +142,7 @@ impl Grid {
         ensures some_run { 1 ≤ length (runs self.now) }
         ensures runs { length (runs self.now) ≤ 1000000000000 }
     {
-        // The readers say it.
+        // The readers promise these ranges.
         let _points = self.points();
         let _runs = self.runs();
     }

@@ -148,8 +148,8 @@ fn check_runs<R: Threads + Sync + Clock, W: Watcher>(
     Ok(())
 }
 
-/// Reads the scenarios of all runs of a shard's points, by the study's threads. They have the processes that the layout's
-/// groups name. The watcher hears how many are read. At the end it takes away what it shows.
+/// Reads the scenarios of all runs of a shard's points, by the study's threads. The scenarios have the processes that
+/// the layout's groups name. The watcher hears how many are read. At the end it takes away what it shows.
 ///
 /// # Errors
 ///

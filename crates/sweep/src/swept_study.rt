@@ -14,6 +14,6 @@ pub struct SweptStudy<'a> {
     pub shard: Shard,
     /// What the rows tell of, and their columns.
     pub layout: &'a Layout,
-    /// How many threads share its runs, 1 at least.
+    /// How many threads share its runs; 0 counts as 1.
     pub threads: u8,
 }

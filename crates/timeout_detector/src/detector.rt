@@ -40,7 +40,7 @@ impl TimeoutDetector {
     pub fn open(alloc: Global, opening: &Opening) -> Result<TimeoutDetector, AllocError>
         requires kind { IsTrue (is_timeout opening.now.detector) }
         ensures opens { IfOk result (λ d. ⟦<TimeoutDetector as Detector>⟧.lower d ≡ base_of opening.now) }
-        ensures works { IfOk result (λ d. ⟦<TimeoutDetector as Detector>⟧.has_failed d ≡ false) }
+        ensures alive { IfOk result (λ d. ⟦<TimeoutDetector as Detector>⟧.has_failed d ≡ false) }
     {
         let DetectorNumbers::Timeout(numbers) = opening.detector else {
             unreachable!()
@@ -193,7 +193,7 @@ impl Detector for TimeoutDetector {
         if self.has_failed {
             return Err(AllocError);
         }
-        // so it stays where the step answers `Err`
+        // stays so where the step answers an error
         self.has_failed = true;
         self.step(now, input, out)?;
         self.has_failed = false;

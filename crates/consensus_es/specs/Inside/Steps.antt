@@ -58,7 +58,3 @@ place_of c = record { own = c.membership.own; processes = c.membership.processes
 
 abbrev pub algorithm_of : EsConsensus → AlgorithmState
 algorithm_of c = Coordinating (place_of c) (state_of c.progress)
-
--- a call has answered Err
-abbrev pub answered_err : EsConsensus → Bool
-answered_err c = c.has_failed

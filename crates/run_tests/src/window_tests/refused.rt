@@ -18,7 +18,7 @@ use windows::{OpenGate, Plan, run_windows};
 #[derive(Drop)]
 struct Refused {
     machine: Machine,
-    failed: bool,
+    has_failed: bool,
     limit: u64,
     taken: Arc<AtomicU64, Global>,
 }
@@ -26,7 +26,7 @@ struct Refused {
 impl Process for Refused {
     ghost mind = { λ r. ⟦<Machine as Process>⟧.mind r.machine };
 
-    ghost has_failed = { λ r. r.failed };
+    ghost has_failed = { λ r. r.has_failed };
 
     fn pid(&self) -> Pid {
         self.machine.pid()
@@ -38,20 +38,20 @@ impl Process for Refused {
         input: &StepInput,
         out: &mut Vec<Action>,
     ) -> Result<(), AllocError> {
-        if self.failed {
+        if self.has_failed {
             return Err(AllocError);
         }
-        self.failed = true;
+        self.has_failed = true;
         if self.taken.fetch_add(1, Ordering::SeqCst) >= self.limit {
             return Err(AllocError);
         }
         self.machine.on_input(now, input, out)?;
-        self.failed = false;
+        self.has_failed = false;
         Ok(())
     }
 
-    fn failed(&self) -> bool {
-        self.failed
+    fn has_failed(&self) -> bool {
+        self.has_failed
     }
 }
 
@@ -77,7 +77,7 @@ pub fn boxed_machines(
     for before in 0..scenario.processes() {
         let refused = Refused {
             machine: Machine::open(alloc, &scenario.opening(Pid::after(before)))?,
-            failed: false,
+            has_failed: false,
             limit,
             taken: Arc::try_clone(taken)?,
         };
@@ -136,7 +136,7 @@ fn refused_again(rt: HostRuntime) {
     let count = out.len();
     for now in 1..4 {
         let answer = first.on_input(now, &StepInput::Start, &mut out);
-        assert!(rt; answer.is_err() && first.failed());
+        assert!(rt; answer.is_err() && first.has_failed());
     }
     same(&rt, &out.len(), &count);
 }

@@ -5,8 +5,8 @@ use Rattle.steps.proofs.links.Links.perform.Goals as goal
 pub loop-place-preserved : goal.loop-place-preserved
 loop-place-preserved h c =
     let S = setting_of c.args.streams.now in
-    let p = c.args.key.receiver in
-    let now = c.args.key.tick in
+    let p = c.args.key.now.receiver in
+    let now = c.args.key.now.tick in
     let all = c.args.actions.now.items in
     let before = count_of c.args.self.now.counts.items in
     let old = c.loop-place.actions.items in
@@ -18,10 +18,10 @@ loop-place-preserved h c =
     let f = count_of c.loop-place.self.counts.items in
     let g = count_of c.act.new.self.counts.items in
     let i = c.loop-place.invariant in
-    let was = c.loop-place.entry in
-    let is = c.act.new.entry in
+    let was = c.loop-place.done in
+    let is = c.act.new.done in
     let done = c.in_ok-act.ensures in
-    let entry = done.entry in
+    let more = done.done in
     let done_serves = c.act.ensures.serves in
     record {
       many = length-set old place c.act.new.action ∙ i.many;
@@ -32,12 +32,10 @@ loop-place-preserved h c =
       serves = λ first own n h. done_serves first own n (i.serves first own n h);
       added = one_joined all rest left a e p before f g done.counts h.J.Joins.grown (added S p now) (joining S p now f a) refl c.args.added.now c.loop-place.added c.act.new.added done.added i.added;
       heard = one_joined all rest left a e p before f g done.counts h.L.Listener.heard (posted_by S p now) (posting S p now f a) refl c.args.listener.now c.loop-place.listener c.act.new.listener done.heard i.heard;
-      key = ap (λ x. x.key) entry ∙ i.key;
-      kind = ap (λ x. x.kind) entry ∙ i.kind;
-      sent = one_sent all rest left a e was.sent is.sent (ap (λ x. x.sent) entry) i.sent;
-      lost = one_lost all rest left a e p before f g done.counts S now was.lost is.lost (ap (λ x. x.lost) entry) i.lost;
-      notes = one_noted all rest left a e was.notes is.notes (ap (λ x. x.notes) entry) i.notes;
+      sent = one_sent all rest left a e was.sent is.sent (ap (λ x. x.sent) more) i.sent;
+      lost = one_lost all rest left a e p before f g done.counts S now was.lost is.lost (ap (λ x. x.lost) more) i.lost;
+      notes = one_noted all rest left a e was.notes is.notes (ap (λ x. x.notes) more) i.notes;
       allowed = one_allowed all rest left a e (IsAllowed c.args.streams.now.processes) i.allowed;
-      sent_few = one_sent_few all rest left a e was.sent is.sent (ap (λ x. x.sent) entry) i.sent_few;
-      lost_few = one_lost_few all rest left a e p before f g done.counts S now was.lost is.lost (ap (λ x. x.lost) entry) i.lost_few;
+      sent_few = one_sent_few all rest left a e was.sent is.sent (ap (λ x. x.sent) more) i.sent_few;
+      lost_few = one_lost_few all rest left a e p before f g done.counts S now was.lost is.lost (ap (λ x. x.lost) more) i.lost_few;
     }

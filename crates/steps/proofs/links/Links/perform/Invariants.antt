@@ -20,12 +20,10 @@ invariant-loop-place g l =
       serves : StillServes g.J.Joins.serves l.fn.added l.added;
       added : Joined g.J.Joins.grown l.fn.added l.added (added S p now here rest) (added S p now before all);
       heard : Joined g.L.Listener.heard l.fn.listener l.listener (posted_by S p now here rest) (posted_by S p now before all);
-      key : l.entry.key ≡ l.fn.key;
-      kind : l.entry.kind ≡ l.fn.kind;
-      sent : l.entry.sent + sent rest ≡ sent all;
-      lost : l.entry.lost + lost S p now here rest ≡ lost S p now before all;
-      notes : l.entry.notes ++ noted rest ≡ noted all;
+      sent : l.done.sent + sent rest ≡ sent all;
+      lost : l.done.lost + lost S p now here rest ≡ lost S p now before all;
+      notes : l.done.notes ++ noted rest ≡ noted all;
       allowed : AllByRecursion (IsAllowed l.fn.streams.processes) rest;
-      sent_few : l.entry.sent + length rest ≤ length all;
-      lost_few : l.entry.lost + length rest ≤ length all;
+      sent_few : l.done.sent + length rest ≤ length all;
+      lost_few : l.done.lost + length rest ≤ length all;
     }
