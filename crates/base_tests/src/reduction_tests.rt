@@ -10,7 +10,7 @@ use std::process::Abort;
 /// The reduction over the detector that suspects 3, with a share every 4 ticks, suspects and does what the rows say.
 fn reduces(rt: &impl Abort, alloc: Global, rows: &[Row]) {
     let opening = opening_of(rt, 1, 3, 10, TIMEOUTS, Some(4), AlgorithmKind::Idle, None);
-    let mut machine = Reduced::open(SuspectsThree { failed: false }, &opening);
+    let mut machine = Reduced::open(SuspectsThree { has_failed: false }, &opening);
     drive_detector(rt, alloc, &mut machine, rows);
 }
 

@@ -57,7 +57,7 @@ fn hands_the_top_layer_to_the_algorithm_last(rt: HostRuntime) {
     let alloc = rt.alloc();
     let kind = AlgorithmKind::EventuallyStrong;
     let opening = opening_of(&rt, 1, 3, 10, TIMEOUTS, Some(4), kind, Some(10));
-    let detector = Reduced::open(SuspectsThree { failed: false }, &opening);
+    let detector = Reduced::open(SuspectsThree { has_failed: false }, &opening);
     let algorithm = EsConsensus::open(alloc, &opening).expect(&rt, NO_MEMORY);
     let mut machine = Stack::new(opening.own, detector, algorithm);
     drive_process(&rt, alloc, &mut machine, TOP_LAYER);
@@ -89,7 +89,11 @@ fn runs_boxed_and_fails_for_good(rt: HostRuntime) {
         (6, Start, true, 4),
         (10, Beat, true, 4),
     ];
-    let stack = Stack::new(Pid::after(0), SuspectsThree { failed: false }, NoAlgorithm);
+    let stack = Stack::new(
+        Pid::after(0),
+        SuspectsThree { has_failed: false },
+        NoAlgorithm,
+    );
     let mut machine: Box<dyn Process> = Box::new(rt.alloc(), stack).expect(&rt, NO_MEMORY);
     fails(&rt, rt.alloc(), &mut machine, ROWS);
 }
@@ -102,6 +106,10 @@ fn fails_over_a_failed_part(rt: HostRuntime) {
         (2, Start, true, 1),
         (5, Beat, true, 1),
     ];
-    let mut machine = Stack::new(Pid::after(0), SuspectsThree { failed: true }, NoAlgorithm);
+    let mut machine = Stack::new(
+        Pid::after(0),
+        SuspectsThree { has_failed: true },
+        NoAlgorithm,
+    );
     fails(&rt, rt.alloc(), &mut machine, ROWS);
 }

@@ -50,7 +50,7 @@ impl Process for Refused {
         Ok(())
     }
 
-    fn has_failed(&self) -> bool {
+    fn failed(&self) -> bool {
         self.has_failed
     }
 }
@@ -136,7 +136,7 @@ fn refused_again(rt: HostRuntime) {
     let count = out.len();
     for now in 1..4 {
         let answer = first.on_input(now, &StepInput::Start, &mut out);
-        assert!(rt; answer.is_err() && first.has_failed());
+        assert!(rt; answer.is_err() && first.failed());
     }
     same(&rt, &out.len(), &count);
 }
