@@ -63,7 +63,7 @@ impl Algorithm for EsConsensus {
         if self.has_failed {
             return Err(AllocError);
         }
-        // stays so where the step answers an error
+        // it stays true where the step answers `Err`
         self.has_failed = true;
         self.progress.take(&self.membership, input, suspects, out)?;
         self.has_failed = false;

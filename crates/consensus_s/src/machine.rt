@@ -58,7 +58,7 @@ impl Algorithm for SConsensus {
         if self.has_failed {
             return Err(AllocError);
         }
-        // stays so where the step answers an error
+        // it stays true where the step answers `Err`
         self.has_failed = true;
         self.exchange.step(&self.opening, input, suspects, out)?;
         self.has_failed = false;

@@ -201,7 +201,7 @@ impl Detector for FreshnessDetector {
         if self.has_failed {
             return Err(AllocError);
         }
-        // stays so where the step answers an error
+        // it stays true where the step answers `Err`
         self.has_failed = true;
         self.step(input, out)?;
         self.has_failed = false;

@@ -21,7 +21,7 @@ pub record FreshnessState : Type 0 where
 abbrev pub opening_freshness : FreshnessState
 opening_freshness = record { sent = 0; reached = 0; came = λ q i. false }
 
--- the next heartbeat or point: they are counted up to the greatest count, and stay there
+-- the next heartbeat or point: they are counted up to 1,000,000,000,000, and stay there
 abbrev pub next : ℕ → ℕ
 next i = min (i + 1) 1_000_000_000_000
 

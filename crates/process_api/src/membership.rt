@@ -36,7 +36,7 @@ impl Membership {
         ensures own { result.own ≡ own }
         ensures processes { result.processes ≡ processes }
     {
-        // a number is 1 at least, which the proof needs
+        // this call tells the proof that a number is 1 at least
         let _from_one = own.number();
         Membership { own, processes }
     }

@@ -7,7 +7,7 @@ use crate::pid::Pid;
 /// The most ticks that a delay, a period, a time-out or the lookahead may have.
 pub const MOST_TICKS: u32 = 1_000_000;
 
-/// The last tick that a horizon, a crash, an outage or a spell of a network may have.
+/// The last tick that a horizon, a crash or an outage may have.
 pub const LAST_TICK: u32 = 10_000_000;
 
 /// The greatest number of a heartbeat or of a freshness point: counting stays there.

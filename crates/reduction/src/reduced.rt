@@ -61,7 +61,7 @@ impl<D: Detector> Detector for Reduced<D> {
         if self.has_failed {
             return Err(AllocError);
         }
-        // stays so where a part answers an error
+        // it stays true where a part answers `Err`
         self.has_failed = true;
         self.detector.take(now, input, out)?;
         let suspects = self.detector.suspects();

@@ -53,7 +53,7 @@ impl<D: Detector, A: Algorithm> Process for Stack<D, A> {
         if self.has_failed {
             return Err(AllocError);
         }
-        // stays so where a part answers an error
+        // it stays true where a part answers `Err`
         self.has_failed = true;
         self.detector.take(now, input, out)?;
         let suspects = self.detector.suspects();

@@ -1,5 +1,5 @@
 -- One action more, where what was done so far and what the rest does is what all actions do.
-use Rattle.steps.proofs.Words.{slice_index_or, slice_set, [], length, ◌<◌, ◌≡◌, ◌≤◌, ◌+◌, ◌++◌, ◌∷◌, ℕ, List, sym, ap, subst, ◌∙◌, append_assoc, append-nil, arith, AllByRecursion, drop, Result, Ok, Err, OnOk, Action, HaveJoined, drop-set-lt, drop_more, Joined, joined_next, Setting, counted, sent_by, lost_by, noted_by, counts_after, sent, lost, noted}
+use Rattle.steps.proofs.Words.{slice_index_or, slice_set, [], length, ◌<◌, ◌≡◌, ◌≤◌, ◌+◌, ◌++◌, ◌∷◌, ℕ, List, sym, ap, subst, ◌∙◌, append_assoc, append-nil, arith, AllByRecursion, drop, Action, HaveJoined, drop-set-lt, drop_more, Joined, joined_next, Setting, counted, sent_by, lost_by, noted_by, counts_after, sent, lost, noted}
 use Rattle.process_api.specs.declared.action.Note.{Note}
 
 lost_by-le : {Mind : Type 0} (S : Setting Mind) (p now : ℕ) (f : ℕ → ℕ) (a : Action) → lost_by S p now f a ≤ 1
@@ -61,14 +61,6 @@ module _ (all rest : List Action) (none : rest ≡ []) where
 
     pub lost_all : {Mind : Type 0} (S : Setting Mind) (now old : ℕ) → old + lost S p now f rest ≡ lost S p now before all → old ≡ lost S p now before all
     lost_all S now old whole = omega (arith, whole, ap (λ xs. lost S p now f xs) none)
-
-pub on_ok_of : {T E P : Type 0} (r : Result T E) → P → OnOk r P
-on_ok_of (Ok x) p = p
-on_ok_of (Err e) p = tt
-
-pub on_ok_three : {T E P Q R S : Type 0} (r : Result T E) → (P → Q → R → S) → OnOk r P → OnOk r Q → OnOk r R → OnOk r S
-on_ok_three (Ok x) f p q s = f p q s
-on_ok_three (Err e) f p q s = p
 
 -- the rest of a list from a place where it is changed, and the rest after it
 pub drop_at : {X : Type 0} (xs : List X) (i : ℕ) (x v : X) → i < length xs → x ≡ slice_index_or xs i x → drop i xs ≡ x ∷ drop (i + 1) (slice_set xs i v)

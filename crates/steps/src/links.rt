@@ -22,13 +22,14 @@ pub struct Links {
     words: SenderWords,
 }
 
-/// What a step did.
+/// What a step did. An `Entry` is made from it once; until then it is this that is handed on, as it has no padding.
 #[derive(Drop)]
 pub struct Done {
-    // letters that it put on links, those to itself and lost ones too
+    // how many letters it put on links, those to itself and lost ones too
     sent: u32,
     // how many of these were lost
     lost: u32,
+    // what it noted, in order
     notes: Vec<Note>,
 }
 
@@ -102,7 +103,7 @@ impl Links {
         })
     }
 
-    /// What a step did that put nothing on any link yet, and noted nothing.
+    /// What was done before a step's first action: nothing.
     #[inline(always)]
     pub fn nothing_done(&self) -> Done
         ensures { result ≡ record { sent = 0; lost = 0; notes = [] } }
@@ -236,8 +237,8 @@ impl Links {
         added.add(Event::wake(key, tag))
     }
 
-    /// Does what one action of the step of `key` says; what is left in its place means nothing. What the step did
-    /// counts a letter that is put on a link, and one that is lost, and takes a note.
+    /// Does what one action of the step of `key` says; what is left in its place means nothing. `done`
+    /// counts each letter that is put on a link, and each that is lost, and takes each note.
     #[inline(always)]
     fn act<J: Joins, L: Listener>(
         &mut self,

@@ -1,10 +1,14 @@
 -- What a sweep leaves of an outlet.
 use Rattle.std.specs.{Prelude.{◌≡◌, ◌⊎◌, ◌<◌, ℕ, false, take, length, List, Option, None, Some, Contains, ◌==◌, not}, List.{AllZip, count_by, filter}}
-use Rattle.study.specs.{Sources.{SourcesRecord}, Grid.{GridRecord, runs, ShardRecord}, Placed.{sources_of_run}, Laid.{IsScenarioOf, IsRefusedFor, is_memory}, declared.error.ReadError.{ReadError}}
+use Rattle.study.specs.{Sources.{SourcesRecord, sources_of}, Grid.{GridRecord, runs, ShardRecord}, Placed.{sources_of_run}, Laid.{IsScenarioOf, IsRefusedFor, is_memory}, declared.error.ReadError.{ReadError}}
 use Rattle.{reporting.specs.Outlet.{Wrote, WrotePart, WroteNothing}, scenario_record.specs.Record.{Record}, trace_laws.specs.Taken.{HaveJoined}}
 use Rattle.sweep.specs.{Groups.{first_above}, Layout.{LayoutRecord, Text}, StudyText.{point_at, run_at, numbers_of, units_of, IsTextOf, IsStudyText, IsTrialOf}, Columns.{is_limited}, Results.{Trial}}
-use Rattle.sweep.specs.declared.{error.SweepError.{SweepError}, group.Group.{Group}}
+use Rattle.sweep.specs.declared.{error.SweepError.{SweepError}, group.Group.{Group}, swept_study.SweptStudy.{SweptStudy}}
 use Rattle.sweep.specs.declared.error.SweepError.TheVariants as error
+
+-- what a word says of the study that is swept
+abbrev pub of_swept : {X : Type 1} → SweptStudy → (SourcesRecord → GridRecord → ShardRecord → LayoutRecord → X) → X
+of_swept study word = word (sources_of study.sources.now) study.grid.now study.shard study.layout.now
 
 -- runs stand in the order of their points, and those of a point in their own
 abbrev pub IsBefore : (p r point run : ℕ) → Type 0

@@ -1,7 +1,7 @@
 //! Sweeps: all runs of a study's points, and the rows that tell of them.
 ghost use Rattle.std.specs.Prelude.{◌≡◌, ◌^◌, ◌-◌, ◌*◌, ◌<◌, ◌≤◌, false, length, [], OnErr, OnOk, IfErr};
 ghost use Rattle.study.specs.{Sources.{sources_of}, Grid.{points, runs}};
-ghost use Rattle.sweep.specs.{Outcome.{WroteStudy, BreaksOff, RefusesRun, HeardLimits, HeardSomeLimits as HeardSome}, Inside.Progress.{WrotePoints, StopsInPoints, numbers_in}, StudyText.{numbers_of}};
+ghost use Rattle.sweep.specs.{Outcome.{WroteStudy, BreaksOff, RefusesRun, HeardLimits, HeardSomeLimits, of_swept}, Inside.Progress.{WrotePoints, StopsInPoints, numbers_in}, StudyText.{numbers_of}};
 ghost use Rattle.trace_laws.specs.Taken.{HaveJoined};
 
 use crate::batches::Batches;
@@ -45,7 +45,7 @@ fn write_points<R: Threads + Sync + Clock, O: Outlet, W: Watcher>(
     ensures heard { OnOk result
         (HeardLimits W.heard watcher.old watcher.new (sources_of sources.now) grid.now (numbers_in swept)) }
     ensures heard_some { IfErr result
-        (λ _. HeardSome W.heard watcher.old watcher.new (sources_of sources.now) grid.now (numbers_in swept)) }
+        (λ _. HeardSomeLimits W.heard watcher.old watcher.new (sources_of sources.now) grid.now (numbers_in swept)) }
 {
     let alloc = batches.alloc;
     let (begin, end) = swept;
@@ -88,17 +88,15 @@ pub fn run_study<R: Threads + Sync + Clock, O: Outlet, W: Watcher>(
     watcher: &mut W,
 ) -> Result<(), SweepError>
     requires failures { O.failed outlet.old < 2 ^ 64 - 1 }
-    ensures done { OnOk result
-        (WroteStudy (sources_of study.now.sources.now) study.now.grid.now study.now.shard study.now.layout.now
-        O.told O.failed outlet.old outlet.new) }
-    ensures breaks_off { IfErr result
-        (BreaksOff (sources_of study.now.sources.now) study.now.grid.now study.now.shard study.now.layout.now
-        O.told O.failed outlet.old outlet.new) }
+    ensures done { OnOk result (of_swept study.now
+        (λ s g shard layout. WroteStudy s g shard layout O.told O.failed outlet.old outlet.new)) }
+    ensures breaks_off { IfErr result (of_swept study.now
+        (λ s g shard layout. BreaksOff s g shard layout O.told O.failed outlet.old outlet.new)) }
     ensures errors { IfErr result (λ e. RefusesRun e → ⊥) }
-    ensures heard { OnOk result (HeardLimits W.heard watcher.old watcher.new (sources_of study.now.sources.now)
-        study.now.grid.now (numbers_of study.now.grid.now study.now.shard)) }
-    ensures heard_some { OnErr result (HeardSome W.heard watcher.old watcher.new
-        (sources_of study.now.sources.now) study.now.grid.now (numbers_of study.now.grid.now study.now.shard)) }
+    ensures heard { OnOk result (of_swept study.now
+        (λ s g shard _. HeardLimits W.heard watcher.old watcher.new s g (numbers_of g shard))) }
+    ensures heard_some { OnErr result (of_swept study.now
+        (λ s g shard _. HeardSomeLimits W.heard watcher.old watcher.new s g (numbers_of g shard))) }
     ensures hidden { W.shows watcher.old ≡ false → W.shows watcher.new ≡ false }
 {
     let (sources, grid, layout) = (study.sources, study.grid, study.layout);
@@ -138,16 +136,14 @@ pub fn sweep<R: Threads + Sync + Clock, O: Outlet, W: Watcher>(
     watcher: &mut W,
 ) -> Result<(), SweepError>
     requires failures { O.failed outlet.old < 2 ^ 64 - 1 }
-    ensures done { OnOk result
-        (WroteStudy (sources_of study.now.sources.now) study.now.grid.now study.now.shard study.now.layout.now
-        O.told O.failed outlet.old outlet.new) }
-    ensures breaks_off { IfErr result
-        (BreaksOff (sources_of study.now.sources.now) study.now.grid.now study.now.shard study.now.layout.now
-        O.told O.failed outlet.old outlet.new) }
-    ensures heard { OnOk result (HeardLimits W.heard watcher.old watcher.new (sources_of study.now.sources.now)
-        study.now.grid.now (numbers_of study.now.grid.now study.now.shard)) }
-    ensures heard_some { OnErr result (HeardSome W.heard watcher.old watcher.new
-        (sources_of study.now.sources.now) study.now.grid.now (numbers_of study.now.grid.now study.now.shard)) }
+    ensures done { OnOk result (of_swept study.now
+        (λ s g shard layout. WroteStudy s g shard layout O.told O.failed outlet.old outlet.new)) }
+    ensures breaks_off { IfErr result (of_swept study.now
+        (λ s g shard layout. BreaksOff s g shard layout O.told O.failed outlet.old outlet.new)) }
+    ensures heard { OnOk result (of_swept study.now
+        (λ s g shard _. HeardLimits W.heard watcher.old watcher.new s g (numbers_of g shard))) }
+    ensures heard_some { OnErr result (of_swept study.now
+        (λ s g shard _. HeardSomeLimits W.heard watcher.old watcher.new s g (numbers_of g shard))) }
     ensures unheard { IfErr result (λ e. RefusesRun e → HaveJoined W.heard watcher.old watcher.new []) }
     ensures hidden { W.shows watcher.new ≡ false }
 {

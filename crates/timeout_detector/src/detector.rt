@@ -193,7 +193,7 @@ impl Detector for TimeoutDetector {
         if self.has_failed {
             return Err(AllocError);
         }
-        // stays so where the step answers an error
+        // it stays true where the step answers `Err`
         self.has_failed = true;
         self.step(now, input, out)?;
         self.has_failed = false;
